@@ -9,8 +9,10 @@ use Rattle.mad_term.specs.declared.events.Event.TheVariants.{Key, Mouse, Resize,
 use Rattle.mad_pager.specs.Screens.{IsOrderly}
 use Rattle.mad_search.specs.PagedTexts.{paged_lines}
 use Rattle.mad_pager.specs.Sessions.{State, HasSameText, IsEventStep, IsSettled, hears, hears_size, state_of}
+use Rattle.mad_pager.specs.declared.session.Overlay.{Overlay}
+use Rattle.mad_pager.specs.declared.session.Overlay.TheVariants as overlay
 use Rattle.mad_pager.specs.declared.session.Session.{Session}
-use Rattle.mad_pager.specs.Pagers.{Leaf, View, IsDoneOver, IsHelpSettled, IsHelpStart, IsHelpStepIf, IsHelped, IsLeafSettled, IsLeafStep, IsOpened, IsOrderlyHelp, IsOrderlyLeaf, IsOrderlyView, IsSameLeaf, IsStep, IsStepIn, IsTextStep, IsViewSettled, closes, hearing, leaf_of}
+use Rattle.mad_pager.specs.Pagers.{Leaf, View, IsCovered, IsDoneOver, IsHelpStart, IsLeafSettled, IsLeafStep, IsOpened, IsOrderlyLeaf, IsOrderlyOver, IsOrderlyView, IsOverSettled, IsOverStart, IsOverStepIf, IsSameLeaf, IsStep, IsStepIn, IsTextStep, IsViewSettled, closes, hearing, leaf_of}
 use Rattle.mad_pager.specs.declared.help.TheConstants.{HELP}
 use Rattle.mad_pager.proofs.OrderLemmas.{event_order, settled_order, start_order}
 
@@ -32,23 +34,21 @@ settled_leaf old new h settled = record { same = same_leaf old new h; settled = 
 pub stepped_leaf : (event : Event) (old new : Session) → HasSameText old new → IsEventStep old.text.skin.now (paged_lines old.source) event (state_of old) (state_of new) → IsLeafStep event (leaf_of old) (leaf_of new)
 stepped_leaf event old new h step = record { same = same_leaf old new h; step = step }
 
--- the help is closed, or not
-pub over_closed : (closing : Bool) (event : Event) (over below : Leaf) (new : View) → closing ≡ true → new.text ≡ below → new.help ≡ None → IsHelpStepIf closing event over below new
-over_closed true event over below new is text help = record { text = text; help = help }
-over_closed false event over below new is text help = absurd (cc)
+-- the page over the text is closed, or not
+pub over_closed : (closing : Bool) (event : Event) (over below : Leaf) (new : View) → closing ≡ true → new.text ≡ below → new.over ≡ None → IsOverStepIf closing event over below new
+over_closed true event over below new is text none = record { text = text; over = none }
+over_closed false event over below new is text none = absurd (cc)
 
-pub over_done : (closing : Bool) (event : Event) (over below after : Leaf) (new : View) → closing ≡ false → IsLeafStep event over after → new.help ≡ Some after → new.text ≡ hearing event below → IsHelpStepIf closing event over below new
-over_done true event over below after new is step help text = absurd (cc)
-over_done false event over below after new is step help text = record { after = after; step = step; help = help; text = text }
+pub over_done : (closing : Bool) (event : Event) (over below after : Leaf) (new : View) → closing ≡ false → IsLeafStep event over after → new.over ≡ Some after → new.text ≡ hearing event below → IsOverStepIf closing event over below new
+over_done true event over below after new is step some text = absurd (cc)
+over_done false event over below after new is step some text = record { after = after; step = step; over = some; text = text }
 
--- the help is opened, or not
-pub helped_so : (helps : Bool) (below start : Leaf) (help : Option Leaf) → helps ≡ true → IsHelpStart below start → help ≡ Some start → IsHelped helps below help
-helped_so true below start help is begun e = (start, begun, e)
-helped_so false below start help is begun e = absurd (cc)
+-- a page is opened over the text, or not
+pub covered_so : (opened : Option Overlay) (overlay : Overlay) (below start : Leaf) (over : Option Leaf) → opened ≡ Some overlay → IsOverStart overlay below start → over ≡ Some start → IsCovered opened below over
+covered_so opened overlay below start over is begun e = subst (λ (o : Option Overlay). IsCovered o below over) (sym is) (start, begun, e)
 
-pub helped_not : (helps : Bool) (below : Leaf) (help : Option Leaf) → helps ≡ false → help ≡ None → IsHelped helps below help
-helped_not true below help is none = absurd (cc)
-helped_not false below help is none = none
+pub covered_not : (opened : Option Overlay) (below : Leaf) (over : Option Leaf) → opened ≡ None → over ≡ None → IsCovered opened below over
+covered_not opened below over is none = subst (λ (o : Option Overlay). IsCovered o below over) (sym is) none
 
 -- ---- order
 
@@ -77,35 +77,38 @@ help_order below help start =
     let same : IsOrderly below.skin lines help.state = record { lines = begun.lines; field = record { area = begun.field.area; typed = begun.field.typed } } in
     subst (λ (d : MadSkin). IsOrderly d help.text help.state) (sym start.skin) (subst (λ (t : List LineContent). IsOrderly below.skin t help.state) (sym start.text) same)
 
-helped_order : (helps : Bool) (below : Leaf) (help : Option Leaf) → IsHelped helps below help → IsOrderlyHelp help
-helped_order false below help none = subst IsOrderlyHelp (sym none) tt
-helped_order true below help (start, is, e) = subst IsOrderlyHelp (sym e) (help_order below start is)
+over_start_order : (overlay : Overlay) (below over : Leaf) → IsOverStart overlay below over → IsOrderlyLeaf over
+over_start_order overlay.Help below over start = help_order below over start
 
-over_order : (closing : Bool) (event : Event) (help text : Leaf) (new : View) → IsHelpStepIf closing event help text new → IsOrderlyLeaf text → IsOrderlyLeaf help → IsOrderlyView new
-over_order true event help text new step h k = record { text = subst IsOrderlyLeaf (sym step.text) h; help = subst IsOrderlyHelp (sym step.help) tt }
-over_order false event help text new step h k = record {
+covered_order : (opened : Option Overlay) (below : Leaf) (over : Option Leaf) → IsCovered opened below over → IsOrderlyOver over
+covered_order None below over none = subst IsOrderlyOver (sym none) tt
+covered_order (Some overlay) below over (start, is, e) = subst IsOrderlyOver (sym e) (over_start_order overlay below start is)
+
+over_order : (closing : Bool) (event : Event) (over text : Leaf) (new : View) → IsOverStepIf closing event over text new → IsOrderlyLeaf text → IsOrderlyLeaf over → IsOrderlyView new
+over_order true event over text new step h k = record { text = subst IsOrderlyLeaf (sym step.text) h; over = subst IsOrderlyOver (sym step.over) tt }
+over_order false event over text new step h k = record {
   text = subst IsOrderlyLeaf (sym step.text) (hearing_order event text h);
-  help = subst IsOrderlyHelp (sym step.help) (leaf_order event help step.after step.step k);
+  over = subst IsOrderlyOver (sym step.over) (leaf_order event over step.after step.step k);
 }
 
-step_in_order : (help : Option Leaf) (event : Event) (text : Leaf) (new : View) → IsStepIn help event text new → IsOrderlyLeaf text → IsOrderlyHelp help → IsOrderlyView new
-step_in_order None event text new step h k = record { text = leaf_order event text new.text step.text h; help = helped_order _ new.text new.help step.help }
-step_in_order (Some help) event text new step h k = over_order (closes event help.state.is_typing) event help text new step h k
+step_in_order : (over : Option Leaf) (event : Event) (text : Leaf) (new : View) → IsStepIn over event text new → IsOrderlyLeaf text → IsOrderlyOver over → IsOrderlyView new
+step_in_order None event text new step h k = record { text = leaf_order event text new.text step.text h; over = covered_order _ new.text new.over step.over }
+step_in_order (Some over) event text new step h k = over_order (closes event over.state.is_typing) event over text new step h k
 
 -- an event leaves both so
 pub step_order : (event : Event) (old new : View) → IsStep event old new → IsOrderlyView old → IsOrderlyView new
-step_order event old new step h = step_in_order old.help event old.text new step h.text h.help
+step_order event old new step h = step_in_order old.over event old.text new step h.text h.over
 
 settled_leaf_order : (old new : Leaf) → IsLeafSettled old new → IsOrderlyLeaf old → IsOrderlyLeaf new
 settled_leaf_order old new h k = order_along old new h.same (settled_order old.skin old.text old.state new.state h.settled k)
 
-settled_help_order : (old new : Option Leaf) → IsHelpSettled old new → IsOrderlyHelp old → IsOrderlyHelp new
-settled_help_order None new e k = subst IsOrderlyHelp (sym e) tt
-settled_help_order (Some help) new (after, h, e) k = subst IsOrderlyHelp (sym e) (settled_leaf_order help after h k)
+settled_over_order : (old new : Option Leaf) → IsOverSettled old new → IsOrderlyOver old → IsOrderlyOver new
+settled_over_order None new e k = subst IsOrderlyOver (sym e) tt
+settled_over_order (Some over) new (after, h, e) k = subst IsOrderlyOver (sym e) (settled_leaf_order over after h k)
 
 -- so does another size
 pub view_settled_order : (old new : View) → IsViewSettled old new → IsOrderlyView old → IsOrderlyView new
-view_settled_order old new h k = record { text = settled_leaf_order old.text new.text h.text k.text; help = settled_help_order old.help new.help h.help k.help }
+view_settled_order old new h k = record { text = settled_leaf_order old.text new.text h.text k.text; over = settled_over_order old.over new.over h.over k.over }
 
 -- they are so from the start on
 pub opened_order : (skin : MadSkin) (name : List ℕ) (text : List LineContent) (columns rows : ℕ) (v : View) → IsOpened skin name text columns rows v → IsOrderlyView v
@@ -113,5 +116,5 @@ opened_order skin name text columns rows v h = record {
   text =
       subst (λ (d : MadSkin). IsOrderly d v.text.text v.text.state) (sym h.dress)
       (subst (λ (t : List LineContent). IsOrderly skin t v.text.state) (sym h.lines) (start_order skin text columns rows v.text.state h.start));
-  help = subst IsOrderlyHelp (sym h.help) tt;
+  over = subst IsOrderlyOver (sym h.over) tt;
 }

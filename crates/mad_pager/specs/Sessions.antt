@@ -26,8 +26,10 @@ use Rattle.mad_search.specs.Headers.{next_header, previous_header}
 use Rattle.mad_search.specs.KeptRows.{ArePartStarts, row_in_parts}
 use Rattle.mad_search.specs.Searches.{IsNextRow, IsPreviousRow}
 use Rattle.mad_pager.specs.declared.session.Session.{Session}
+use Rattle.mad_pager.specs.declared.session.Overlay.{Overlay}
+use Rattle.mad_pager.specs.declared.session.Overlay.TheVariants as overlay
 use Rattle.mad_pager.specs.declared.session.Turn.{Turn}
-use Rattle.mad_pager.specs.declared.session.Turn.TheVariants.{Goes, AsksSize, ShowsHelp, Ends}
+use Rattle.mad_pager.specs.declared.session.Turn.TheVariants.{Goes, AsksSize, Opens, Ends}
 use Rattle.mad_pager.specs.declared.sizes.ScreenSize.{ScreenSize}
 
 -- ---- what it is of
@@ -221,7 +223,7 @@ IsEventStep skin text event s new = new ≡ s
 abbrev pub turn_asked : Ask → Turn
 turn_asked Size = AsksSize
 turn_asked Quit = Ends
-turn_asked Help = ShowsHelp
+turn_asked Help = Opens overlay.Help
 turn_asked ask = Goes
 
 -- how it goes on after a key while something is being typed: Control with `c` ends it then too
@@ -247,7 +249,7 @@ abbrev pub asks_size : Turn → Bool
 asks_size AsksSize = true
 asks_size turn = false
 
--- whether the help is to be shown
-abbrev pub shows_help : Turn → Bool
-shows_help ShowsHelp = true
-shows_help turn = false
+-- the page that is to be opened over the text, if one is
+abbrev pub opens : Turn → Option Overlay
+opens (Opens overlay) = Some overlay
+opens turn = None

@@ -7,7 +7,7 @@
 //! 3. [`typing`], [`finding`]: what is sought, and the rows that have it.
 //! 4. [`places`]: where all is on the screen; [`status`]: its last row.
 //! 5. [`picture`]: bytes that are drawn in memory; [`drawing`]: the whole screen.
-//! 6. [`help`]: the page of help; [`pager`]: a text, and the help over it while that is open.
+//! 6. [`help`]: the page of help; [`pager`]: a text, and a page over it while one is open.
 #![tactic(auto)]
 
 mod drawing;
@@ -22,5 +22,5 @@ mod status;
 mod typing;
 
 pub use pager::Pager;
-pub use session::{Session, Turn};
+pub use session::{Overlay, Session, Turn};
 pub use sizes::ScreenSize;

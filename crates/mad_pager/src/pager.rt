@@ -1,25 +1,25 @@
-//! A pager: a text, and the page of help over it while that is open.
+//! A pager: a text, and a page over it while one is open.
 
 ghost use Rattle.std.specs.Prelude.{◌≡◌, IfOk, OnOk, MatchResult, None, option_map};
 ghost use Rattle.mad_search.specs.PagedTexts.{paged_lines};
 ghost use Rattle.mad_pager.specs.Sessions.{state_of, turn_of};
-ghost use Rattle.mad_pager.specs.Pagers.{closes, closes_help, leaf_of, turn_in, turn_over, view_of, IsHelpSettled, IsHelpStart, IsHelpStep, IsOpened, IsStep, IsTextStep, IsViewSettled, IsViewShown, IsViewUnshown};
+ghost use Rattle.mad_pager.specs.Pagers.{closes, closes_over, leaf_of, turn_in, turn_over, view_of, IsOpened, IsOverSettled, IsOverStart, IsOverStep, IsStep, IsTextStep, IsViewSettled, IsViewShown, IsViewUnshown};
 
 use crate::help::{HELP, HELP_NAME};
-use crate::session::{Session, Turn};
+use crate::session::{Overlay, Session, Turn};
 use mad_layout::MadSkin;
 use mad_page::{Ask, Command, command_of, is_break};
 use mad_search::PagedText;
 use mad_term::{Error, Event, KeyEvent, Out};
 use std::alloc::{AllocError, Global};
 
-/// A text, and the page of help over it while that is open.
+/// A text, and a page over it while one is open.
 #[derive(Drop)]
 pub struct Pager<'s> {
     /// The text.
     pub text: Session<'s>,
-    /// The help, while it is open.
-    pub help: Option<Session<'s>>,
+    /// The page over it, while one is open.
+    pub over: Option<Session<'s>>,
 }
 
 impl<'s> Pager<'s> {
@@ -39,20 +39,20 @@ impl<'s> Pager<'s> {
         ensures { IfOk result (λ p. IsOpened skin.now name.now (paged_lines source.entry) columns rows (view_of p)) }
     {
         let text = Session::new(alloc, name, source, skin, columns, rows)?;
-        Ok(Pager { text, help: None })
+        Ok(Pager { text, over: None })
     }
 
-    /// Does what an event says: on the help, while it is open, and else on the text.
+    /// Does what an event says: on the page over the text, while one is open, and else on the text.
     ///
     /// # Errors
     ///
-    /// Out of memory is the only error.
+    /// Out of memory is the only error. Then no page is open over the text.
     pub fn apply(&mut self, alloc: Global, event: Event) -> Result<Turn, AllocError>
         ensures step { OnOk result (IsStep event (view_of self.old) (view_of self.new)) }
         ensures turn { IfOk result (λ turn. turn ≡ turn_in event (view_of self.old)) }
     {
-        match self.help.take() {
-            Some(help) => self.apply_over(alloc, help, event),
+        match self.over.take() {
+            Some(over) => self.apply_over(alloc, over, event),
             None => self.apply_to_text(alloc, event),
         }
     }
@@ -66,11 +66,12 @@ impl<'s> Pager<'s> {
         ensures { OnOk result (IsViewSettled (view_of self.old) (view_of self.new)) }
     {
         self.text.settle(alloc)?;
-        self.settle_help(alloc)?;
+        self.settle_over(alloc)?;
         Ok(())
     }
 
-    /// Puts the whole screen in one put, as [`Session::show`] does: that of the help, while it is open, and else that of the text.
+    /// Puts the whole screen in one put, as [`Session::show`] does: that of the page over the text, while one is open, and else that of the
+    /// text.
     ///
     /// # Errors
     ///
@@ -79,45 +80,55 @@ impl<'s> Pager<'s> {
         ensures { MatchResult result (λ _. IsViewShown asks (view_of self.now) (O.seen out.old) (O.seen out.new))
             (λ e. IsViewUnshown asks (view_of self.now) (O.seen out.old) e (O.seen out.new)) }
     {
-        match &self.help {
-            Some(help) => help.show(alloc, out, asks),
+        match &self.over {
+            Some(over) => over.show(alloc, out, asks),
             None => self.text.show(alloc, out, asks),
         }
     }
 
-    // Does what an event says on the text, and opens the help where it asks for that.
+    // Does what an event says on the text, and opens a page over it where it asks for one.
     fn apply_to_text(&mut self, alloc: Global, event: Event) -> Result<Turn, AllocError>
-        requires { self.now.help ≡ None }
+        requires { self.now.over ≡ None }
         ensures step { OnOk result (IsTextStep event (leaf_of self.old.text) (view_of self.new)) }
         ensures turn { IfOk result (λ turn. turn ≡ turn_of event (state_of self.old.text)) }
     {
         let turn = self.text.apply(alloc, event)?;
-        let helps = turn.shows_help();
-        if helps {
-            let help = self.help_page(alloc)?;
-            self.help = Some(help);
-            return Ok(turn);
+        match turn.opens() {
+            Some(overlay) => {
+                let over = self.page_over(alloc, overlay)?;
+                self.over = Some(over);
+                Ok(turn)
+            }
+            None => Ok(turn),
         }
-        Ok(turn)
     }
 
-    // Lays the help out for the size that was told, where it is open.
-    fn settle_help(&mut self, alloc: Global) -> Result<(), AllocError>
-        ensures help { OnOk result (IsHelpSettled (option_map leaf_of self.old.help) (option_map leaf_of self.new.help)) }
+    // Lays the page over the text out for the size that was told, where one is open.
+    fn settle_over(&mut self, alloc: Global) -> Result<(), AllocError>
+        ensures over { OnOk result (IsOverSettled (option_map leaf_of self.old.over) (option_map leaf_of self.new.over)) }
         ensures text { OnOk result (leaf_of self.new.text ≡ leaf_of self.old.text) }
     {
-        match &mut self.help {
-            Some(help) => {
-                help.settle(alloc)?;
+        match &mut self.over {
+            Some(over) => {
+                over.settle(alloc)?;
                 Ok(())
             }
             None => Ok(()),
         }
     }
 
+    // The start of a page over the text, on the screen that the text has.
+    fn page_over(&self, alloc: Global, overlay: Overlay) -> Result<Session<'s>, AllocError>
+        ensures { IfOk result (λ over. IsOverStart overlay (leaf_of self.now.text) (leaf_of over)) }
+    {
+        match overlay {
+            Overlay::Help => self.help(alloc),
+        }
+    }
+
     // The start of the help, on the screen that the text has.
-    fn help_page(&self, alloc: Global) -> Result<Session<'s>, AllocError>
-        ensures { IfOk result (λ help. IsHelpStart (leaf_of self.now.text) (leaf_of help)) }
+    fn help(&self, alloc: Global) -> Result<Session<'s>, AllocError>
+        ensures { IfOk result (λ help. IsOverStart Overlay.Help (leaf_of self.now.text) (leaf_of help)) }
     {
         let page = self.text.page;
         let skin = self.text.text.skin;
@@ -133,42 +144,42 @@ impl<'s> Pager<'s> {
         Ok(help)
     }
 
-    // Does what an event says on the help that was open, unless it closes that. The text hears a size too.
+    // Does what an event says on the page that was open over the text, unless it closes that. The text hears a size too.
     fn apply_over(
         &mut self,
         alloc: Global,
-        help: Session<'s>,
+        over: Session<'s>,
         event: Event,
     ) -> Result<Turn, AllocError>
-        requires { self.now.help ≡ None }
-        ensures step { OnOk result (IsHelpStep event (leaf_of help.entry) (leaf_of self.old.text) (view_of self.new)) }
-        ensures turn { IfOk result (λ turn. turn ≡ turn_over event (state_of help.entry)) }
+        requires { self.now.over ≡ None }
+        ensures step { OnOk result (IsOverStep event (leaf_of over.entry) (leaf_of self.old.text) (view_of self.new)) }
+        ensures turn { IfOk result (λ turn. turn ≡ turn_over event (state_of over.entry)) }
     {
-        let closes = is_closing(event, help.is_typing);
+        let closes = is_closing(event, over.is_typing);
         if closes {
             return Ok(Turn::Goes);
         }
-        let mut help = help;
+        let mut over = over;
         self.text.hear(event);
-        let turn = help.apply(alloc, event)?;
-        self.help = Some(help);
+        let turn = over.apply(alloc, event)?;
+        self.over = Some(over);
         Ok(turn)
     }
 }
 
-// Whether an event closes the help, while something is being typed there, or not.
+// Whether an event closes the page over a text, while something is being typed there, or not.
 fn is_closing(event: Event, is_typing: bool) -> bool
     ensures { result ≡ closes event is_typing }
 {
     match event {
-        Event::Key(key) => !is_typing && closes_help(key),
+        Event::Key(key) => !is_typing && closes_over(key),
         _ => false,
     }
 }
 
-// Whether a key closes the help: `q`, Esc, `?` or `h`.
-fn closes_help(key: KeyEvent) -> bool
-    ensures { result ≡ closes_help key }
+// Whether a key closes the page over a text: `q`, Esc, `?` or `h`.
+fn closes_over(key: KeyEvent) -> bool
+    ensures { result ≡ closes_over key }
 {
     if is_break(key) {
         return false;

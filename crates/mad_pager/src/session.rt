@@ -3,7 +3,7 @@
 ghost use Rattle.std.specs.Prelude.{◌≡◌, IfOk, OnOk};
 ghost use Rattle.mad_page.specs.PageKeys.{after_key};
 ghost use Rattle.mad_search.specs.PagedTexts.{paged_lines};
-ghost use Rattle.mad_pager.specs.Sessions.{asks_size, ends, shows_help, state_of, turn_of, turn_of_key, turn_asked, turn_typed, HasSameText, IsAsked, IsAnyKeyStep, IsKeyStep, IsEventStep, IsStart};
+ghost use Rattle.mad_pager.specs.Sessions.{asks_size, ends, opens, state_of, turn_of, turn_of_key, turn_asked, turn_typed, HasSameText, IsAsked, IsAnyKeyStep, IsKeyStep, IsEventStep, IsStart};
 
 use crate::places::field_row;
 use crate::sizes::{ScreenSize, height_of, lay};
@@ -14,6 +14,13 @@ use mad_search::PagedText;
 use mad_term::{Event, KeyEvent};
 use std::alloc::{AllocError, Global};
 
+/// A page over a text.
+#[derive(Clone, Copy, Debug, PartialEq, Eq)]
+pub enum Overlay {
+    /// What keys do.
+    Help,
+}
+
 /// How a session goes on after an event.
 #[derive(Clone, Copy, Debug, PartialEq, Eq)]
 pub enum Turn {
@@ -21,8 +28,8 @@ pub enum Turn {
     Goes,
     /// It goes on, and the terminal is to be asked for its size.
     AsksSize,
-    /// It goes on, and the help is to be shown.
-    ShowsHelp,
+    /// It goes on, and a page is to be opened over the text.
+    Opens(Overlay),
     /// It ends.
     Ends,
 }
@@ -42,11 +49,14 @@ impl Turn {
         matches!(self, Turn::AsksSize)
     }
 
-    /// Whether the help is to be shown.
-    pub fn shows_help(self) -> bool
-        ensures { result ≡ shows_help self }
+    /// The page that is to be opened over the text, if one is.
+    pub fn opens(self) -> Option<Overlay>
+        ensures { result ≡ opens self }
     {
-        matches!(self, Turn::ShowsHelp)
+        match self {
+            Turn::Opens(overlay) => Some(overlay),
+            _ => None,
+        }
     }
 }
 
@@ -214,7 +224,7 @@ fn turn_asked(ask: Ask) -> Turn
     match ask {
         Ask::Size => Turn::AsksSize,
         Ask::Quit => Turn::Ends,
-        Ask::Help => Turn::ShowsHelp,
+        Ask::Help => Turn::Opens(Overlay::Help),
         _ => Turn::Goes,
     }
 }

@@ -9,7 +9,7 @@ use Rattle.mad_keys.specs.Keys.{escape_key}
 use Rattle.mad_pager.specs.Pagers.{Leaf, View, IsStep, turn_at, turn_in}
 use Rattle.mad_pager.specs.Sessions.{asks_size, ends}
 use Rattle.mad_pager.specs.declared.session.Turn.{Turn}
-use Rattle.mad_pager.specs.declared.session.Turn.TheVariants.{Goes, AsksSize, ShowsHelp, Ends}
+use Rattle.mad_pager.specs.declared.session.Turn.TheVariants.{Goes, AsksSize, Opens, Ends}
 use Rattle.termimad_page_run.specs.Blocks.{IsToldStep, IsToldDone, turn_told, IsSession, AreEventsDone, IsEndedIn}
 
 -- ---- how a session goes on
@@ -18,7 +18,7 @@ pub ends_is : (turn : Turn) → ends turn ≡ true → turn ≡ Ends
 ends_is Ends h = refl
 ends_is Goes h = absurd (cc)
 ends_is AsksSize h = absurd (cc)
-ends_is ShowsHelp h = absurd (cc)
+ends_is (Opens overlay) h = absurd (cc)
 
 pub goes_on : (turn : Turn) → ends turn ≡ false → turn ≢ Ends
 goes_on turn h e = let f : ends Ends ≡ false = subst (λ (t : Turn). ends t ≡ false) e h in absurd (cc)
@@ -103,18 +103,18 @@ typing_goes : (typing : Bool) → (if typing then Goes else Goes) ≡ Goes
 typing_goes true = refl
 typing_goes false = refl
 
--- nor does it on the help
+-- nor does it on a page over the text
 over_goes : (typing : Bool) → (if not typing then Goes else (if typing then Goes else Goes)) ≡ Goes
 over_goes true = refl
 over_goes false = refl
 
-escape_goes : (help : Option Leaf) (text : Leaf) → turn_at help (Key escape_key) text ≡ Goes
+escape_goes : (over : Option Leaf) (text : Leaf) → turn_at over (Key escape_key) text ≡ Goes
 escape_goes None text = typing_goes text.state.is_typing
 escape_goes (Some over) text = over_goes over.state.is_typing
 
 pub pause_goes : (w : List ℕ) (s : View) → turn_told (lone_escape w) s ≡ Goes
 pause_goes [] s = refl
-pause_goes (a ∷ []) s = elim (a == 27) as (λ b. turn_told (if b then Some (Key escape_key) else None) s ≡ Goes) [ true ↦ escape_goes s.help s.text | false ↦ refl ]
+pause_goes (a ∷ []) s = elim (a == 27) as (λ b. turn_told (if b then Some (Key escape_key) else None) s ≡ Goes) [ true ↦ escape_goes s.over s.text | false ↦ refl ]
 pause_goes (a ∷ b ∷ w) s = refl
 
 -- an event ends the session

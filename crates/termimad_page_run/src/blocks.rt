@@ -80,11 +80,7 @@ fn apply_pause(alloc: Global, pager: &mut Pager, keys: &mut Keys) -> Result<(), 
 }
 
 // Does what an event says, if one was told.
-fn apply_told(
-    alloc: Global,
-    pager: &mut Pager,
-    event: Option<Event>,
-) -> Result<Turn, AllocError>
+fn apply_told(alloc: Global, pager: &mut Pager, event: Option<Event>) -> Result<Turn, AllocError>
     ensures step { OnOk result (IsToldStep event (view_of pager.old) (view_of pager.new)) }
     ensures turn { IfOk result (λ turn. turn ≡ turn_told event (view_of pager.old)) }
 {
