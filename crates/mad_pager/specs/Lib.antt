@@ -2,3 +2,4 @@ pub mod Pagers
 pub mod Pictures
 pub mod Screens
 pub mod Sessions
+pub mod Sources

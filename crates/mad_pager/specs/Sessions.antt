@@ -20,7 +20,7 @@ use Rattle.mad_rows.specs.RowStyles.{line_rules}
 use Rattle.mad_page.specs.PageKeys.{after_key, after_mouse, is_break}
 use Rattle.mad_page.specs.Pages.{in_sight, shows_row}
 use Rattle.mad_page.specs.declared.commands.Ask.{Ask}
-use Rattle.mad_page.specs.declared.commands.Ask.TheVariants.{Search, Next, Previous, NextHeader, PreviousHeader, Forget, Help, Size, Quit}
+use Rattle.mad_page.specs.declared.commands.Ask.TheVariants.{Search, Next, Previous, NextHeader, PreviousHeader, Forget, Help, Links, Contents, Size, Quit}
 use Rattle.mad_page.specs.declared.page.Page.{Page}
 use Rattle.mad_search.specs.Headers.{next_header, previous_header}
 use Rattle.mad_search.specs.KeptRows.{ArePartStarts, row_in_parts}
@@ -224,6 +224,8 @@ abbrev pub turn_asked : Ask → Turn
 turn_asked Size = AsksSize
 turn_asked Quit = Ends
 turn_asked Help = Opens overlay.Help
+turn_asked Links = Opens overlay.Links
+turn_asked Contents = Opens overlay.Contents
 turn_asked ask = Goes
 
 -- how it goes on after a key while something is being typed: Control with `c` ends it then too

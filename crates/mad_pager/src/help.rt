@@ -19,9 +19,11 @@ These close this page: **q**, **Esc**, **?** and **h**.
 |g, Home; G, End|the start; the end|
 |a number|before j or k: so many rows; before g: that row|
 |}, ]; {, [|the next header; the one before|
+|t|the contents: j and k choose a header, Enter goes there|
 |/|asks for a text: Enter seeks it, Esc gives it up|
 |n, N|the next row that has it; the one before|
 |Esc|forgets it|
+|l|the addresses of the links on the screen|
 |?, h|this page|
 |Control-L|draws anew|
 |Control-Z|stops; fg brings it back|
@@ -30,5 +32,5 @@ These close this page: **q**, **Esc**, **?** and **h**.
 |the scroll bar|can be clicked, and dragged|
 |-
 
-To select text with the mouse, hold **Shift**.
+To select text with the mouse, as an address, hold **Shift**.
 ";

@@ -1,16 +1,19 @@
 //! A pager: a text, and a page over it while one is open.
 
 ghost use Rattle.std.specs.Prelude.{◌≡◌, IfOk, OnOk, MatchResult, None, option_map};
-ghost use Rattle.mad_search.specs.PagedTexts.{paged_lines};
+ghost use Rattle.mad_pager.specs.Pagers.{leaf_of, turn_in, turn_over, view_of, IsDoneOver, IsOpened, IsOverSettled, IsOverStart, IsOverStep, IsPageStart, IsStep, IsTextStep, IsViewSettled, IsViewShown, IsViewUnshown};
 ghost use Rattle.mad_pager.specs.Sessions.{state_of, turn_of};
-ghost use Rattle.mad_pager.specs.Pagers.{closes, closes_over, leaf_of, turn_in, turn_over, view_of, IsOpened, IsOverSettled, IsOverStart, IsOverStep, IsStep, IsTextStep, IsViewSettled, IsViewShown, IsViewUnshown};
+ghost use Rattle.mad_pager.specs.Sources.{content_of, text_said};
 
+use crate::contents::CONTENTS_NAME;
 use crate::help::{HELP, HELP_NAME};
+use crate::links::LINKS_NAME;
+use crate::over::Answer;
 use crate::session::{Overlay, Session, Turn};
+use crate::sources::Source;
 use mad_layout::MadSkin;
-use mad_page::{Ask, Command, command_of, is_break};
 use mad_search::PagedText;
-use mad_term::{Error, Event, KeyEvent, Out};
+use mad_term::{Error, Event, Out};
 use std::alloc::{AllocError, Global};
 
 /// A text, and a page over it while one is open.
@@ -31,14 +34,14 @@ impl<'s> Pager<'s> {
     pub fn new(
         alloc: Global,
         name: &'s str,
-        source: PagedText<'s>,
+        text: PagedText<'s>,
         skin: &'s MadSkin,
         columns: u16,
         rows: u16,
     ) -> Result<Self, AllocError>
-        ensures { IfOk result (λ p. IsOpened skin.now name.now (paged_lines source.entry) columns rows (view_of p)) }
+        ensures { IfOk result (λ p. IsOpened skin.now name.now (text_said text.entry) columns rows (view_of p)) }
     {
-        let text = Session::new(alloc, name, source, skin, columns, rows)?;
+        let text = Session::new(alloc, name, Source::Text(text), skin, columns, rows)?;
         Ok(Pager { text, over: None })
     }
 
@@ -57,7 +60,8 @@ impl<'s> Pager<'s> {
         }
     }
 
-    /// Lays all out for the size that the terminal told last, if it told one. What was on top stays there.
+    /// Lays all out for the size that the terminal told last, if it told one. What was on top stays there. A header that is chosen on the
+    /// page over the text comes on the screen.
     ///
     /// # Errors
     ///
@@ -111,6 +115,7 @@ impl<'s> Pager<'s> {
         match &mut self.over {
             Some(over) => {
                 over.settle(alloc)?;
+                over.show_choice();
                 Ok(())
             }
             None => Ok(()),
@@ -122,29 +127,35 @@ impl<'s> Pager<'s> {
         ensures { IfOk result (λ over. IsOverStart overlay (leaf_of self.now.text) (leaf_of over)) }
     {
         match overlay {
-            Overlay::Help => self.help(alloc),
+            Overlay::Help => self.page_of(alloc, HELP_NAME, Source::Text(PagedText::Lines(HELP))),
+            Overlay::Links => {
+                let source = self.text.links(alloc)?;
+                self.page_of(alloc, LINKS_NAME, source)
+            }
+            Overlay::Contents => {
+                let source = self.text.headers(alloc)?;
+                self.page_of(alloc, CONTENTS_NAME, source)
+            }
         }
     }
 
-    // The start of the help, on the screen that the text has.
-    fn help(&self, alloc: Global) -> Result<Session<'s>, AllocError>
-        ensures { IfOk result (λ help. IsOverStart Overlay.Help (leaf_of self.now.text) (leaf_of help)) }
+    // The start of a page that shows this, on the screen that the text has.
+    fn page_of(
+        &self,
+        alloc: Global,
+        name: &'s str,
+        source: Source<'s>,
+    ) -> Result<Session<'s>, AllocError>
+        ensures { IfOk result (λ over. IsPageStart name.now (content_of source.entry) (leaf_of self.now.text) (leaf_of over)) }
     {
         let page = self.text.page;
         let skin = self.text.text.skin;
-        let mut help = Session::new(
-            alloc,
-            HELP_NAME,
-            PagedText::Lines(HELP),
-            skin,
-            page.columns,
-            page.rows,
-        )?;
-        help.told = self.text.told;
-        Ok(help)
+        let mut over = Session::new(alloc, name, source, skin, page.columns, page.rows)?;
+        over.told = self.text.told;
+        Ok(over)
     }
 
-    // Does what an event says on the page that was open over the text, unless it closes that. The text hears a size too.
+    // Does what an event says while this page was open over the text.
     fn apply_over(
         &mut self,
         alloc: Global,
@@ -153,39 +164,39 @@ impl<'s> Pager<'s> {
     ) -> Result<Turn, AllocError>
         requires { self.now.over ≡ None }
         ensures step { OnOk result (IsOverStep event (leaf_of over.entry) (leaf_of self.old.text) (view_of self.new)) }
-        ensures turn { IfOk result (λ turn. turn ≡ turn_over event (state_of over.entry)) }
+        ensures turn { IfOk result (λ turn. turn ≡ turn_over event (leaf_of over.entry)) }
     {
-        let closes = is_closing(event, over.is_typing);
-        if closes {
-            return Ok(Turn::Goes);
+        match over.over_answer(event) {
+            Answer::Closes => Ok(Turn::Goes),
+            Answer::Takes => {
+                self.text.take_choice(alloc, over.source)?;
+                Ok(Turn::Goes)
+            }
+            Answer::Chooses(key) => {
+                let mut over = over;
+                over.choose(alloc, key)?;
+                self.over = Some(over);
+                Ok(Turn::Goes)
+            }
+            Answer::Passes => self.pass_over(alloc, over, event),
         }
+    }
+
+    // Does what an event says on this page, as on any text. The text below hears a size too.
+    fn pass_over(
+        &mut self,
+        alloc: Global,
+        over: Session<'s>,
+        event: Event,
+    ) -> Result<Turn, AllocError>
+        requires { self.now.over ≡ None }
+        ensures step { OnOk result (IsDoneOver event (leaf_of over.entry) (leaf_of self.old.text) (view_of self.new)) }
+        ensures turn { IfOk result (λ turn. turn ≡ turn_of event (state_of over.entry)) }
+    {
         let mut over = over;
         self.text.hear(event);
         let turn = over.apply(alloc, event)?;
         self.over = Some(over);
         Ok(turn)
-    }
-}
-
-// Whether an event closes the page over a text, while something is being typed there, or not.
-fn is_closing(event: Event, is_typing: bool) -> bool
-    ensures { result ≡ closes event is_typing }
-{
-    match event {
-        Event::Key(key) => !is_typing && closes_over(key),
-        _ => false,
-    }
-}
-
-// Whether a key closes the page over a text: `q`, Esc, `?` or `h`.
-fn closes_over(key: KeyEvent) -> bool
-    ensures { result ≡ closes_over key }
-{
-    if is_break(key) {
-        return false;
-    }
-    match command_of(key) {
-        Command::Asks(Ask::Quit | Ask::Forget | Ask::Help) => true,
-        _ => false,
     }
 }

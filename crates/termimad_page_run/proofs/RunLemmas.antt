@@ -9,15 +9,16 @@ use Rattle.mad_term.specs.Trace.{Trace, ahead_all, Filled}
 use Rattle.mad_term.specs.declared.errors.Error.{Error}
 use Rattle.mad_term.specs.declared.events.Event.{Event}
 use Rattle.mad_md.specs.Lines.{LineContent}
-use Rattle.mad_search.specs.PagedTexts.{paged_lines}
-use Rattle.mad_search.specs.declared.paged.PagedText.{PagedText}
+use Rattle.markdown_reader.specs.MarkdownSays.{LinkSaid}
+use Rattle.mad_pager.specs.Sources.{TextSaid}
 use Rattle.mad_pager.proofs.PagerOrder.{opened_order, step_order, view_settled_order}
 use Rattle.mad_pager.specs.Pagers.{View, IsOpened, IsOrderlyView, IsViewShown, view_of}
 use Rattle.mad_pager.specs.declared.pager.Pager.{Pager}
 use Rattle.termimad_page_run.specs.Blocks.{IsBlockDone, IsSession}
-use Rattle.termimad_page_run.specs.Runs.{AreTurns, EndsAtInput, IsBrokenOff, IsBrokenRun, IsPaged, IsTurn, IsTurned, Moment, block_room, lines_in, moment, name_row, row_char, sheet_lines, shown_text}
-use Rattle.markdown_reader.specs.Markdown.{markdown_lines}
+use Rattle.termimad_page_run.specs.Runs.{AreTurns, EndsAtInput, IsBrokenOff, IsBrokenRun, IsPaged, IsTurn, IsTurned, Moment, block_room, moment, name_row, printed_text, row_char, said_in, sheet_said, shown_text}
+use Rattle.markdown_reader.specs.Markdown.{markdown_lines, markdown_links}
 use Rattle.mad_md.specs.Reading.{unread_text}
+use Rattle.mad_steady.specs.Steady.{steady_text}
 use Rattle.mad_md.specs.Scan.{lines_of}
 use Rattle.termimad_page_run.specs.declared.program.Grammar.{Grammar}
 use Rattle.termimad_page_run.specs.declared.program.Grammar.TheVariants.{Lines, Markdown}
@@ -103,24 +104,31 @@ broken_exit v old_input new_input old_out new_out r e is h =
     let q = err_from_is_err_and r is in
     subst (λ (t : Result Unit Error). MatchResult t (λ _. IsTurned v old_input new_input old_out new_out) (λ d. IsBrokenOff v d old_input new_input old_out new_out)) (sym (q.1 ∙ ap Err q.2)) h
 
--- the lines of a text that is shown as it is printable
-pub lines_said : (grammar : Grammar) (text shown : List ℕ) → grammar ≡ Lines → shown ≡ shown_text text → lines_of (unread_text false shown) ≡ lines_in grammar text
-lines_said grammar text shown is e = ap (λ (t : List ℕ). lines_of (unread_text false t)) e ∙ ap (λ (g : Grammar). lines_in g text) (sym is)
+-- a text that is shown: it is made steady of what is printable of it
+pub shown_by : (text printed shown : List ℕ) → printed ≡ printed_text text → shown ≡ encode_utf8_all (steady_text (chars printed)) → shown ≡ shown_text text
+shown_by text printed shown e is = is ∙ ap (λ (t : List ℕ). encode_utf8_all (steady_text (chars t))) e
 
--- those of Markdown that was read
-pub markdown_said : (grammar : Grammar) (text : List ℕ) (said : List LineContent) → grammar ≡ Markdown → said ≡ markdown_lines text → said ≡ lines_in grammar text
-markdown_said grammar text said is e = e ∙ ap (λ (g : Grammar). lines_in g text) (sym is)
+-- what a text says that is shown so
+pub lines_said : (grammar : Grammar) (text shown : List ℕ) → grammar ≡ Lines → shown ≡ shown_text text → record { lines = lines_of (unread_text false shown); links = None } ≡ said_in grammar text
+lines_said grammar text shown is e =
+    ap (λ (t : List ℕ). let s : TextSaid = record { lines = lines_of (unread_text false t); links = None } in s) e ∙ ap (λ (g : Grammar). said_in g text) (sym is)
+
+-- what Markdown says that was read
+pub markdown_said : (grammar : Grammar) (text : List ℕ) (said : List LineContent) (links : List LinkSaid) → grammar ≡ Markdown → said ≡ markdown_lines text → links ≡ markdown_links text → record { lines = said; links = Some links } ≡ said_in grammar text
+markdown_said grammar text said links is e f =
+    ap (λ (l : List LineContent). let s : TextSaid = record { lines = l; links = Some links } in s) e
+    ∙ (ap (λ (l : List LinkSaid). let s : TextSaid = record { lines = markdown_lines text; links = Some l } in s) f ∙ ap (λ (g : Grammar). said_in g text) (sym is))
 
 -- what was opened, along what is equal
-pub opened_along : (sheet : Sheet) (v : View) (name : List ℕ) (text : List LineContent) → name ≡ name_row sheet.name.now → text ≡ sheet_lines sheet → IsOpened sheet.skin.now name text sheet.columns sheet.rows v
-    → IsOpened sheet.skin.now (name_row sheet.name.now) (sheet_lines sheet) sheet.columns sheet.rows v
+pub opened_along : (sheet : Sheet) (v : View) (name : List ℕ) (text : TextSaid) → name ≡ name_row sheet.name.now → text ≡ sheet_said sheet → IsOpened sheet.skin.now name text sheet.columns sheet.rows v
+    → IsOpened sheet.skin.now (name_row sheet.name.now) (sheet_said sheet) sheet.columns sheet.rows v
 opened_along sheet v name text row said h =
-    subst (λ (t : List LineContent). IsOpened sheet.skin.now (name_row sheet.name.now) t sheet.columns sheet.rows v) said
+    subst (λ (t : TextSaid). IsOpened sheet.skin.now (name_row sheet.name.now) t sheet.columns sheet.rows v) said
     (subst (λ (n : List ℕ). IsOpened sheet.skin.now n text sheet.columns sheet.rows v) row h)
 
 -- a run from the start of a sheet's text
 pub sheet_paged : (sheet : Sheet) (v : View) (r : Result Unit Error) (old_input new_input old_out new_out : Trace)
-    → IsOpened sheet.skin.now (name_row sheet.name.now) (sheet_lines sheet) sheet.columns sheet.rows v
+    → IsOpened sheet.skin.now (name_row sheet.name.now) (sheet_said sheet) sheet.columns sheet.rows v
     → MatchResult r (λ _. IsTurned v old_input new_input old_out new_out) (λ e. IsBrokenOff v e old_input new_input old_out new_out)
     → MatchResult r (λ _. IsPaged sheet old_input new_input old_out new_out) (λ e. IsBrokenRun sheet e old_input new_input old_out new_out)
 sheet_paged sheet v (Ok _) old_input new_input old_out new_out start h = record { start = v; is = start; turned = h }

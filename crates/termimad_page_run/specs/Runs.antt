@@ -1,14 +1,15 @@
 -- A run of the pager: which blocks of keys are read, what is done of them, and what goes out.
-use Rattle.std.specs.Prelude.{◌≡◌, ◌⊎◌, ℕ, ◌-◌, ◌^◌, ◌<◌, ◌==◌, nat_lt, Bool, false, List, [], ◌∷◌, length, map, chars, encode_utf8_all, if◌then◌else◌}
+use Rattle.std.specs.Prelude.{◌≡◌, ◌⊎◌, ℕ, ◌-◌, ◌^◌, ◌<◌, ◌==◌, nat_lt, Bool, false, List, [], ◌∷◌, length, map, Some, None, chars, encode_utf8_all, if◌then◌else◌}
 use Rattle.mad_term.specs.Trace.{Trace, ahead_all, failed, IsAtItsEnd}
 use Rattle.mad_term.specs.declared.errors.Error.{Error}
 use Rattle.mad_term.specs.declared.errors.Error.TheVariants.{IO, InsufficientWidth, Memory}
 use Rattle.mad_fit.specs.Printable.{printable_text}
-use Rattle.mad_md.specs.Lines.{LineContent}
+use Rattle.mad_steady.specs.Steady.{steady_text}
 use Rattle.mad_md.specs.Reading.{unread_text}
 use Rattle.mad_md.specs.Scan.{lines_of}
-use Rattle.markdown_reader.specs.Markdown.{markdown_lines}
+use Rattle.markdown_reader.specs.Markdown.{markdown_lines, markdown_links}
 use Rattle.mad_pager.specs.Pagers.{View, IsOpened, IsOrderlyView, IsViewShown, IsViewUnshown, view_of}
+use Rattle.mad_pager.specs.Sources.{TextSaid}
 use Rattle.mad_pager.specs.declared.pager.Pager.{Pager}
 use Rattle.termimad_page_run.specs.Blocks.{IsBlockDone, IsEndedIn}
 use Rattle.termimad_page_run.specs.declared.program.Grammar.{Grammar}
@@ -21,26 +22,30 @@ block_room = 1024
 
 -- ---- what is paged
 
--- a text as it is shown: what is printable of it
+-- what is printable of a text
+abbrev pub printed_text : List ℕ → List ℕ
+printed_text text = encode_utf8_all (printable_text (chars text))
+
+-- a text as it is shown: what is printable of it, such that terminals count its columns as this project does
 abbrev pub shown_text : List ℕ → List ℕ
-shown_text text = encode_utf8_all (printable_text (chars text))
+shown_text text = encode_utf8_all (steady_text (chars (printed_text text)))
 
 -- a character of a name as it is shown: a space (32) for a newline (10)
 abbrev pub row_char : ℕ → ℕ
 row_char c = if c == 10 then 32 else c
 
--- a name as it is shown: what is printable of it, in one row
+-- a name as it is shown, in one row
 abbrev pub name_row : List ℕ → List ℕ
 name_row name = encode_utf8_all (map row_char (chars (shown_text name)))
 
--- the lines of a text: those of what is printable of it, or those of Markdown as people write it
-abbrev pub lines_in : Grammar → List ℕ → List LineContent
-lines_in Lines text = lines_of (unread_text false (shown_text text))
-lines_in Markdown text = markdown_lines text
+-- what a text says: the lines of it as it is shown, or those of Markdown as people write it, and its links
+abbrev pub said_in : Grammar → List ℕ → TextSaid
+said_in Lines text = record { lines = lines_of (unread_text false (shown_text text)); links = None }
+said_in Markdown text = record { lines = markdown_lines text; links = Some (markdown_links text) }
 
--- the lines of a sheet's text
-abbrev pub sheet_lines : Sheet → List LineContent
-sheet_lines sheet = lines_in sheet.grammar sheet.text.now
+-- what a sheet's text says
+abbrev pub sheet_said : Sheet → TextSaid
+sheet_said sheet = said_in sheet.grammar sheet.text.now
 
 -- ---- turns
 
@@ -124,13 +129,13 @@ pub record IsBrokenOff (v : View) (e : Error) (old_input new_input old_out new_o
 -- The text is paged from its start on, and what is printable of its name is shown.
 pub record IsPaged (sheet : Sheet) (old_input new_input old_out new_out : Trace) : Type 0 where
   pub start : View
-  pub is : IsOpened sheet.skin.now (name_row sheet.name.now) (sheet_lines sheet) sheet.columns sheet.rows start
+  pub is : IsOpened sheet.skin.now (name_row sheet.name.now) (sheet_said sheet) sheet.columns sheet.rows start
   pub turned : IsTurned start old_input new_input old_out new_out
 
 -- The same up to a fault.
 pub record IsPagedSoFar (sheet : Sheet) (e : Error) (old_input new_input old_out new_out : Trace) : Type 0 where
   pub start : View
-  pub is : IsOpened sheet.skin.now (name_row sheet.name.now) (sheet_lines sheet) sheet.columns sheet.rows start
+  pub is : IsOpened sheet.skin.now (name_row sheet.name.now) (sheet_said sheet) sheet.columns sheet.rows start
   pub turned : IsBrokenOff start e old_input new_input old_out new_out
 
 -- nothing was read or drawn, since there was no memory

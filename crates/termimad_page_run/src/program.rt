@@ -3,8 +3,8 @@
 ghost use Rattle.std.specs.Prelude.{◌≡◌, ◌≢◌, IfOk, IfErr, OnOk, MatchResult, List, ℕ, string_bytes};
 ghost use Rattle.mad_pager.specs.Pagers.{view_of, IsOrderlyView};
 ghost use Rattle.mad_pager.specs.Sessions.{asks_size};
-ghost use Rattle.mad_search.specs.PagedTexts.{paged_lines};
-ghost use Rattle.termimad_page_run.specs.Runs.{moment, name_row, row_char, sheet_lines, IsBrokenOff, IsBrokenRun, IsFaultyTurn, IsLastTurn, IsPaged, IsTurn, IsTurned};
+ghost use Rattle.mad_pager.specs.Sources.{text_said};
+ghost use Rattle.termimad_page_run.specs.Runs.{moment, name_row, row_char, sheet_said, IsBrokenOff, IsBrokenRun, IsFaultyTurn, IsLastTurn, IsPaged, IsTurn, IsTurned};
 
 use crate::blocks::apply_block;
 use mad_fit::printable;
@@ -12,6 +12,7 @@ use mad_keys::Keys;
 use mad_layout::MadSkin;
 use mad_pager::{Pager, Turn};
 use mad_search::PagedText;
+use mad_steady::steady;
 use mad_term::{Error, Out, Source};
 use markdown_reader::Markdown;
 use std::alloc::{AllocError, Global};
@@ -48,7 +49,8 @@ pub struct Sheet<'s> {
 /// Pages a text: draws its start, then reads blocks of keys, does what they say and draws the screen anew after each, until a key ends it
 /// or the input does.
 ///
-/// What is printable of the name and of the text is shown; of Markdown that people write, what is printable of what it is read as. A block that fills the room for it whole is no pause.
+/// What is printable of the name and of the text is shown, made steady; of Markdown that people write, of what it is read as. A block that fills
+/// the room for it whole is no pause.
 ///
 /// # Errors
 ///
@@ -65,7 +67,8 @@ pub fn run<I: Source, O: Out>(
     let name = name_row(alloc, sheet.name)?;
     match sheet.grammar {
         Grammar::Lines => {
-            let text = printable(alloc, sheet.text)?;
+            let printed = printable(alloc, sheet.text)?;
+            let text = steady(alloc, &printed)?;
             page(
                 alloc,
                 sheet,
@@ -93,7 +96,7 @@ fn page<I: Source, O: Out>(
     out: &mut O,
 ) -> Result<(), Error>
     requires name { name.now ≡ name_row sheet.now.name.now }
-    requires text { paged_lines text ≡ sheet_lines sheet.now }
+    requires text { text_said text ≡ sheet_said sheet.now }
     ensures { MatchResult result (λ _. IsPaged sheet.now (I.seen input.old) (I.seen input.new) (O.seen out.old) (O.seen out.new))
         (λ e. IsBrokenRun sheet.now e (I.seen input.old) (I.seen input.new) (O.seen out.old) (O.seen out.new)) }
 {
@@ -152,11 +155,12 @@ fn turn_page<I: Source, O: Out>(
     Ok(turn)
 }
 
-// A name as it is shown: what is printable of it, in one row.
+// A name as it is shown: what is printable of it, steady, in one row.
 fn name_row(alloc: Global, name: &str) -> Result<String, AllocError>
     ensures { IfOk result (λ row. string_bytes row ≡ name_row name.now) }
 {
-    let name = printable(alloc, name)?;
+    let printed = printable(alloc, name)?;
+    let name = steady(alloc, &printed)?;
     let mut row = String::new(alloc);
     for c in name.chars() {
         row.push(row_char(c))?;
