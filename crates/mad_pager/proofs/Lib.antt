@@ -2,3 +2,5 @@ pub mod DrawnLemmas
 pub mod OrderLemmas
 pub mod PagerOrder
 pub mod StepLemmas
+pub mod SourceLemmas
+pub mod PagerSteps

@@ -49,8 +49,14 @@ pub(crate) fn text_of<'s>(alloc: Global, text: PagedText<'s>) -> Result<Text<'s>
     ensures { IfOk result (λ whole. contents whole ≡ paged_lines text.entry) }
 {
     match text {
-        PagedText::Lines(source) => read_lines(alloc, source),
-        PagedText::Markdown(markdown) => markdown.text(alloc),
+        PagedText::Lines(source) => {
+            let whole = read_lines(alloc, source)?;
+            Ok(whole)
+        }
+        PagedText::Markdown(markdown) => {
+            let whole = markdown.text(alloc)?;
+            Ok(whole)
+        }
     }
 }
 
@@ -67,6 +73,7 @@ fn read_lines<'s>(alloc: Global, source: &'s str) -> Result<Text<'s>, AllocError
 }
 
 // An item for each header of a text.
+#[tactic(auto, using(crate::proofs::SourceLemmas::item_more, crate::proofs::SourceLemmas::items_all))]
 fn header_items<'s>(
     alloc: Global,
     text: Text<'s>,
@@ -75,8 +82,8 @@ fn header_items<'s>(
     ensures { IfOk result (λ lines. map content_of lines.items ≡ items_by (header_said chosen) 0 (contents text.entry)) }
 {
     let mut lines = Vec::new(alloc);
-    let mut left = text.lines.into_iter();
-    'left: while let Some(line) = left.next() {
+    let left = text.lines.into_iter();
+    for line in left {
         push_header(&mut lines, line, chosen)?;
     }
     Ok(lines)

@@ -41,6 +41,7 @@ pub(crate) fn links_text<'s>(
 }
 
 // An item for each of these links that a line from one on up to another has.
+#[tactic(auto, using(crate::proofs::SourceLemmas::item_more, crate::proofs::SourceLemmas::items_all))]
 fn link_items<'s>(
     alloc: Global,
     links: &'s [Link],
@@ -50,8 +51,10 @@ fn link_items<'s>(
     ensures { IfOk result (λ lines. map content_of lines.items ≡ items_by (link_said from to) 0 (map link_of links.now)) }
 {
     let mut lines = Vec::new(alloc);
-    for link in links {
+    let mut left = links;
+    'left: while let [link, rest @ ..] = left {
         push_link(alloc, &mut lines, link, from, to)?;
+        left = rest;
     }
     Ok(lines)
 }

@@ -158,7 +158,10 @@ impl<'s> Session<'s> {
         let text = self.paged();
         match text {
             PagedText::Lines(_) => Ok(Source::Text(PagedText::Lines(NEVER_LINKS))),
-            PagedText::Markdown(markdown) => self.links_of(alloc, markdown),
+            PagedText::Markdown(markdown) => {
+                let source = self.links_of(alloc, markdown)?;
+                Ok(source)
+            }
         }
     }
 

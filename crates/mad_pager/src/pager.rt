@@ -50,13 +50,20 @@ impl<'s> Pager<'s> {
     /// # Errors
     ///
     /// Out of memory is the only error. Then no page is open over the text.
+    #[tactic(auto, using(crate::proofs::PagerSteps::step_over, crate::proofs::PagerSteps::step_below, crate::proofs::PagerSteps::turn_at_over, crate::proofs::PagerSteps::turn_at_text))]
     pub fn apply(&mut self, alloc: Global, event: Event) -> Result<Turn, AllocError>
         ensures step { OnOk result (IsStep event (view_of self.old) (view_of self.new)) }
         ensures turn { IfOk result (λ turn. turn ≡ turn_in event (view_of self.old)) }
     {
         match self.over.take() {
-            Some(over) => self.apply_over(alloc, over, event),
-            None => self.apply_to_text(alloc, event),
+            Some(over) => {
+                let turn = self.apply_over(alloc, over, event)?;
+                Ok(turn)
+            }
+            None => {
+                let turn = self.apply_to_text(alloc, event)?;
+                Ok(turn)
+            }
         }
     }
 
@@ -127,14 +134,20 @@ impl<'s> Pager<'s> {
         ensures { IfOk result (λ over. IsOverStart overlay (leaf_of self.now.text) (leaf_of over)) }
     {
         match overlay {
-            Overlay::Help => self.page_of(alloc, HELP_NAME, Source::Text(PagedText::Lines(HELP))),
+            Overlay::Help => {
+                let source = Source::Text(PagedText::Lines(HELP));
+                let over = self.page_of(alloc, HELP_NAME, source)?;
+                Ok(over)
+            }
             Overlay::Links => {
                 let source = self.text.links(alloc)?;
-                self.page_of(alloc, LINKS_NAME, source)
+                let over = self.page_of(alloc, LINKS_NAME, source)?;
+                Ok(over)
             }
             Overlay::Contents => {
                 let source = self.text.headers(alloc)?;
-                self.page_of(alloc, CONTENTS_NAME, source)
+                let over = self.page_of(alloc, CONTENTS_NAME, source)?;
+                Ok(over)
             }
         }
     }
@@ -156,6 +169,7 @@ impl<'s> Pager<'s> {
     }
 
     // Does what an event says while this page was open over the text.
+    #[tactic(auto, using(crate::proofs::PagerSteps::answered, crate::proofs::PagerSteps::turn_so))]
     fn apply_over(
         &mut self,
         alloc: Global,
@@ -178,7 +192,10 @@ impl<'s> Pager<'s> {
                 self.over = Some(over);
                 Ok(Turn::Goes)
             }
-            Answer::Passes => self.pass_over(alloc, over, event),
+            Answer::Passes => {
+                let turn = self.pass_over(alloc, over, event)?;
+                Ok(turn)
+            }
         }
     }
 

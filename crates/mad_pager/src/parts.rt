@@ -14,6 +14,7 @@ use std::alloc::{AllocError, Global};
 /// # Errors
 ///
 /// Out of memory is the only error.
+#[tactic(auto, using(crate::proofs::SourceLemmas::number_more))]
 pub(crate) fn part_numbers(
     alloc: Global,
     lines: &[Line],
@@ -24,7 +25,7 @@ pub(crate) fn part_numbers(
     let mut numbers = Vec::new(alloc);
     let mut part = 0;
     let mut left = lines;
-    'left: while let Some((line, rest)) = left.split_first() {
+    'left: while let [line, rest @ ..] = left {
         push_part(&mut numbers, part, !headers_only || is_header(line))?;
         part = next_part(part, line, rest);
         left = rest;
@@ -58,9 +59,9 @@ fn next_part(part: usize, line: &Line, rest: &[Line]) -> usize
 fn joins_next(line: &Line, rest: &[Line]) -> bool
     ensures { result ≡ joins_next (content_of line.now) (map content_of rest.now) }
 {
-    match rest.split_first() {
-        Some((next, _)) => stand_together(line, next),
-        None => false,
+    match rest {
+        [next, ..] => stand_together(line, next),
+        [] => false,
     }
 }
 

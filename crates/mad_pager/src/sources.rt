@@ -36,7 +36,10 @@ impl<'s> Source<'s> {
         ensures { IfOk result (λ parts. lines_left parts ≡ source_lines self.entry) }
     {
         match self {
-            Source::Text(text) => text.parts(alloc),
+            Source::Text(text) => {
+                let parts = text.parts(alloc)?;
+                Ok(parts)
+            }
             Source::Links(markdown, from, to) => {
                 let text = links_text(alloc, markdown.links(), from, to)?;
                 Ok(PartCursor::of_text(text))
