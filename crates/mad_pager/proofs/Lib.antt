@@ -2,5 +2,4 @@ pub mod DrawnLemmas
 pub mod OrderLemmas
 pub mod PagerOrder
 pub mod StepLemmas
-pub mod SourceLemmas
 pub mod PagerSteps

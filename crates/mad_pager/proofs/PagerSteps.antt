@@ -5,7 +5,7 @@ use Rattle.mad_layout.specs.declared.skin.MadSkin.{MadSkin}
 use Rattle.mad_term.specs.declared.events.Event.{Event}
 use Rattle.mad_term.specs.declared.keys.KeyEvent.{KeyEvent}
 use Rattle.mad_pager.specs.Sessions.{State, HasSameText, IsResized, IsStart, state_of, turn_of}
-use Rattle.mad_pager.specs.Sources.{Content, content_lines, content_of, source_lines}
+use Rattle.mad_outline.specs.Sources.{Content, content_lines, content_of, source_lines}
 use Rattle.mad_pager.specs.Pagers.{Leaf, View, IsAnswered, IsChoice, IsCovered, IsLeafSettled, IsOverStart, IsOverStep, IsPageStart, IsStepIn, IsTextStep, content_chosen, leaf_of, over_answer, size_to_lay, turn_answered, turn_at, turn_over, uncounted_state}
 use Rattle.mad_pager.specs.declared.over.Answer.{Answer}
 use Rattle.mad_pager.specs.declared.session.Overlay.{Overlay}

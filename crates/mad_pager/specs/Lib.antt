@@ -2,4 +2,3 @@ pub mod Pagers
 pub mod Pictures
 pub mod Screens
 pub mod Sessions
-pub mod Sources

@@ -21,10 +21,10 @@ use Rattle.mad_term.specs.declared.keys.KeyEvent.{KeyEvent}
 use Rattle.markdown_reader.specs.MarkdownSays.{LinkSaid}
 use Rattle.mad_pager.specs.Screens.{IsOrderly, IsShown, IsUnshown}
 use Rattle.mad_pager.specs.Sessions.{State, IsEventStep, IsResized, IsSettled, IsStart, at_header, hears, opens, state_of, turn_of}
-use Rattle.mad_pager.specs.Sources.{Content, LinksIn, TextSaid, a_text, addresses, headers, content_lines, content_of, lines_before, next, part_numbers, said_of}
-use Rattle.mad_pager.specs.declared.contents.TheConstants.{CONTENTS_NAME}
+use Rattle.mad_outline.specs.Sources.{Content, LinksIn, TextSaid, a_text, addresses, headers, content_lines, content_of, lines_before, next, part_numbers, said_of}
+use Rattle.mad_outline.specs.declared.contents.TheConstants.{CONTENTS_NAME}
 use Rattle.mad_pager.specs.declared.help.TheConstants.{HELP, HELP_NAME}
-use Rattle.mad_pager.specs.declared.links.TheConstants.{LINKS_NAME, NEVER_LINKS}
+use Rattle.mad_outline.specs.declared.links.TheConstants.{LINKS_NAME, NEVER_LINKS}
 use Rattle.mad_pager.specs.declared.over.Answer.{Answer}
 use Rattle.mad_pager.specs.declared.over.Answer.TheVariants.{Closes, Takes, Chooses, Passes}
 use Rattle.mad_pager.specs.declared.pager.Pager.{Pager}

@@ -3,30 +3,26 @@
 //! In the order of the work:
 //!
 //! 1. [`session`]: the session, and what an event does.
-//! 2. [`sources`]: what it shows; [`links`], [`contents`], [`parts`]: the addresses of links, and headers. [`sizes`]: the size of the screen, and the text laid out for it.
+//! 2. [`sizes`]: the size of the screen, and the text laid out for it.
 //! 3. [`typing`], [`finding`]: what is sought, and the rows that have it.
 //! 4. [`places`]: where all is on the screen; [`status`]: its last row.
 //! 5. [`picture`]: bytes that are drawn in memory; [`drawing`]: the whole screen.
 //! 6. [`help`]: the page of help; [`pager`]: a text, and a page over it while one is open.
 #![tactic(auto)]
 
-mod contents;
 mod drawing;
 mod finding;
 mod help;
-mod links;
 mod over;
 mod pager;
-mod parts;
 mod picture;
 mod places;
 mod session;
 mod sizes;
-mod sources;
 mod status;
 mod typing;
 
+pub use mad_outline::Source;
 pub use pager::Pager;
 pub use session::{Overlay, Session, Turn};
 pub use sizes::ScreenSize;
-pub use sources::Source;

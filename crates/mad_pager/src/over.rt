@@ -3,15 +3,12 @@
 ghost use Rattle.std.specs.Prelude.{◌≡◌, IfOk, OnOk, slice_index};
 ghost use Rattle.mad_pager.specs.Pagers.{choice_after, content_chosen, contents_page, has_choice, header_row, is_enter, key_over, last_row_of, leaf_of, links_in, links_page, over_answer, row_at, sighted, size_to_lay, IsChoice};
 ghost use Rattle.mad_pager.specs.Sessions.{at_header, state_of, HasSameText};
-ghost use Rattle.mad_pager.specs.Sources.{addresses, content_of, said_of, text_said};
+ghost use Rattle.mad_outline.specs.Sources.{addresses, content_of, said_of, text_said};
 ghost use Rattle.markdown_reader.specs.MarkdownSays.{links_said, markdown_says};
 
-use crate::contents::text_of;
-use crate::links::NEVER_LINKS;
-use crate::parts::{lines_before, part_at, part_numbers, start_at};
 use crate::session::Session;
 use crate::sizes::ScreenSize;
-use crate::sources::Source;
+use mad_outline::{NEVER_LINKS, Source, lines_before, part_at, part_numbers, start_at, text_of};
 use mad_page::{Ask, Command, Page, command_of, is_break};
 use mad_search::PagedText;
 use mad_term::{Event, KeyCode, KeyEvent, KeyModifiers};
@@ -201,7 +198,7 @@ impl<'s> Session<'s> {
 
     // Puts the header that is chosen on a page over this text on top, if there is one.
     pub(crate) fn take_choice(&mut self, alloc: Global, over: Source<'s>) -> Result<(), AllocError>
-        ensures done { OnOk result (state_of self.new ≡ at_header (header_row (content_of over) self.old.starts.items) (state_of self.old)) }
+        ensures done { OnOk result (state_of self.new ≡ at_header (header_row (content_of over.entry) self.old.starts.items) (state_of self.old)) }
         ensures text { OnOk result (HasSameText self.old self.new) }
     {
         let row = self.header_row(alloc, over)?;
@@ -211,7 +208,7 @@ impl<'s> Session<'s> {
 
     // The row of the header that is chosen on a page over this text.
     fn header_row(&self, alloc: Global, over: Source<'s>) -> Result<Option<usize>, AllocError>
-        ensures { IfOk result (λ row. row ≡ header_row (content_of over) self.now.starts.items) }
+        ensures { IfOk result (λ row. row ≡ header_row (content_of over.entry) self.now.starts.items) }
     {
         match over {
             Source::Contents(text, chosen) => {

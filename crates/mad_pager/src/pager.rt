@@ -3,15 +3,13 @@
 ghost use Rattle.std.specs.Prelude.{◌≡◌, IfOk, OnOk, MatchResult, None, option_map};
 ghost use Rattle.mad_pager.specs.Pagers.{leaf_of, turn_in, turn_over, view_of, IsDoneOver, IsOpened, IsOverSettled, IsOverStart, IsOverStep, IsPageStart, IsStep, IsTextStep, IsViewSettled, IsViewShown, IsViewUnshown};
 ghost use Rattle.mad_pager.specs.Sessions.{state_of, turn_of};
-ghost use Rattle.mad_pager.specs.Sources.{content_of, text_said};
+ghost use Rattle.mad_outline.specs.Sources.{content_of, text_said};
 
-use crate::contents::CONTENTS_NAME;
 use crate::help::{HELP, HELP_NAME};
-use crate::links::LINKS_NAME;
 use crate::over::Answer;
 use crate::session::{Overlay, Session, Turn};
-use crate::sources::Source;
 use mad_layout::MadSkin;
+use mad_outline::{CONTENTS_NAME, LINKS_NAME, Source};
 use mad_search::PagedText;
 use mad_term::{Error, Event, Out};
 use std::alloc::{AllocError, Global};

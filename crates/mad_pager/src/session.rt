@@ -2,14 +2,14 @@
 
 ghost use Rattle.std.specs.Prelude.{◌≡◌, IfOk, OnOk};
 ghost use Rattle.mad_page.specs.PageKeys.{after_key};
-ghost use Rattle.mad_pager.specs.Sources.{source_lines};
+ghost use Rattle.mad_outline.specs.Sources.{source_lines};
 ghost use Rattle.mad_pager.specs.Sessions.{asks_size, ends, opens, state_of, turn_of, turn_of_key, turn_asked, turn_typed, HasSameText, IsAsked, IsAnyKeyStep, IsKeyStep, IsEventStep, IsStart};
 
 use crate::places::field_row;
 use crate::sizes::{ScreenSize, height_of, lay};
-use crate::sources::Source;
 use mad_field::InputField;
 use mad_layout::{FmtText, MadSkin};
+use mad_outline::Source;
 use mad_page::{Ask, Page, is_break};
 use mad_term::{Event, KeyEvent};
 use std::alloc::{AllocError, Global};

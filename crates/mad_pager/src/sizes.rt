@@ -1,13 +1,13 @@
 //! The size of the screen: what the terminal tells of it, and the text laid out for it.
 
 ghost use Rattle.std.specs.Prelude.{◌≡◌, IfOk, OnOk, length};
-ghost use Rattle.mad_pager.specs.Sources.{source_lines};
+ghost use Rattle.mad_outline.specs.Sources.{source_lines};
 ghost use Rattle.mad_pager.specs.Sessions.{hears, hears_size, kept_row, state_of, AreStartsFor, HasSameText, IsLaidFor, IsResized, IsSettled};
 
 use crate::places::{field_row, layout_width};
 use crate::session::Session;
-use crate::sources::Source;
 use mad_layout::{FmtText, MadSkin};
+use mad_outline::Source;
 use mad_page::Page;
 use mad_search::row_in_parts;
 use mad_term::Event;

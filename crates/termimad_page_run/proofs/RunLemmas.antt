@@ -10,7 +10,7 @@ use Rattle.mad_term.specs.declared.errors.Error.{Error}
 use Rattle.mad_term.specs.declared.events.Event.{Event}
 use Rattle.mad_md.specs.Lines.{LineContent}
 use Rattle.markdown_reader.specs.MarkdownSays.{LinkSaid}
-use Rattle.mad_pager.specs.Sources.{TextSaid}
+use Rattle.mad_outline.specs.Sources.{TextSaid}
 use Rattle.mad_pager.proofs.PagerOrder.{opened_order, step_order, view_settled_order}
 use Rattle.mad_pager.specs.Pagers.{View, IsOpened, IsOrderlyView, IsViewShown, view_of}
 use Rattle.mad_pager.specs.declared.pager.Pager.{Pager}

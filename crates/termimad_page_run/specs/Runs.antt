@@ -9,7 +9,7 @@ use Rattle.mad_md.specs.Reading.{unread_text}
 use Rattle.mad_md.specs.Scan.{lines_of}
 use Rattle.markdown_reader.specs.Markdown.{markdown_lines, markdown_links}
 use Rattle.mad_pager.specs.Pagers.{View, IsOpened, IsOrderlyView, IsViewShown, IsViewUnshown, view_of}
-use Rattle.mad_pager.specs.Sources.{TextSaid}
+use Rattle.mad_outline.specs.Sources.{TextSaid}
 use Rattle.mad_pager.specs.declared.pager.Pager.{Pager}
 use Rattle.termimad_page_run.specs.Blocks.{IsBlockDone, IsEndedIn}
 use Rattle.termimad_page_run.specs.declared.program.Grammar.{Grammar}

@@ -3,7 +3,7 @@
 ghost use Rattle.std.specs.Prelude.{◌≡◌, ◌≢◌, IfOk, IfErr, OnOk, MatchResult, List, ℕ, string_bytes};
 ghost use Rattle.mad_pager.specs.Pagers.{view_of, IsOrderlyView};
 ghost use Rattle.mad_pager.specs.Sessions.{asks_size};
-ghost use Rattle.mad_pager.specs.Sources.{text_said};
+ghost use Rattle.mad_outline.specs.Sources.{text_said};
 ghost use Rattle.termimad_page_run.specs.Runs.{moment, name_row, row_char, sheet_said, IsBrokenOff, IsBrokenRun, IsFaultyTurn, IsLastTurn, IsPaged, IsTurn, IsTurned};
 
 use crate::blocks::apply_block;

@@ -1,11 +1,11 @@
 //! The headers of a text.
 
-ghost use Rattle.std.specs.Prelude.{◌≡◌, ◌++◌, ◌==◌, length, IfOk, OnOk, map};
+ghost use Rattle.std.specs.Prelude.{◌≡◌, ◌++◌, ◌==◌, false, length, IfOk, OnOk, map};
 ghost use Rattle.std.specs.Vec.Iter.{into_iter_items};
 ghost use Rattle.mad_md.specs.Lines.{content_of, contents, normal, styled_runs};
 ghost use Rattle.mad_md.specs.Reading.{unread_text};
 ghost use Rattle.mad_md.specs.Scan.{lines_of};
-ghost use Rattle.mad_pager.specs.Sources.{header_said, headers_listed, item_style, items_by};
+ghost use Rattle.mad_outline.specs.Sources.{header_said, headers_listed, item_style, items_by};
 ghost use Rattle.mad_search.specs.PagedTexts.{paged_lines};
 
 use crate::sources::raw_line;
@@ -24,7 +24,7 @@ pub const NO_HEADERS: &str = "There are no headers.";
 /// # Errors
 ///
 /// Out of memory is the only error.
-pub(crate) fn contents_text<'s>(
+pub fn contents_text<'s>(
     alloc: Global,
     text: PagedText<'s>,
     chosen: usize,
@@ -45,7 +45,7 @@ pub(crate) fn contents_text<'s>(
 /// # Errors
 ///
 /// Out of memory is the only error.
-pub(crate) fn text_of<'s>(alloc: Global, text: PagedText<'s>) -> Result<Text<'s>, AllocError>
+pub fn text_of<'s>(alloc: Global, text: PagedText<'s>) -> Result<Text<'s>, AllocError>
     ensures { IfOk result (λ whole. contents whole ≡ paged_lines text.entry) }
 {
     match text {

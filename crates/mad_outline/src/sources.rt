@@ -3,17 +3,14 @@
 ghost use Rattle.std.specs.Prelude.{◌≡◌, [], ◌∷◌, IfOk, Some, length};
 ghost use Rattle.mad_blocks.specs.Layouts.{IsLayoutAt};
 ghost use Rattle.mad_blocks.specs.PartCursors.{lines_left};
-ghost use Rattle.mad_layout.specs.RowSkins.{row_skin};
 ghost use Rattle.mad_md.specs.Lines.{content_of, contents};
-ghost use Rattle.mad_pager.specs.Sources.{raw_line, source_lines};
-ghost use Rattle.mad_rows.specs.RowStyles.{line_rules};
+ghost use Rattle.mad_outline.specs.Sources.{raw_line, source_lines};
 ghost use Rattle.mad_search.specs.KeptRows.{ArePartStarts};
 
 use crate::contents::contents_text;
 use crate::links::links_text;
 use mad_blocks::PartCursor;
-use mad_format::FmtLine;
-use mad_layout::MadSkin;
+use mad_format::{FmtLine, LineSkin};
 use mad_md::{Composite, CompositeStyle, Compound, Line};
 use mad_search::{Layout, PagedText};
 use markdown_reader::Markdown;
@@ -56,14 +53,14 @@ impl<'s> Source<'s> {
     /// # Errors
     ///
     /// Out of memory is the only error.
-    pub(crate) fn lay(
+    pub fn lay<S: LineSkin>(
         self,
         alloc: Global,
-        skin: &MadSkin,
+        skin: &S,
         width: usize,
     ) -> Result<Layout<'s>, AllocError>
-        ensures lines { IfOk result (λ laid. IsLayoutAt (line_rules (row_skin skin.now)) (Some width) (source_lines self.entry) laid.lines.items) }
-        ensures starts { IfOk result (λ laid. ArePartStarts (line_rules (row_skin skin.now)) width (source_lines self.entry) laid.starts.items) }
+        ensures lines { IfOk result (λ laid. IsLayoutAt (S.rules skin.now) (Some width) (source_lines self.entry) laid.lines.items) }
+        ensures starts { IfOk result (λ laid. ArePartStarts (S.rules skin.now) width (source_lines self.entry) laid.starts.items) }
     {
         let mut parts = self.parts(alloc)?;
         let laid = lay_parts(alloc, skin, &mut parts, width)?;
@@ -72,14 +69,14 @@ impl<'s> Source<'s> {
 }
 
 // All parts that are left, laid out.
-fn lay_parts<'s>(
+fn lay_parts<'s, S: LineSkin>(
     alloc: Global,
-    skin: &MadSkin,
+    skin: &S,
     parts: &mut PartCursor<'s>,
     width: usize,
 ) -> Result<Layout<'s>, AllocError>
-    ensures lines { IfOk result (λ laid. IsLayoutAt (line_rules (row_skin skin.now)) (Some width) (lines_left parts.old) laid.lines.items) }
-    ensures starts { IfOk result (λ laid. ArePartStarts (line_rules (row_skin skin.now)) width (lines_left parts.old) laid.starts.items) }
+    ensures lines { IfOk result (λ laid. IsLayoutAt (S.rules skin.now) (Some width) (lines_left parts.old) laid.lines.items) }
+    ensures starts { IfOk result (λ laid. ArePartStarts (S.rules skin.now) width (lines_left parts.old) laid.starts.items) }
 {
     let mut lines = Vec::new(alloc);
     let mut starts = first_start(alloc)?;
@@ -110,7 +107,7 @@ fn count_of(lines: &Vec<FmtLine>) -> usize
 /// # Errors
 ///
 /// Out of memory is the only error.
-pub(crate) fn raw_line<'s>(
+pub fn raw_line<'s>(
     alloc: Global,
     style: CompositeStyle,
     text: &'s str,

@@ -1,8 +1,8 @@
 use Rattle.std.proofs.Common.{◌≡◌, ◌++◌, length, map}
 use Rattle.std.specs.Vec.Iter.{into_iter_items}
 use Rattle.mad_md.specs.Lines.{content_of, contents}
-use Rattle.mad_pager.specs.Sources.{header_said, items_by}
-use Rattle.mad_pager.proofs.contents.header_items.Given as goal
+use Rattle.mad_outline.specs.Sources.{header_said, items_by}
+use Rattle.mad_outline.proofs.contents.header_items.Given as goal
 
 abbrev pub invariant-loop-line : goal.invariant-loop-line
 invariant-loop-line l =

@@ -3,7 +3,7 @@
 ghost use Rattle.std.specs.Prelude.{◌≡◌, ◌++◌, ◌∷◌, [], ◌||◌, not, count_by, nat_lt, if◌then◌else◌, slice_index, IfOk, OnOk, map};
 ghost use Rattle.mad_blocks.specs.TextParts.{is_code, is_table, stand_together};
 ghost use Rattle.mad_md.specs.Lines.{content_of};
-ghost use Rattle.mad_pager.specs.Sources.{is_header_line, joins_next, lines_before, next_part, part_numbers};
+ghost use Rattle.mad_outline.specs.Sources.{is_header_line, joins_next, lines_before, next_part, part_numbers};
 ghost use Rattle.mad_search.specs.KeptRows.{part_of};
 
 use mad_md::{CompositeStyle, Line};
@@ -15,7 +15,7 @@ use std::alloc::{AllocError, Global};
 ///
 /// Out of memory is the only error.
 #[tactic(auto, using(crate::proofs::SourceLemmas::number_more))]
-pub(crate) fn part_numbers(
+pub fn part_numbers(
     alloc: Global,
     lines: &[Line],
     headers_only: bool,
@@ -97,14 +97,14 @@ fn is_header(line: &Line) -> bool
 }
 
 /// How many of these numbers are less than one: of the numbers of lines' parts, how many lines come before a part.
-pub(crate) fn lines_before(numbers: &[usize], part: usize) -> usize
+pub fn lines_before(numbers: &[usize], part: usize) -> usize
     ensures { result ≡ lines_before numbers.now part }
 {
     numbers.iter().filter(|number| **number < part).count()
 }
 
 /// The number of the part that has a row, where parts begin in these rows; past the last one that of the last.
-pub(crate) fn part_at(starts: &[usize], row: usize) -> usize
+pub fn part_at(starts: &[usize], row: usize) -> usize
     ensures { result ≡ part_of starts.now row }
 {
     let begun = starts.iter().filter(|start| **start <= row).count();
@@ -112,7 +112,7 @@ pub(crate) fn part_at(starts: &[usize], row: usize) -> usize
 }
 
 /// The row in which a part begins; 0, where there is no such part.
-pub(crate) fn start_at(starts: &[usize], part: usize) -> usize
+pub fn start_at(starts: &[usize], part: usize) -> usize
     ensures { result ≡ slice_index starts.now part }
 {
     starts.get(part).copied().unwrap_or(0)

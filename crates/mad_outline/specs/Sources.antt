@@ -12,10 +12,10 @@ use Rattle.mad_search.specs.PagedTexts.{paged_lines}
 use Rattle.mad_search.specs.declared.paged.PagedText.{PagedText}
 use Rattle.mad_search.specs.declared.paged.PagedText.TheVariants.{Lines, Markdown}
 use Rattle.markdown_reader.specs.MarkdownSays.{LinkSaid, links_said}
-use Rattle.mad_pager.specs.declared.contents.TheConstants.{NO_HEADERS}
-use Rattle.mad_pager.specs.declared.links.TheConstants.{NO_LINKS}
-use Rattle.mad_pager.specs.declared.sources.Source.{Source}
-use Rattle.mad_pager.specs.declared.sources.Source.TheVariants.{Text, Links, Contents}
+use Rattle.mad_outline.specs.declared.contents.TheConstants.{NO_HEADERS}
+use Rattle.mad_outline.specs.declared.links.TheConstants.{NO_LINKS}
+use Rattle.mad_outline.specs.declared.sources.Source.{Source}
+use Rattle.mad_outline.specs.declared.sources.Source.TheVariants.{Text, Links, Contents}
 
 -- a line of this kind that has a text without flags, or none where it is empty
 abbrev pub raw_line : CompositeStyle → List ℕ → LineContent

@@ -2,7 +2,7 @@
 
 ghost use Rattle.std.specs.Prelude.{◌≡◌, ◌++◌, ◌+◌, ◌-◌, ◌^◌, min, length, IfOk, OnOk, map};
 ghost use Rattle.mad_md.specs.Lines.{content_of, contents};
-ghost use Rattle.mad_pager.specs.Sources.{items_by, link_said, links_listed, number_after};
+ghost use Rattle.mad_outline.specs.Sources.{items_by, link_said, links_listed, number_after};
 ghost use Rattle.markdown_reader.specs.MarkdownSays.{link_of};
 
 use crate::sources::raw_line;
@@ -24,7 +24,7 @@ pub const NEVER_LINKS: &str = "With --lines there are no links.";
 /// # Errors
 ///
 /// Out of memory is the only error.
-pub(crate) fn links_text<'s>(
+pub fn links_text<'s>(
     alloc: Global,
     links: &'s [Link],
     from: usize,

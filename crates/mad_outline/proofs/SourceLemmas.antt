@@ -1,13 +1,13 @@
 -- Lines that are made of others one after the other.
-use Rattle.std.proofs.Common.{◌≡◌, ℕ, ◌+◌, Bool, true, false, List, [], ◌∷◌, ◌++◌, length, map, refl, sym, ap, subst, ◌∙◌, append_assoc, append-nil, length-append, if◌then◌else◌}
+use Rattle.std.proofs.Common.{◌≡◌, ℕ, ◌+◌, Bool, List, [], ◌∷◌, ◌++◌, length, map, sym, ap, ◌∙◌, append_assoc, append-nil, length-append}
 use Rattle.std.proofs.lemmas.List.{length-map}
-use Rattle.mad_md.specs.Lines.{LineContent, content_of, contents}
+use Rattle.mad_md.specs.Lines.{LineContent, content_of}
 use Rattle.mad_md.specs.declared.line.Line.{Line}
-use Rattle.mad_pager.specs.Sources.{items_by, next_part, or_said, part_numbers}
+use Rattle.mad_outline.specs.Sources.{items_by, part_numbers}
 
 -- so many lines more
 pub longer : (a b : List Line) (s : List LineContent) → map content_of b ≡ map content_of a ++ s → length b ≡ length a + length s
-longer a b s e = sym (length-map content_of b) ∙ (ap length e ∙ (length-append (map content_of a) s ∙ ap (λ (n : ℕ). n + length s) (length-map content_of a)))
+longer a b s e = sym (length-map b content_of) ∙ (ap length e ∙ (length-append (map content_of a) s ∙ ap (λ (n : ℕ). n + length s) (length-map a content_of)))
 
 -- what is said of one more
 pub item_more : {A : Type 0} (said : ℕ → A → List LineContent) (done new : List Line) (whole : List LineContent) (x : A) (xs : List A)
@@ -20,7 +20,7 @@ item_more said done new whole x xs h e =
 -- what is said of all
 pub items_all : {A : Type 0} (said : ℕ → A → List LineContent) (done : List Line) (whole : List LineContent) (xs : List A)
     → map content_of done ++ items_by said (length done) xs ≡ whole → xs ≡ [] → map content_of done ≡ whole
-items_all said done whole xs h none = sym (append-nil (map content_of done)) ∙ (ap (λ (l : List A). map content_of done ++ items_by said (length done) l) (sym none) ∙ h)
+items_all {A = A} said done whole xs h none = sym (append-nil (map content_of done)) ∙ (ap (λ (l : List A). map content_of done ++ items_by said (length done) l) (sym none) ∙ h)
 
 -- one number more
 pub number_more : (only counted : Bool) (done new whole : List ℕ) (part next : ℕ) (l : LineContent) (ls : List LineContent) (said : List ℕ)
