@@ -1,12 +1,14 @@
 -- What events do to a pager, along what is equal.
-use Rattle.std.proofs.Common.{◌≡◌, ℕ, Bool, List, Option, Some, None, option_map, refl, sym, ap, subst, ◌∙◌}
+use Rattle.std.proofs.Common.{◌≡◌, ℕ, Bool, false, List, Option, Some, None, option_map, refl, sym, ap, subst, ◌∙◌}
 use Rattle.mad_md.specs.Lines.{LineContent}
 use Rattle.mad_layout.specs.declared.skin.MadSkin.{MadSkin}
 use Rattle.mad_term.specs.declared.events.Event.{Event}
 use Rattle.mad_term.specs.declared.keys.KeyEvent.{KeyEvent}
+use Rattle.mad_search.specs.KeptRows.{part_of}
+use Rattle.markdown_reader.specs.MarkdownSays.{LinkSaid}
 use Rattle.mad_pager.specs.Sessions.{State, HasSameText, IsResized, IsStart, state_of, turn_of}
-use Rattle.mad_outline.specs.Sources.{Content, content_lines, content_of, source_lines}
-use Rattle.mad_pager.specs.Pagers.{Leaf, View, IsAnswered, IsChoice, IsCovered, IsLeafSettled, IsOverStart, IsOverStep, IsPageStart, IsStepIn, IsTextStep, content_chosen, leaf_of, over_answer, size_to_lay, turn_answered, turn_at, turn_over, uncounted_state}
+use Rattle.mad_outline.specs.Sources.{Content, LinksIn, addresses, content_lines, content_of, lines_before, next, part_numbers, source_lines}
+use Rattle.mad_pager.specs.Pagers.{Leaf, View, IsAnswered, IsChoice, IsCovered, IsLeafSettled, IsOverStart, IsOverStep, IsPageStart, IsStepIn, IsTextStep, content_chosen, last_row_of, leaf_of, links_in, over_answer, size_to_lay, turn_answered, turn_at, turn_over, uncounted_state}
 use Rattle.mad_pager.specs.declared.over.Answer.{Answer}
 use Rattle.mad_pager.specs.declared.session.Overlay.{Overlay}
 use Rattle.mad_pager.specs.declared.session.Session.{Session}
@@ -69,3 +71,20 @@ chosen key old mid new size skin name content state is same laid = record {
       (subst (λ (z : ScreenSize). IsResized mid.text.skin.now (source_lines mid.source) z.columns z.rows (uncounted_state (state_of old)) (state_of new)) is
       (subst (λ (s : State). IsResized mid.text.skin.now (source_lines mid.source) size.columns size.rows s (state_of new)) state laid)));
 }
+
+-- ---- links
+
+-- the links of the lines whose parts are on the screen
+pub links_shown : (links : List LinkSaid) (said : List LineContent) (s : State) (numbers above below starts : List ℕ) (row first last after from to : ℕ)
+    → numbers ≡ part_numbers false 0 said → above ≡ numbers → below ≡ numbers → starts ≡ s.starts
+    → first ≡ part_of starts s.page.top → row ≡ last_row_of s.page → last ≡ part_of starts row → after ≡ next last → from ≡ lines_before above first → to ≡ lines_before below after
+    → addresses (record { links = links; from = from; to = to }) ≡ addresses (links_in said links s)
+links_shown links said s numbers above below starts row first last after from to n a b begin f r l t g h =
+    let parts : List ℕ = part_numbers false 0 said in
+    let start : ℕ = part_of s.starts s.page.top in
+    let end : ℕ = part_of s.starts (last_row_of s.page) in
+    let is_start : first ≡ start = f ∙ ap (λ (z : List ℕ). part_of z s.page.top) begin in
+    let is_end : last ≡ end = l ∙ ap (λ (z : List ℕ). part_of z row) begin ∙ ap (λ (m : ℕ). part_of s.starts m) r in
+    let is_from : from ≡ lines_before parts start = g ∙ ap (λ (z : List ℕ). lines_before z first) (a ∙ n) ∙ ap (λ (m : ℕ). lines_before parts m) is_start in
+    let is_to : to ≡ lines_before parts (next end) = h ∙ ap (λ (z : List ℕ). lines_before z after) (b ∙ n) ∙ ap (λ (m : ℕ). lines_before parts m) (t ∙ ap (λ (m : ℕ). next m) is_end) in
+    ap (λ (m : ℕ). addresses (record { links = links; from = m; to = to })) is_from ∙ ap (λ (m : ℕ). addresses (record { links = links; from = lines_before parts start; to = m })) is_to
