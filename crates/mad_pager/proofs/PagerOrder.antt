@@ -1,15 +1,15 @@
 -- The sessions of a pager stay orderly.
-use Rattle.std.proofs.Common.{◌≡◌, ℕ, Bool, true, false, List, Option, Some, None, ap, refl, sym, subst}
+use Rattle.std.proofs.Common.{◌≡◌, ℕ, List, Option, Some, None, ap, refl, sym, subst}
 use Rattle.std.specs.Prelude.{slice_index}
 use Rattle.mad_md.specs.Lines.{LineContent}
 use Rattle.mad_layout.specs.declared.skin.MadSkin.{MadSkin}
 use Rattle.mad_term.specs.declared.events.Event.{Event}
 use Rattle.mad_term.specs.declared.events.Event.TheVariants.{Key, Mouse, Resize, FocusGained, FocusLost}
 use Rattle.mad_term.specs.declared.keys.KeyEvent.{KeyEvent}
-use Rattle.mad_pager.specs.Screens.{IsFieldInRow, IsOrderly}
-use Rattle.mad_pager.specs.Sessions.{State, HasSameText, IsEventStep, IsSettled, at_header, hears, hears_size, state_of}
+use Rattle.mad_pager.specs.Screens.{IsOrderly}
+use Rattle.mad_pager.specs.Sessions.{State, HasSameText, IsEventStep, IsSettled, hears_size, state_of}
 use Rattle.mad_outline.specs.Sources.{Content, TextSaid, a_text, addresses, headers, content_lines, content_of, said_of, source_lines}
-use Rattle.mad_pager.specs.Pagers.{Leaf, View, IsAnswered, IsChoice, IsCovered, IsDoneOver, IsLeafSettled, IsLeafStep, IsOpened, IsOrderlyLeaf, IsOrderlyOver, IsOrderlyView, IsOverSettled, IsOverStart, IsPageStart, IsSameLeaf, IsStep, IsStepIn, IsTextStep, IsViewSettled, contents_page, header_row, help_page, hearing, in_sight_of, leaf_lines, leaf_of, links_page, over_answer, sighted}
+use Rattle.mad_pager.specs.Pagers.{Leaf, View, IsAnswered, IsChoice, IsCovered, IsLeafSettled, IsLeafStep, IsOpened, IsOrderlyLeaf, IsOrderlyOver, IsOrderlyView, IsOverSettled, IsOverStart, IsPageStart, IsSameLeaf, IsStep, IsStepIn, IsViewSettled, contents_page, header_row, help_page, hearing, leaf_lines, leaf_of, links_page, over_answer, sighted}
 use Rattle.mad_outline.specs.declared.contents.TheConstants.{CONTENTS_NAME}
 use Rattle.mad_pager.specs.declared.help.TheConstants.{HELP_NAME}
 use Rattle.mad_outline.specs.declared.links.TheConstants.{LINKS_NAME}

@@ -1,5 +1,5 @@
 -- A pager: a text, and a page over it while one is open.
-use Rattle.std.specs.Prelude.{◌≡◌, ℕ, ◌+◌, ◌-◌, ◌^◌, ◌==◌, ◌&&◌, min, Bool, true, false, not, List, length, Option, Some, None, option_map, slice_get, slice_index, if◌then◌else◌}
+use Rattle.std.specs.Prelude.{◌≡◌, ℕ, ◌+◌, ◌-◌, ◌^◌, ◌==◌, ◌&&◌, min, Bool, true, false, List, length, Option, Some, None, option_map, slice_get, slice_index, if◌then◌else◌}
 use Rattle.mad_md.specs.Lines.{LineContent}
 use Rattle.mad_md.specs.Reading.{unread_text}
 use Rattle.mad_md.specs.Scan.{lines_of}

@@ -1,4 +1,4 @@
-use Rattle.std.proofs.Common.{◌≡◌, Option, Some, ap, option_map, subst, sym}
+use Rattle.std.proofs.Common.{Option, Some, ap, option_map, subst, sym}
 use Rattle.mad_pager.specs.Pagers.{Leaf, IsOverSettled, leaf_of}
 use Rattle.mad_pager.specs.declared.session.Session.{Session}
 use Rattle.mad_pager.proofs.PagerOrder.{leaf_with, settled_leaf}
