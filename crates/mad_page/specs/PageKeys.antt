@@ -9,7 +9,7 @@ use Rattle.mad_term.specs.declared.mouse.MouseEvent.{MouseEvent}
 use Rattle.mad_term.specs.declared.mouse.MouseEventKind.{MouseEventKind}
 use Rattle.mad_page.specs.Pages.{above, at_bar, at_end, at_row, below, body_rows, is_on_bar}
 use Rattle.mad_page.specs.declared.commands.Ask.{Ask}
-use Rattle.mad_page.specs.declared.commands.Ask.TheVariants.{Nothing, Search, Next, Previous, NextHeader, PreviousHeader, Forget, Help, Contents, Size, Quit}
+use Rattle.mad_page.specs.declared.commands.Ask.TheVariants.{Nothing, Search, Next, Previous, NextHeader, PreviousHeader, Forget, Help, Links, Contents, Size, Quit}
 use Rattle.mad_page.specs.declared.commands.Command.{Command}
 use Rattle.mad_page.specs.declared.commands.Command.TheVariants.{Moves, Counts, Asks}
 use Rattle.mad_page.specs.declared.commands.Motion.{Motion}
@@ -18,7 +18,7 @@ use Rattle.mad_page.specs.declared.page.Page.{Page}
 
 -- ---- which key says what
 
--- what a character asks for that doesn't scroll: `/`, `n`, `N`, `}` `]`, `{` `[`, `?` `h`, `t`, `q`
+-- what a character asks for that doesn't scroll: `/`, `n`, `N`, `}` `]`, `{` `[`, `?` `h`, `l`, `t`, `q`
 abbrev pub char_ask : ℕ → Ask
 char_ask c =
     if c == 47 then Search
@@ -27,6 +27,7 @@ char_ask c =
     else if c == 125 || c == 93 then NextHeader
     else if c == 123 || c == 91 then PreviousHeader
     else if c == 63 || c == 104 then Help
+    else if c == 108 then Links
     else if c == 116 then Contents
     else if c == 113 then Quit
     else Nothing

@@ -45,6 +45,8 @@ pub enum Ask {
     Forget,
     /// The page that says what keys do.
     Help,
+    /// The addresses of links.
+    Links,
     /// The text's headers, to choose one.
     Contents,
     /// The size of the screen.
@@ -75,7 +77,8 @@ pub enum Command {
 /// | digits | a number |
 /// | `/`, `n`, `N`, Esc | a search, its next row, the one before; to forget it |
 /// | `}` `]`; `{` `[`; `t` | the next header, the one before; the contents |
-/// | `?` `h`; Control-L; `q`, Control-C | help; the size; the end |
+/// | `?` `h`; `l` | help; the addresses of links |
+/// | Control-L; `q`, Control-C | the size; the end |
 ///
 /// Other keys, and these with other modifiers, say nothing.
 pub fn command_of(key: KeyEvent) -> Command
@@ -153,6 +156,7 @@ fn char_ask(c: char) -> Ask
         '}' | ']' => Ask::NextHeader,
         '{' | '[' => Ask::PreviousHeader,
         '?' | 'h' => Ask::Help,
+        'l' => Ask::Links,
         't' => Ask::Contents,
         'q' => Ask::Quit,
         _ => Ask::Nothing,

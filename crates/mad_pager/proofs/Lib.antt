@@ -1,3 +1,5 @@
 pub mod DrawnLemmas
 pub mod OrderLemmas
+pub mod PagerOrder
 pub mod StepLemmas
+pub mod PagerSteps

@@ -24,7 +24,7 @@ use Rattle.mad_field.specs.Edits.{Outcome, edited, edited_if, is_wide, moved_dow
 use Rattle.mad_field.specs.Keys.{key_outcome, moved_by, removal, selecting_if}
 use Rattle.mad_field.specs.Keys as keys
 use Rattle.mad_page.specs.PageKeys.{after_command, after_key, after_kind, command_of, moved}
-use Rattle.mad_page.specs.Pages.{is_on_bar, shows_row}
+use Rattle.mad_page.specs.Pages.{in_sight, is_on_bar, shows_row}
 use Rattle.mad_page.specs.declared.commands.Command.{Command}
 use Rattle.mad_page.specs.declared.commands.Command.TheVariants.{Moves, Counts, Asks}
 use Rattle.mad_page.specs.declared.commands.Motion.{Motion}
@@ -36,7 +36,7 @@ use Rattle.mad_pager.specs.declared.sizes.ScreenSize.{ScreenSize}
 use Rattle.mad_page.specs.declared.page.Page.{Page}
 use Rattle.mad_format.specs.declared.line.FmtLine.{FmtLine}
 use Rattle.mad_layout.specs.declared.skin.MadSkin.{MadSkin}
-use Rattle.mad_pager.specs.Screens.{IsOrderly, TakeColumns}
+use Rattle.mad_pager.specs.Screens.{IsFieldInRow, IsOrderly, TakeColumns}
 use Rattle.mad_pager.specs.Sessions.{State, at_found, at_header, IsAnyKeyStep, IsAsked, IsEventStep, IsKeyStep, IsLaidAnew, IsLaidFor, IsMovedTo, IsResized, IsSettled, IsStart, IsTypeStep, field_row, typed}
 
 -- ---- what is typed
@@ -184,7 +184,8 @@ found_order skin text None s new e h = same_order skin text s _ new e refl (stil
 found_order skin text (Some row) s new e h =
     same_order skin text s _ new e refl (either_place (shows_row s.page row) s.page _ _ (still s.page) (record { columns = refl; rows = refl })) (stays s.field h.field.typed) h
 
-header_order : (skin : MadSkin) (text : List LineContent) (row : Option ℕ) (s new : State) → new ≡ at_header row s → IsOrderly skin text s → IsOrderly skin text new
+-- nor does a header that is put on top
+pub header_order : (skin : MadSkin) (text : List LineContent) (row : Option ℕ) (s new : State) → new ≡ at_header row s → IsOrderly skin text s → IsOrderly skin text new
 header_order skin text None s new e h = same_order skin text s _ new e refl (still s.page) (stays s.field h.field.typed) h
 header_order skin text (Some row) s new e h = same_order skin text s _ new e refl (record { columns = refl; rows = refl }) (stays s.field h.field.typed) h
 
@@ -255,16 +256,17 @@ moved_area columns rows s new at h =
       | inr narrow ↦ let e = h.other (λ place. narrow (ap (λ (a : Area). a.width) (place ∙ at))) in (ap (λ (f : Field). f.area) e, ap (λ (f : Field). f.content) e)
     ]
 
-resized_order : (skin : MadSkin) (text : List LineContent) (columns rows : ℕ) (s new : State) → IsResized skin text columns rows s new → IsOrderly skin text s → IsOrderly skin text new
+-- it is so on a screen of another size, whatever was laid out before
+pub resized_order : (skin : MadSkin) (text : List LineContent) (columns rows : ℕ) (s new : State) → IsResized skin text columns rows s new → IsFieldInRow s → IsOrderly skin text new
 resized_order skin text columns rows s new step h =
-    let moved = moved_area columns rows s new.field h.field.area step.field in
+    let moved = moved_area columns rows s new.field h.area step.field in
     let wide : new.page.columns ≡ columns = ap (λ (p : Page). p.columns) step.page in
     let high : new.page.rows ≡ rows = ap (λ (p : Page). p.rows) step.page in
     record {
       lines = subst (λ (n : ℕ). IsLaidFor skin text n new.lines) (sym wide) step.lines;
       field = record {
         area = moved.0 ∙ (ap (λ (n : ℕ). field_row n rows) (sym wide) ∙ ap (λ (n : ℕ). field_row new.page.columns n) (sym high));
-        typed = subst (λ (e : Editor). TakeColumns e.text) (sym moved.1) h.field.typed;
+        typed = subst (λ (e : Editor). TakeColumns e.text) (sym moved.1) h.typed;
       };
     }
 
@@ -275,7 +277,12 @@ heard_order skin text false columns rows s new e h = same_order skin text s _ ne
 
 settled_at : (skin : MadSkin) (text : List LineContent) (told : Option ScreenSize) (s new : State) → IsLaidAnew told skin text s new → IsOrderly skin text s → IsOrderly skin text new
 settled_at skin text None s new e h = subst (λ (x : State). IsOrderly skin text x) (sym e) h
-settled_at skin text (Some size) s new step h = resized_order skin text size.columns size.rows s new step h
+settled_at skin text (Some size) s new step h = resized_order skin text size.columns size.rows s new step h.field
+
+-- so does a row that is brought on the screen
+pub sight_order : (skin : MadSkin) (text : List LineContent) (row : ℕ) (s : State) → IsOrderly skin text s → IsOrderly skin text (record s { page = in_sight s.page row })
+sight_order skin text row s h =
+    kept_order skin text s (record s { page = in_sight s.page row }) refl (either_place (shows_row s.page row) s.page _ _ (still s.page) (record { columns = refl; rows = refl })) (stays s.field h.field.typed) h
 
 -- a text that is laid out anew leaves a session orderly
 pub settled_order : (skin : MadSkin) (text : List LineContent) (s new : State) → IsSettled skin text s new → IsOrderly skin text s → IsOrderly skin text new

@@ -1,3 +1,4 @@
+pub mod Pagers
 pub mod Pictures
 pub mod Screens
 pub mod Sessions

@@ -20,14 +20,16 @@ use Rattle.mad_rows.specs.RowStyles.{line_rules}
 use Rattle.mad_page.specs.PageKeys.{after_key, after_mouse, is_break}
 use Rattle.mad_page.specs.Pages.{in_sight, shows_row}
 use Rattle.mad_page.specs.declared.commands.Ask.{Ask}
-use Rattle.mad_page.specs.declared.commands.Ask.TheVariants.{Search, Next, Previous, NextHeader, PreviousHeader, Forget, Size, Quit}
+use Rattle.mad_page.specs.declared.commands.Ask.TheVariants.{Search, Next, Previous, NextHeader, PreviousHeader, Forget, Help, Links, Contents, Size, Quit}
 use Rattle.mad_page.specs.declared.page.Page.{Page}
 use Rattle.mad_search.specs.Headers.{next_header, previous_header}
 use Rattle.mad_search.specs.KeptRows.{ArePartStarts, row_in_parts}
 use Rattle.mad_search.specs.Searches.{IsNextRow, IsPreviousRow}
 use Rattle.mad_pager.specs.declared.session.Session.{Session}
+use Rattle.mad_pager.specs.declared.session.Overlay.{Overlay}
+use Rattle.mad_pager.specs.declared.session.Overlay.TheVariants as overlay
 use Rattle.mad_pager.specs.declared.session.Turn.{Turn}
-use Rattle.mad_pager.specs.declared.session.Turn.TheVariants.{Goes, AsksSize, Ends}
+use Rattle.mad_pager.specs.declared.session.Turn.TheVariants.{Goes, AsksSize, Opens, Ends}
 use Rattle.mad_pager.specs.declared.sizes.ScreenSize.{ScreenSize}
 
 -- ---- what it is of
@@ -200,6 +202,11 @@ IsSettled skin text s new = IsLaidAnew s.told skin text s new
 abbrev pub hears_size : ℕ → ℕ → State → State
 hears_size columns rows s = if nat_lt 1000000 (columns * rows) then s else record s { told = Some (record { columns = columns; rows = rows }) }
 
+-- the size that an event tells, if it tells one
+abbrev pub hears : Event → State → State
+hears (Resize columns rows) s = hears_size columns rows s
+hears event s = s
+
 -- what a key does
 pub record IsAnyKeyStep (key : KeyEvent) (s new : State) : Type 0 where
   pub typing : s.is_typing ≡ true → IsTypeStep key.code key s new
@@ -216,6 +223,9 @@ IsEventStep skin text event s new = new ≡ s
 abbrev pub turn_asked : Ask → Turn
 turn_asked Size = AsksSize
 turn_asked Quit = Ends
+turn_asked Help = Opens overlay.Help
+turn_asked Links = Opens overlay.Links
+turn_asked Contents = Opens overlay.Contents
 turn_asked ask = Goes
 
 -- how it goes on after a key while something is being typed: Control with `c` ends it then too
@@ -240,3 +250,8 @@ ends turn = false
 abbrev pub asks_size : Turn → Bool
 asks_size AsksSize = true
 asks_size turn = false
+
+-- the page that is to be opened over the text, if one is
+abbrev pub opens : Turn → Option Overlay
+opens (Opens overlay) = Some overlay
+opens turn = None

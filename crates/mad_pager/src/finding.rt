@@ -140,7 +140,7 @@ impl Session<'_> {
     }
 
     // Puts a row on top, if there is one.
-    fn put_on_top(&mut self, row: Option<usize>)
+    pub(crate) fn put_on_top(&mut self, row: Option<usize>)
         ensures done { state_of self.new ≡ at_header row (state_of self.old) }
         ensures text { HasSameText self.old self.new }
     {

@@ -7,10 +7,14 @@
 //! 3. [`typing`], [`finding`]: what is sought, and the rows that have it.
 //! 4. [`places`]: where all is on the screen; [`status`]: its last row.
 //! 5. [`picture`]: bytes that are drawn in memory; [`drawing`]: the whole screen.
+//! 6. [`help`]: the page of help; [`pager`]: a text, and a page over it while one is open.
 #![tactic(auto)]
 
 mod drawing;
 mod finding;
+mod help;
+mod over;
+mod pager;
 mod picture;
 mod places;
 mod session;
@@ -18,5 +22,7 @@ mod sizes;
 mod status;
 mod typing;
 
-pub use session::{Session, Turn};
+pub use mad_outline::Source;
+pub use pager::Pager;
+pub use session::{Overlay, Session, Turn};
 pub use sizes::ScreenSize;

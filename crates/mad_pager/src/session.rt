@@ -2,17 +2,28 @@
 
 ghost use Rattle.std.specs.Prelude.{◌≡◌, IfOk, OnOk};
 ghost use Rattle.mad_page.specs.PageKeys.{after_key};
-ghost use Rattle.mad_search.specs.PagedTexts.{paged_lines};
-ghost use Rattle.mad_pager.specs.Sessions.{asks_size, ends, state_of, turn_of, turn_of_key, turn_asked, turn_typed, HasSameText, IsAsked, IsAnyKeyStep, IsKeyStep, IsEventStep, IsStart};
+ghost use Rattle.mad_outline.specs.Sources.{source_lines};
+ghost use Rattle.mad_pager.specs.Sessions.{asks_size, ends, opens, state_of, turn_of, turn_of_key, turn_asked, turn_typed, HasSameText, IsAsked, IsAnyKeyStep, IsKeyStep, IsEventStep, IsStart};
 
 use crate::places::field_row;
 use crate::sizes::{ScreenSize, height_of, lay};
 use mad_field::InputField;
 use mad_layout::{FmtText, MadSkin};
+use mad_outline::Source;
 use mad_page::{Ask, Page, is_break};
-use mad_search::PagedText;
 use mad_term::{Event, KeyEvent};
 use std::alloc::{AllocError, Global};
+
+/// A page over a text.
+#[derive(Clone, Copy, Debug, PartialEq, Eq)]
+pub enum Overlay {
+    /// What keys do.
+    Help,
+    /// The addresses of the links on the screen.
+    Links,
+    /// The headers of the text, to choose one.
+    Contents,
+}
 
 /// How a session goes on after an event.
 #[derive(Clone, Copy, Debug, PartialEq, Eq)]
@@ -21,6 +32,8 @@ pub enum Turn {
     Goes,
     /// It goes on, and the terminal is to be asked for its size.
     AsksSize,
+    /// It goes on, and a page is to be opened over the text.
+    Opens(Overlay),
     /// It ends.
     Ends,
 }
@@ -39,15 +52,25 @@ impl Turn {
     {
         matches!(self, Turn::AsksSize)
     }
+
+    /// The page that is to be opened over the text, if one is.
+    pub fn opens(self) -> Option<Overlay>
+        ensures { result ≡ opens self }
+    {
+        match self {
+            Turn::Opens(overlay) => Some(overlay),
+            _ => None,
+        }
+    }
 }
 
-/// A text on a screen, and what is sought in it.
+/// A text on a screen, or a page over one, and what is sought in it.
 #[derive(Drop)]
 pub struct Session<'s> {
     /// The name of the text.
     pub name: &'s str,
-    /// The text, before it is laid out.
-    pub source: PagedText<'s>,
+    /// What is shown, before it is laid out.
+    pub source: Source<'s>,
     /// The text, laid out for the screen in its skin.
     pub text: FmtText<'s, 's>,
     /// The rows in which its parts begin, and last the count of all rows.
@@ -77,7 +100,7 @@ impl<'s> Session<'s> {
     pub fn new(
         alloc: Global,
         name: &'s str,
-        source: PagedText<'s>,
+        source: Source<'s>,
         skin: &'s MadSkin,
         columns: u16,
         rows: u16,
@@ -85,7 +108,7 @@ impl<'s> Session<'s> {
         ensures name { IfOk result (λ s. s.name ≡ name.entry) }
         ensures source { IfOk result (λ s. s.source ≡ source.entry) }
         ensures skin { IfOk result (λ s. s.text.skin.now ≡ skin.now) }
-        ensures start { IfOk result (λ s. IsStart skin.now (paged_lines source.entry) columns rows (state_of s)) }
+        ensures start { IfOk result (λ s. IsStart skin.now (source_lines source.entry) columns rows (state_of s)) }
     {
         let laid = lay(alloc, skin, source, columns)?;
         let page = Page {
@@ -118,7 +141,7 @@ impl<'s> Session<'s> {
     ///
     /// Out of memory is the only error.
     pub fn apply(&mut self, alloc: Global, event: Event) -> Result<Turn, AllocError>
-        ensures step { OnOk result (IsEventStep self.old.text.skin.now (paged_lines self.old.source) event (state_of self.old) (state_of self.new)) }
+        ensures step { OnOk result (IsEventStep self.old.text.skin.now (source_lines self.old.source) event (state_of self.old) (state_of self.new)) }
         ensures turn { IfOk result (λ turn. turn ≡ turn_of event (state_of self.old)) }
         ensures text { OnOk result (HasSameText self.old self.new) }
     {
@@ -193,7 +216,7 @@ impl<'s> Session<'s> {
                 self.forget();
                 Ok(())
             }
-            Ask::Size | Ask::Quit | Ask::Help | Ask::Contents | Ask::Nothing => Ok(()),
+            Ask::Size | Ask::Quit | Ask::Help | Ask::Links | Ask::Contents | Ask::Nothing => Ok(()),
         }
     }
 }
@@ -205,6 +228,9 @@ fn turn_asked(ask: Ask) -> Turn
     match ask {
         Ask::Size => Turn::AsksSize,
         Ask::Quit => Turn::Ends,
+        Ask::Help => Turn::Opens(Overlay::Help),
+        Ask::Links => Turn::Opens(Overlay::Links),
+        Ask::Contents => Turn::Opens(Overlay::Contents),
         _ => Turn::Goes,
     }
 }

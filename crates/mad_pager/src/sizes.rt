@@ -1,14 +1,16 @@
 //! The size of the screen: what the terminal tells of it, and the text laid out for it.
 
 ghost use Rattle.std.specs.Prelude.{◌≡◌, IfOk, OnOk, length};
-ghost use Rattle.mad_search.specs.PagedTexts.{paged_lines};
-ghost use Rattle.mad_pager.specs.Sessions.{hears_size, kept_row, state_of, AreStartsFor, HasSameText, IsLaidFor, IsResized, IsSettled};
+ghost use Rattle.mad_outline.specs.Sources.{source_lines};
+ghost use Rattle.mad_pager.specs.Sessions.{hears, hears_size, kept_row, state_of, AreStartsFor, HasSameText, IsLaidFor, IsResized, IsSettled};
 
 use crate::places::{field_row, layout_width};
 use crate::session::Session;
 use mad_layout::{FmtText, MadSkin};
+use mad_outline::Source;
 use mad_page::Page;
-use mad_search::{PagedText, row_in_parts};
+use mad_search::row_in_parts;
+use mad_term::Event;
 use std::alloc::{AllocError, Global};
 
 // The cells of the largest screen that is believed. The picture of one is held in memory.
@@ -30,7 +32,7 @@ impl<'s> Session<'s> {
     ///
     /// Out of memory is the only error.
     pub fn settle(&mut self, alloc: Global) -> Result<(), AllocError>
-        ensures settled { OnOk result (IsSettled self.old.text.skin.now (paged_lines self.old.source) (state_of self.old) (state_of self.new)) }
+        ensures settled { OnOk result (IsSettled self.old.text.skin.now (source_lines self.old.source) (state_of self.old) (state_of self.new)) }
         ensures text { OnOk result (HasSameText self.old self.new) }
     {
         if let Some(size) = self.told {
@@ -38,6 +40,17 @@ impl<'s> Session<'s> {
             return Ok(());
         }
         Ok(())
+    }
+
+    // Takes the size that an event tells, if it tells one.
+    pub(crate) fn hear(&mut self, event: Event)
+        ensures told { state_of self.new ≡ hears event (state_of self.old) }
+        ensures text { HasSameText self.old self.new }
+    {
+        match event {
+            Event::Resize(columns, rows) => self.hear_size(columns, rows),
+            _ => {}
+        }
     }
 
     // Takes the size that the terminal tells. A screen of more than a million cells isn't believed.
@@ -51,8 +64,13 @@ impl<'s> Session<'s> {
     }
 
     // The screen has another size: the text is laid out for it, and what was on top stays there.
-    fn resize(&mut self, alloc: Global, columns: u16, rows: u16) -> Result<(), AllocError>
-        ensures step { OnOk result (IsResized self.old.text.skin.now (paged_lines self.old.source) columns rows (state_of self.old) (state_of self.new)) }
+    pub(crate) fn resize(
+        &mut self,
+        alloc: Global,
+        columns: u16,
+        rows: u16,
+    ) -> Result<(), AllocError>
+        ensures step { OnOk result (IsResized self.old.text.skin.now (source_lines self.old.source) columns rows (state_of self.old) (state_of self.new)) }
         ensures text { OnOk result (HasSameText self.old self.new) }
     {
         let laid = lay(alloc, self.text.skin, self.source, columns)?;
@@ -99,12 +117,12 @@ pub(crate) struct Laid<'s> {
 pub(crate) fn lay<'s>(
     alloc: Global,
     skin: &'s MadSkin,
-    source: PagedText<'s>,
+    source: Source<'s>,
     columns: u16,
 ) -> Result<Laid<'s>, AllocError>
     ensures skin { IfOk result (λ laid. laid.text.skin.now ≡ skin.now) }
-    ensures lines { IfOk result (λ laid. IsLaidFor skin.now (paged_lines source.entry) columns laid.text.lines.items) }
-    ensures starts { IfOk result (λ laid. AreStartsFor skin.now (paged_lines source.entry) columns laid.starts.items) }
+    ensures lines { IfOk result (λ laid. IsLaidFor skin.now (source_lines source.entry) columns laid.text.lines.items) }
+    ensures starts { IfOk result (λ laid. AreStartsFor skin.now (source_lines source.entry) columns laid.starts.items) }
 {
     let width = layout_width(columns);
     let layout = source.lay(alloc, skin, width)?;

@@ -1,17 +1,16 @@
 -- Bytes that are read one after the other, and their events.
-use Rattle.std.proofs.Common.{◌≡◌, ◌≢◌, ℕ, ◌+◌, ◌<◌, ◌≤◌, ◌==◌, ◌||◌, Bool, true, false, List, [], ◌∷◌, ◌++◌, take, drop, length, get_or, Option, Some, None, refl, ap, sym, ◌∙◌, subst, append_assoc, if◌then◌else◌}
+use Rattle.std.proofs.Common.{◌≡◌, ◌≢◌, ℕ, ◌+◌, ◌<◌, ◌≤◌, ◌==◌, ◌||◌, Bool, true, false, not, List, [], ◌∷◌, ◌++◌, take, drop, length, get_or, Option, Some, None, refl, ap, sym, ◌∙◌, subst, append_assoc, if◌then◌else◌}
 use Rattle.std.proofs.lemmas.List.{append-nil, take_more, take_all, take-append-drop}
 use Rattle.mad_term.specs.declared.events.Event.{Event}
 use Rattle.mad_term.specs.declared.events.Event.TheVariants.{Key}
 use Rattle.mad_keys.specs.Decoding.{ByteGives, BytesGive, PauseGives}
 use Rattle.mad_keys.specs.Readings.{listed, lone_escape}
 use Rattle.mad_keys.specs.Keys.{escape_key}
-use Rattle.mad_layout.specs.declared.skin.MadSkin.{MadSkin}
-use Rattle.mad_md.specs.Lines.{LineContent}
-use Rattle.mad_pager.specs.Sessions.{State, IsEventStep, IsSettled, HasSameText, asks_size, ends, turn_of}
-use Rattle.mad_pager.specs.declared.session.Session.{Session}
+use Rattle.mad_pager.specs.Pagers.{Leaf, View, IsStep, has_choice, key_over, turn_answered, turn_at, turn_in}
+use Rattle.mad_pager.specs.Sessions.{State, asks_size, ends}
+use Rattle.mad_pager.specs.declared.over.Answer.TheVariants.{Passes}
 use Rattle.mad_pager.specs.declared.session.Turn.{Turn}
-use Rattle.mad_pager.specs.declared.session.Turn.TheVariants.{Goes, AsksSize, Ends}
+use Rattle.mad_pager.specs.declared.session.Turn.TheVariants.{Goes, AsksSize, Opens, Ends}
 use Rattle.termimad_page_run.specs.Blocks.{IsToldStep, IsToldDone, turn_told, IsSession, AreEventsDone, IsEndedIn}
 
 -- ---- how a session goes on
@@ -20,20 +19,10 @@ pub ends_is : (turn : Turn) → ends turn ≡ true → turn ≡ Ends
 ends_is Ends h = refl
 ends_is Goes h = absurd (cc)
 ends_is AsksSize h = absurd (cc)
+ends_is (Opens overlay) h = absurd (cc)
 
 pub goes_on : (turn : Turn) → ends turn ≡ false → turn ≢ Ends
 goes_on turn h e = let f : ends Ends ≡ false = subst (λ (t : Turn). ends t ≡ false) e h in absurd (cc)
-
--- the text stays the same
-pub same_text : (a b c : Session) → HasSameText a b → HasSameText b c → HasSameText a c
-same_text a b c h k = record { name = k.name ∙ h.name; source = k.source ∙ h.source; skin = k.skin ∙ h.skin }
-
-pub step_along : (skin dress : MadSkin) (lines text : List LineContent) (told : Option Event) (s new : State) → dress ≡ skin → text ≡ lines → IsToldStep dress text told s new → IsToldStep skin lines told s new
-step_along skin dress lines text told s new e k h =
-    subst (λ (d : MadSkin). IsToldStep d lines told s new) e (subst (λ (m : List LineContent). IsToldStep dress m told s new) k h)
-
-pub settled_along : (skin dress : MadSkin) (lines text : List LineContent) (s new : State) → dress ≡ skin → text ≡ lines → IsSettled dress text s new → IsSettled skin lines s new
-settled_along skin dress lines text s new e k h = subst (λ (d : MadSkin). IsSettled d lines s new) e (subst (λ (m : List LineContent). IsSettled dress m s new) k h)
 
 -- ---- bytes
 
@@ -66,65 +55,75 @@ or_assoc true b c = refl
 or_assoc false b c = refl
 
 -- one event alone
-event_done : (skin : MadSkin) (lines : List LineContent) (s : State) (event : Event) (new : State) (asks : Bool)
-    → IsEventStep skin lines event s new → turn_of event s ≢ Ends → asks ≡ false → IsSession skin lines s (event ∷ []) (asks || asks_size (turn_of event s)) new
-event_done skin lines s event new asks step goes none =
-    (new, false, step, goes, ap (λ (b : Bool). b || asks_size (turn_of event s)) none ∙ sym (or_false (asks_size (turn_of event s))), (refl, refl))
+event_done : (s : View) (event : Event) (new : View) (asks : Bool)
+    → IsStep event s new → turn_in event s ≢ Ends → asks ≡ false → IsSession s (event ∷ []) (asks || asks_size (turn_in event s)) new
+event_done s event new asks step goes none =
+    (new, false, step, goes, ap (λ (b : Bool). b || asks_size (turn_in event s)) none ∙ sym (or_false (asks_size (turn_in event s))), (refl, refl))
 
-event_more : (skin : MadSkin) (lines : List LineContent) (s : State) (events : List Event) (asks : Bool) (mid : State) (event : Event) (new : State)
-    → IsSession skin lines s events asks mid → IsEventStep skin lines event mid new → turn_of event mid ≢ Ends
-    → IsSession skin lines s (events ++ event ∷ []) (asks || asks_size (turn_of event mid)) new
-event_more skin lines s [] asks mid event new (none, same) step goes =
-    subst (λ (m : State). IsEventStep skin lines event m new → turn_of event m ≢ Ends → IsSession skin lines s (event ∷ []) (asks || asks_size (turn_of event m)) new) (sym same)
-    (λ first on. event_done skin lines s event new asks first on none) step goes
-event_more skin lines s (e ∷ events) asks mid event new (next, others, one, first, is, rest) step goes =
-    let x = asks_size (turn_of event mid) in (
+event_more : (s : View) (events : List Event) (asks : Bool) (mid : View) (event : Event) (new : View)
+    → IsSession s events asks mid → IsStep event mid new → turn_in event mid ≢ Ends
+    → IsSession s (events ++ event ∷ []) (asks || asks_size (turn_in event mid)) new
+event_more s [] asks mid event new (none, same) step goes =
+    subst (λ (m : View). IsStep event m new → turn_in event m ≢ Ends → IsSession s (event ∷ []) (asks || asks_size (turn_in event m)) new) (sym same)
+    (λ first on. event_done s event new asks first on none) step goes
+event_more s (e ∷ events) asks mid event new (next, others, one, first, is, rest) step goes =
+    let x = asks_size (turn_in event mid) in (
       next,
       others || x,
       one,
       first,
-      ap (λ (b : Bool). b || x) is ∙ or_assoc (asks_size (turn_of e s)) others x,
-      event_more skin lines next events others mid event new rest step goes,
+      ap (λ (b : Bool). b || x) is ∙ or_assoc (asks_size (turn_in e s)) others x,
+      event_more next events others mid event new rest step goes,
     )
 
 -- what was told is done too
-told_done : (skin : MadSkin) (lines : List LineContent) (s : State) (events : List Event) (asks : Bool) (mid : State) (told : Option Event) (new : State)
-    → IsSession skin lines s events asks mid → IsToldStep skin lines told mid new → turn_told told mid ≢ Ends
-    → IsSession skin lines s (events ++ listed told) (asks || asks_size (turn_told told mid)) new
-told_done skin lines s events asks mid None new h same goes =
-    subst (λ (b : Bool). IsSession skin lines s (events ++ []) b new) (sym (or_false asks))
-    (subst (λ (es : List Event). IsSession skin lines s es asks new) (sym (append-nil events)) (subst (λ (n : State). IsSession skin lines s events asks n) (sym same) h))
-told_done skin lines s events asks mid (Some event) new h step goes = event_more skin lines s events asks mid event new h step goes
+told_done : (s : View) (events : List Event) (asks : Bool) (mid : View) (told : Option Event) (new : View)
+    → IsSession s events asks mid → IsToldStep told mid new → turn_told told mid ≢ Ends
+    → IsSession s (events ++ listed told) (asks || asks_size (turn_told told mid)) new
+told_done s events asks mid None new h same goes =
+    subst (λ (b : Bool). IsSession s (events ++ []) b new) (sym (or_false asks))
+    (subst (λ (es : List Event). IsSession s es asks new) (sym (append-nil events)) (subst (λ (n : View). IsSession s events asks n) (sym same) h))
+told_done s events asks mid (Some event) new h step goes = event_more s events asks mid event new h step goes
 
-pub session_more : (skin : MadSkin) (lines : List LineContent) (s : State) (events : List Event) (asks : Bool) (mid : State) (told : Option Event) (new : State) (asked : Bool)
-    → IsSession skin lines s events asks mid → IsToldStep skin lines told mid new → turn_told told mid ≢ Ends → asked ≡ asks_size (turn_told told mid)
-    → IsSession skin lines s (events ++ listed told) (asks || asked) new
-session_more skin lines s events asks mid told new asked h step goes is =
-    subst (λ (b : Bool). IsSession skin lines s (events ++ listed told) (asks || b) new) (sym is) (told_done skin lines s events asks mid told new h step goes)
+pub session_more : (s : View) (events : List Event) (asks : Bool) (mid : View) (told : Option Event) (new : View) (asked : Bool)
+    → IsSession s events asks mid → IsToldStep told mid new → turn_told told mid ≢ Ends → asked ≡ asks_size (turn_told told mid)
+    → IsSession s (events ++ listed told) (asks || asked) new
+session_more s events asks mid told new asked h step goes is =
+    subst (λ (b : Bool). IsSession s (events ++ listed told) (asks || b) new) (sym is) (told_done s events asks mid told new h step goes)
 
 -- what a pause tells is done too, and asks for nothing
-pause_more : (skin : MadSkin) (lines : List LineContent) (s : State) (events : List Event) (asks : Bool) (mid : State) (told : Option Event) (new : State)
-    → IsSession skin lines s events asks mid → IsToldDone skin lines told mid new → IsSession skin lines s (events ++ listed told) asks new
-pause_more skin lines s events asks mid told new h (step, goes) =
+pause_more : (s : View) (events : List Event) (asks : Bool) (mid : View) (told : Option Event) (new : View)
+    → IsSession s events asks mid → IsToldDone told mid new → IsSession s (events ++ listed told) asks new
+pause_more s events asks mid told new h (step, goes) =
     let on : turn_told told mid ≢ Ends = λ e. let f : Goes ≡ Ends = sym goes ∙ e in absurd (cc) in
-    subst (λ (b : Bool). IsSession skin lines s (events ++ listed told) b new) (ap (λ (t : Turn). asks || asks_size t) goes ∙ or_false asks)
-    (told_done skin lines s events asks mid told new h step on)
+    subst (λ (b : Bool). IsSession s (events ++ listed told) b new) (ap (λ (t : Turn). asks || asks_size t) goes ∙ or_false asks)
+    (told_done s events asks mid told new h step on)
 
 -- Esc never ends a session
-escape_goes : (typing : Bool) → (if typing then Goes else Goes) ≡ Goes
-escape_goes true = refl
-escape_goes false = refl
+typing_goes : (typing : Bool) → (if typing then Goes else Goes) ≡ Goes
+typing_goes true = refl
+typing_goes false = refl
 
-pub pause_goes : (w : List ℕ) (s : State) → turn_told (lone_escape w) s ≡ Goes
+-- nor does it on a page over the text
+over_goes : (typing choice : Bool) (s : State) → s.is_typing ≡ typing → turn_answered (if typing then Passes else key_over escape_key choice) (Key escape_key) s ≡ Goes
+over_goes true choice s is = ap (λ (b : Bool). if b then Goes else Goes) is
+over_goes false true s is = refl
+over_goes false false s is = refl
+
+escape_goes : (over : Option Leaf) (text : Leaf) → turn_at over (Key escape_key) text ≡ Goes
+escape_goes None text = typing_goes text.state.is_typing
+escape_goes (Some over) text = over_goes over.state.is_typing (has_choice over.content) over.state refl
+
+pub pause_goes : (w : List ℕ) (s : View) → turn_told (lone_escape w) s ≡ Goes
 pause_goes [] s = refl
-pause_goes (a ∷ []) s = elim (a == 27) as (λ b. turn_told (if b then Some (Key escape_key) else None) s ≡ Goes) [ true ↦ escape_goes s.is_typing | false ↦ refl ]
+pause_goes (a ∷ []) s = elim (a == 27) as (λ b. turn_told (if b then Some (Key escape_key) else None) s ≡ Goes) [ true ↦ escape_goes s.over s.text | false ↦ refl ]
 pause_goes (a ∷ b ∷ w) s = refl
 
 -- an event ends the session
-pub ended : (skin : MadSkin) (lines : List LineContent) (w block : List ℕ) (i : ℕ) (s : State) (events : List Event) (asks : Bool) (mid : State) (told : Option Event) (left : List ℕ)
-    → BytesGive w (take i block) (events ++ listed told) left → IsSession skin lines s events asks mid → turn_told told mid ≡ Ends → IsEndedIn skin lines w block s
-ended skin lines w block i s events asks mid None left read done ends = absurd (cc)
-ended skin lines w block i s events asks mid (Some event) left read done ends = record {
+pub ended : (w block : List ℕ) (i : ℕ) (s : View) (events : List Event) (asks : Bool) (mid : View) (told : Option Event) (left : List ℕ)
+    → BytesGive w (take i block) (events ++ listed told) left → IsSession s events asks mid → turn_told told mid ≡ Ends → IsEndedIn w block s
+ended w block i s events asks mid None left read done ends = absurd (cc)
+ended w block i s events asks mid (Some event) left read done ends = record {
   front = take i block;
   rest = drop i block;
   whole = take-append-drop i block;
@@ -145,9 +144,9 @@ byte_read w block i events left told new inside read gives =
     subst (λ (l : List ℕ). BytesGive w l (events ++ listed told) new) (sym (take_more block i 0 inside)) (told_more w (take i block) (get_or block i 0) events left told new read gives)
 
 -- all of a block is read, and no pause comes
-pub block_read : (skin : MadSkin) (lines : List LineContent) (w block : List ℕ) (i : ℕ) (s : State) (events : List Event) (left : List ℕ) (asks : Bool) (new : State) (pauses answer : Bool)
-    → length block ≤ i → pauses ≡ false → BytesGive w (take i block) events left → IsSession skin lines s events asks new → answer ≡ asks → AreEventsDone skin lines w block pauses s left answer new
-block_read skin lines w block i s events left asks new pauses answer past unpaused read done same = record {
+pub block_read : (w block : List ℕ) (i : ℕ) (s : View) (events : List Event) (left : List ℕ) (asks : Bool) (new : View) (pauses answer : Bool)
+    → length block ≤ i → pauses ≡ false → BytesGive w (take i block) events left → IsSession s events asks new → answer ≡ asks → AreEventsDone w block pauses s left answer new
+block_read w block i s events left asks new pauses answer past unpaused read done same = record {
   events = events;
   told = record {
     before = left;
@@ -158,14 +157,14 @@ block_read skin lines w block i s events left asks new pauses answer past unpaus
     none = λ is. (refl, refl);
     all = sym (append-nil events);
   };
-  session = subst (λ (b : Bool). IsSession skin lines s events b new) (sym same) done;
+  session = subst (λ (b : Bool). IsSession s events b new) (sym same) done;
 }
 
 -- or one comes
-pub block_paused : (skin : MadSkin) (lines : List LineContent) (w block : List ℕ) (i : ℕ) (s : State) (events : List Event) (left : List ℕ) (asks : Bool) (mid : State) (pauses answer : Bool) (told : Option Event) (after : List ℕ) (new : State)
-    → length block ≤ i → pauses ≡ true → BytesGive w (take i block) events left → IsSession skin lines s events asks mid → answer ≡ asks → PauseGives left told after → IsToldDone skin lines told mid new
-    → AreEventsDone skin lines w block pauses s after answer new
-block_paused skin lines w block i s events left asks mid pauses answer told after new past paused read done same gives step = record {
+pub block_paused : (w block : List ℕ) (i : ℕ) (s : View) (events : List Event) (left : List ℕ) (asks : Bool) (mid : View) (pauses answer : Bool) (told : Option Event) (after : List ℕ) (new : View)
+    → length block ≤ i → pauses ≡ true → BytesGive w (take i block) events left → IsSession s events asks mid → answer ≡ asks → PauseGives left told after → IsToldDone told mid new
+    → AreEventsDone w block pauses s after answer new
+block_paused w block i s events left asks mid pauses answer told after new past paused read done same gives step = record {
   events = events ++ listed told;
   told = record {
     before = left;
@@ -176,5 +175,5 @@ block_paused skin lines w block i s events left asks mid pauses answer told afte
     none = λ is. let e : true ≡ false = sym paused ∙ is in absurd (cc);
     all = refl;
   };
-  session = subst (λ (b : Bool). IsSession skin lines s (events ++ listed told) b new) (sym same) (pause_more skin lines s events asks mid told new done step);
+  session = subst (λ (b : Bool). IsSession s (events ++ listed told) b new) (sym same) (pause_more s events asks mid told new done step);
 }

@@ -8,18 +8,17 @@ use Rattle.std.proofs.lemmas.Str.{encodes-append}
 use Rattle.mad_term.specs.Trace.{Trace, ahead_all, Filled}
 use Rattle.mad_term.specs.declared.errors.Error.{Error}
 use Rattle.mad_term.specs.declared.events.Event.{Event}
-use Rattle.mad_layout.specs.declared.skin.MadSkin.{MadSkin}
 use Rattle.mad_md.specs.Lines.{LineContent}
-use Rattle.mad_search.specs.PagedTexts.{paged_lines}
-use Rattle.mad_search.specs.declared.paged.PagedText.{PagedText}
-use Rattle.mad_pager.specs.Screens.{IsOrderly, IsShown}
-use Rattle.mad_pager.proofs.OrderLemmas.{event_order, settled_order, start_order}
-use Rattle.mad_pager.specs.Sessions.{State, HasSameText, IsStart, state_of}
-use Rattle.mad_pager.specs.declared.session.Session.{Session}
+use Rattle.markdown_reader.specs.MarkdownSays.{LinkSaid}
+use Rattle.mad_outline.specs.Sources.{TextSaid}
+use Rattle.mad_pager.proofs.PagerOrder.{opened_order, step_order, view_settled_order}
+use Rattle.mad_pager.specs.Pagers.{View, IsOpened, IsOrderlyView, IsViewShown, view_of}
+use Rattle.mad_pager.specs.declared.pager.Pager.{Pager}
 use Rattle.termimad_page_run.specs.Blocks.{IsBlockDone, IsSession}
-use Rattle.termimad_page_run.specs.Runs.{AreTurns, EndsAtInput, IsBrokenOff, IsBrokenRun, IsPaged, IsTurn, IsTurned, Moment, Paged, block_room, lines_in, moment, name_row, paged, paged_of, row_char, sheet_lines, shown_text}
-use Rattle.markdown_reader.specs.Markdown.{markdown_lines}
+use Rattle.termimad_page_run.specs.Runs.{AreTurns, EndsAtInput, IsBrokenOff, IsBrokenRun, IsPaged, IsTurn, IsTurned, Moment, block_room, moment, name_row, printed_text, row_char, said_in, sheet_said, shown_text}
+use Rattle.markdown_reader.specs.Markdown.{markdown_lines, markdown_links}
 use Rattle.mad_md.specs.Reading.{unread_text}
+use Rattle.mad_steady.specs.Steady.{steady_text}
 use Rattle.mad_md.specs.Scan.{lines_of}
 use Rattle.termimad_page_run.specs.declared.program.Grammar.{Grammar}
 use Rattle.termimad_page_run.specs.declared.program.Grammar.TheVariants.{Lines, Markdown}
@@ -61,91 +60,76 @@ ended_input old new buffer count none h some = record {
 
 -- ---- turns
 
--- the same is paged where the text is the same
-pub same_paged : (old new : Session) → HasSameText old new → paged_of new ≡ paged_of old
-same_paged old new h = cc (h.name, h.source, h.skin)
+-- the sessions stay orderly
+session_order : (events : List Event) (v : View) (asks : Bool) (new : View) → IsSession v events asks new → IsOrderlyView v → IsOrderlyView new
+session_order [] v asks new (none, same) h = subst IsOrderlyView (sym same) h
+session_order (event ∷ events) v asks new (mid, others, step, goes, is, rest) h = session_order events mid others new rest (step_order event v mid step h)
 
--- a session stays orderly
-session_order : (skin : MadSkin) (markdown : List LineContent) (events : List Event) (s : State) (asks : Bool) (new : State) → IsSession skin markdown s events asks new → IsOrderly skin markdown s → IsOrderly skin markdown new
-session_order skin markdown [] s asks new (none, same) h = subst (λ (x : State). IsOrderly skin markdown x) (sym same) h
-session_order skin markdown (event ∷ events) s asks new (mid, others, step, goes, is, rest) h = session_order skin markdown events mid others new rest (event_order skin markdown event s mid step h)
-
-pub turn_order : (old new : Session) (block : List ℕ) (before after : Moment) → HasSameText old new → IsTurn (paged_of old) block before after → IsOrderly new.text.skin.now (paged_lines new.source) after.state
-turn_order old new block before after same turn =
+pub turn_order : (block : List ℕ) (before after : Moment) → IsTurn block before after → IsOrderlyView after.view
+turn_order block before after turn =
     let done = turn.done in
-    let told = session_order old.text.skin.now (paged_lines old.source) done.1.events before.state after.asks done.0 done.1.session turn.orderly in
-    let orderly = settled_order old.text.skin.now (paged_lines old.source) done.0 after.state done.2 told in
-    subst (λ (skin : MadSkin). IsOrderly skin (paged_lines new.source) after.state) (sym same.skin) (subst (λ (text : PagedText). IsOrderly old.text.skin.now (paged_lines text) after.state) (sym same.source) orderly)
-
--- the start is orderly
-pub begun_order : (session : Session) (skin : MadSkin) (text : PagedText) (columns rows : ℕ) → session.text.skin.now ≡ skin → session.source ≡ text → IsStart skin (paged_lines text) columns rows (state_of session)
-    → IsOrderly session.text.skin.now (paged_lines session.source) (state_of session)
-begun_order session skin text columns rows dressed marked start =
-    subst (λ (k : MadSkin). IsOrderly k (paged_lines session.source) (state_of session)) (sym dressed)
-    (subst (λ (t : PagedText). IsOrderly skin (paged_lines t) (state_of session)) (sym marked) (start_order skin (paged_lines text) columns rows (state_of session) start))
+    view_settled_order done.0 after.view done.2 (session_order done.1.events before.view after.asks done.0 done.1.session turn.orderly)
 
 -- one turn more
-turns_more : (p : Paged) (blocks : List (List ℕ)) (block : List ℕ) (old mid new : Moment) → AreTurns p blocks old mid → IsTurn p block mid new → AreTurns p (blocks ++ block ∷ []) old new
-turns_more p [] block old mid new same turn = (new, subst (λ (m : Moment). IsTurn p block m new) same turn, refl)
-turns_more p (b ∷ blocks) block old mid new (next, one, more) turn = (next, one, turns_more p blocks block next mid new more turn)
+turns_more : (blocks : List (List ℕ)) (block : List ℕ) (old mid new : Moment) → AreTurns blocks old mid → IsTurn block mid new → AreTurns (blocks ++ block ∷ []) old new
+turns_more [] block old mid new same turn = (new, subst (λ (m : Moment). IsTurn block m new) same turn, refl)
+turns_more (b ∷ blocks) block old mid new (next, one, more) turn = (next, one, turns_more blocks block next mid new more turn)
 
 -- the same of what is equal
-pub turn_made : (p q : Paged) (blocks : List (List ℕ)) (block : List ℕ) (old mid : Moment) (session : Session) (waits : List ℕ) (asks told : Bool) (input out : Trace)
-    → q ≡ p → told ≡ asks → AreTurns p blocks old mid → IsTurn q block mid (moment session waits asks input out) → AreTurns p (blocks ++ block ∷ []) old (moment session waits told input out)
-turn_made p q blocks block old mid session waits asks told input out same is turns turn =
-    subst (λ (a : Bool). AreTurns p (blocks ++ block ∷ []) old (moment session waits a input out)) (sym is)
-    (turns_more p blocks block old mid (moment session waits asks input out) turns (subst (λ (x : Paged). IsTurn x block mid (moment session waits asks input out)) same turn))
+pub turn_made : (blocks : List (List ℕ)) (block : List ℕ) (old mid : Moment) (pager : Pager) (waits : List ℕ) (asks told : Bool) (input out : Trace)
+    → told ≡ asks → AreTurns blocks old mid → IsTurn block mid (moment pager waits asks input out) → AreTurns (blocks ++ block ∷ []) old (moment pager waits told input out)
+turn_made blocks block old mid pager waits asks told input out is turns turn =
+    subst (λ (a : Bool). AreTurns (blocks ++ block ∷ []) old (moment pager waits a input out)) (sym is) (turns_more blocks block old mid (moment pager waits asks input out) turns turn)
 
 -- a block that was read by one fill is done
-pub block_done : (p : Paged) (s new : State) (waits left block buffer : List ℕ) (count : ℕ) (asks : Bool) (old_input new_input old_out new_out : Trace) (before : Bool)
-    → IsOrderly p.skin p.text s → IsShown p.skin p.name before s old_out new_out → Filled old_input buffer count new_input → 0 < count → block ≡ take count buffer → IsBlockDone p.skin p.text waits block (nat_lt count block_room) s left asks new
-    → IsTurn p block (record { state = s; waits = waits; asks = before; input = old_input; out = old_out }) (record { state = new; waits = left; asks = asks; input = new_input; out = new_out })
-block_done p s new waits left block buffer count asks old_input new_input old_out new_out before orderly shown filled some is done =
+pub block_done : (v new : View) (waits left block buffer : List ℕ) (count : ℕ) (asks : Bool) (old_input new_input old_out new_out : Trace) (before : Bool)
+    → IsOrderlyView v → IsViewShown before v old_out new_out → Filled old_input buffer count new_input → 0 < count → block ≡ take count buffer → IsBlockDone waits block (nat_lt count block_room) v left asks new
+    → IsTurn block (record { view = v; waits = waits; asks = before; input = old_input; out = old_out }) (record { view = new; waits = left; asks = asks; input = new_input; out = new_out })
+block_done v new waits left block buffer count asks old_input new_input old_out new_out before orderly shown filled some is done =
     let long : length block ≡ count = ap length is ∙ length-take-le count buffer filled.within in
     record {
       orderly = orderly;
       shown = shown;
       some = omega (arith, long);
       read = filled.handed_out ∙ ap (λ (b : List ℕ). ahead_all b new_input) (sym is);
-      done = subst (λ (n : ℕ). IsBlockDone p.skin p.text waits block (nat_lt n block_room) s left asks new) (sym long) done;
+      done = subst (λ (n : ℕ). IsBlockDone waits block (nat_lt n block_room) v left asks new) (sym long) done;
     }
 
 -- ---- the end
 
 -- what is left at a `?` that made this error
-pub broken_exit : (p : Paged) (s : State) (old_input new_input old_out new_out : Trace) (r : Result Unit Error) (e : Error) → IsErrAnd r (λ d. d ≡ e) → IsBrokenOff p s e old_input new_input old_out new_out
-    → MatchResult r (λ _. IsTurned p s old_input new_input old_out new_out) (λ d. IsBrokenOff p s d old_input new_input old_out new_out)
-broken_exit p s old_input new_input old_out new_out r e is h =
+pub broken_exit : (v : View) (old_input new_input old_out new_out : Trace) (r : Result Unit Error) (e : Error) → IsErrAnd r (λ d. d ≡ e) → IsBrokenOff v e old_input new_input old_out new_out
+    → MatchResult r (λ _. IsTurned v old_input new_input old_out new_out) (λ d. IsBrokenOff v d old_input new_input old_out new_out)
+broken_exit v old_input new_input old_out new_out r e is h =
     let q = err_from_is_err_and r is in
-    subst (λ (t : Result Unit Error). MatchResult t (λ _. IsTurned p s old_input new_input old_out new_out) (λ d. IsBrokenOff p s d old_input new_input old_out new_out)) (sym (q.1 ∙ ap Err q.2)) h
+    subst (λ (t : Result Unit Error). MatchResult t (λ _. IsTurned v old_input new_input old_out new_out) (λ d. IsBrokenOff v d old_input new_input old_out new_out)) (sym (q.1 ∙ ap Err q.2)) h
 
--- the lines of a text that is shown as it is printable
-pub lines_said : (grammar : Grammar) (text shown : List ℕ) → grammar ≡ Lines → shown ≡ shown_text text → lines_of (unread_text false shown) ≡ lines_in grammar text
-lines_said grammar text shown is e = ap (λ (t : List ℕ). lines_of (unread_text false t)) e ∙ ap (λ (g : Grammar). lines_in g text) (sym is)
+-- a text that is shown: it is made steady of what is printable of it
+pub shown_by : (text printed shown : List ℕ) → printed ≡ printed_text text → shown ≡ encode_utf8_all (steady_text (chars printed)) → shown ≡ shown_text text
+shown_by text printed shown e is = is ∙ ap (λ (t : List ℕ). encode_utf8_all (steady_text (chars t))) e
 
--- those of Markdown that was read
-pub markdown_said : (grammar : Grammar) (text : List ℕ) (said : List LineContent) → grammar ≡ Markdown → said ≡ markdown_lines text → said ≡ lines_in grammar text
-markdown_said grammar text said is e = e ∙ ap (λ (g : Grammar). lines_in g text) (sym is)
+-- what a text says that is shown so
+pub lines_said : (grammar : Grammar) (text shown : List ℕ) → grammar ≡ Lines → shown ≡ shown_text text → record { lines = lines_of (unread_text false shown); links = None } ≡ said_in grammar text
+lines_said grammar text shown is e =
+    ap (λ (t : List ℕ). let s : TextSaid = record { lines = lines_of (unread_text false t); links = None } in s) e ∙ ap (λ (g : Grammar). said_in g text) (sym is)
+
+-- what Markdown says that was read
+pub markdown_said : (grammar : Grammar) (text : List ℕ) (said : List LineContent) (links : List LinkSaid) → grammar ≡ Markdown → said ≡ markdown_lines text → links ≡ markdown_links text → record { lines = said; links = Some links } ≡ said_in grammar text
+markdown_said grammar text said links is e f =
+    ap (λ (l : List LineContent). let s : TextSaid = record { lines = l; links = Some links } in s) e
+    ∙ (ap (λ (l : List LinkSaid). let s : TextSaid = record { lines = markdown_lines text; links = Some l } in s) f ∙ ap (λ (g : Grammar). said_in g text) (sym is))
+
+-- what was opened, along what is equal
+pub opened_along : (sheet : Sheet) (v : View) (name : List ℕ) (text : TextSaid) → name ≡ name_row sheet.name.now → text ≡ sheet_said sheet → IsOpened sheet.skin.now name text sheet.columns sheet.rows v
+    → IsOpened sheet.skin.now (name_row sheet.name.now) (sheet_said sheet) sheet.columns sheet.rows v
+opened_along sheet v name text row said h =
+    subst (λ (t : TextSaid). IsOpened sheet.skin.now (name_row sheet.name.now) t sheet.columns sheet.rows v) said
+    (subst (λ (n : List ℕ). IsOpened sheet.skin.now n text sheet.columns sheet.rows v) row h)
 
 -- a run from the start of a sheet's text
-pub sheet_paged : (sheet : Sheet) (session : Session) (name : List ℕ) (text : PagedText) (r : Result Unit Error) (old_input new_input old_out new_out : Trace)
-    → session.name.now ≡ name → name ≡ name_row sheet.name.now → session.source ≡ text → paged_lines text ≡ sheet_lines sheet → session.text.skin.now ≡ sheet.skin.now
-    → IsStart sheet.skin.now (paged_lines text) sheet.columns sheet.rows (state_of session)
-    → MatchResult r (λ _. IsTurned (paged_of session) (state_of session) old_input new_input old_out new_out) (λ e. IsBrokenOff (paged_of session) (state_of session) e old_input new_input old_out new_out)
+pub sheet_paged : (sheet : Sheet) (v : View) (r : Result Unit Error) (old_input new_input old_out new_out : Trace)
+    → IsOpened sheet.skin.now (name_row sheet.name.now) (sheet_said sheet) sheet.columns sheet.rows v
+    → MatchResult r (λ _. IsTurned v old_input new_input old_out new_out) (λ e. IsBrokenOff v e old_input new_input old_out new_out)
     → MatchResult r (λ _. IsPaged sheet old_input new_input old_out new_out) (λ e. IsBrokenRun sheet e old_input new_input old_out new_out)
-sheet_paged sheet session name text (Ok _) old_input new_input old_out new_out named row from said skin start h =
-    let lines : paged_lines session.source ≡ sheet_lines sheet = ap paged_lines from ∙ said in
-    let same : paged_of session ≡ paged sheet = cc (named, row, lines, skin) in
-    record {
-      start = state_of session;
-      is = subst (λ (t : List LineContent). IsStart sheet.skin.now t sheet.columns sheet.rows (state_of session)) said start;
-      turned = subst (λ (p : Paged). IsTurned p (state_of session) old_input new_input old_out new_out) same h;
-    }
-sheet_paged sheet session name text (Err e) old_input new_input old_out new_out named row from said skin start h =
-    let lines : paged_lines session.source ≡ sheet_lines sheet = ap paged_lines from ∙ said in
-    let same : paged_of session ≡ paged sheet = cc (named, row, lines, skin) in
-    inl (record {
-      start = state_of session;
-      is = subst (λ (t : List LineContent). IsStart sheet.skin.now t sheet.columns sheet.rows (state_of session)) said start;
-      turned = subst (λ (p : Paged). IsBrokenOff p (state_of session) e old_input new_input old_out new_out) same h;
-    })
+sheet_paged sheet v (Ok _) old_input new_input old_out new_out start h = record { start = v; is = start; turned = h }
+sheet_paged sheet v (Err e) old_input new_input old_out new_out start h = inl (record { start = v; is = start; turned = h })

@@ -3,12 +3,12 @@
 ghost use Rattle.std.specs.Prelude.{◌≡◌, ◌≢◌, IfOk, OnOk, Option};
 ghost use Rattle.mad_term.specs.declared.events.Event.{Event};
 ghost use Rattle.mad_keys.specs.Decoding.{PauseGives};
-ghost use Rattle.mad_pager.specs.Sessions.{asks_size, state_of, HasSameText};
-ghost use Rattle.mad_search.specs.PagedTexts.{paged_lines};
+ghost use Rattle.mad_pager.specs.Pagers.{view_of};
+ghost use Rattle.mad_pager.specs.Sessions.{asks_size};
 ghost use Rattle.termimad_page_run.specs.Blocks.{AreEventsDone, IsBlockDone, IsEndedIn, IsToldDone, IsToldStep, turn_told};
 
 use mad_keys::Keys;
-use mad_pager::{Session, Turn};
+use mad_pager::{Pager, Turn};
 use mad_term::Event;
 use std::alloc::{AllocError, Global};
 
@@ -20,36 +20,34 @@ use std::alloc::{AllocError, Global};
 /// Out of memory is the only error.
 pub(crate) fn apply_block(
     alloc: Global,
-    session: &mut Session,
+    pager: &mut Pager,
     keys: &mut Keys,
     block: &[u8],
     pauses: bool,
 ) -> Result<Turn, AllocError>
-    ensures goes { IfOk result (λ turn. turn ≢ Turn.Ends → IsBlockDone session.old.text.skin.now (paged_lines session.old.source) keys.old block.now pauses (state_of session.old) keys.new (asks_size turn) (state_of session.new)) }
-    ensures ends { IfOk result (λ turn. turn ≡ Turn.Ends → IsEndedIn session.old.text.skin.now (paged_lines session.old.source) keys.old block.now (state_of session.old)) }
-    ensures text { OnOk result (HasSameText session.old session.new) }
+    ensures goes { IfOk result (λ turn. turn ≢ Turn.Ends → IsBlockDone keys.old block.now pauses (view_of pager.old) keys.new (asks_size turn) (view_of pager.new)) }
+    ensures ends { IfOk result (λ turn. turn ≡ Turn.Ends → IsEndedIn keys.old block.now (view_of pager.old)) }
 {
-    let turn = apply_events(alloc, session, keys, block, pauses)?;
-    session.settle(alloc)?;
+    let turn = apply_events(alloc, pager, keys, block, pauses)?;
+    pager.settle(alloc)?;
     Ok(turn)
 }
 
 // Does what the events of a block say.
 fn apply_events(
     alloc: Global,
-    session: &mut Session,
+    pager: &mut Pager,
     keys: &mut Keys,
     block: &[u8],
     pauses: bool,
 ) -> Result<Turn, AllocError>
-    ensures goes { IfOk result (λ turn. turn ≢ Turn.Ends → AreEventsDone session.old.text.skin.now (paged_lines session.old.source) keys.old block.now pauses (state_of session.old) keys.new (asks_size turn) (state_of session.new)) }
-    ensures ends { IfOk result (λ turn. turn ≡ Turn.Ends → IsEndedIn session.old.text.skin.now (paged_lines session.old.source) keys.old block.now (state_of session.old)) }
-    ensures text { OnOk result (HasSameText session.old session.new) }
+    ensures goes { IfOk result (λ turn. turn ≢ Turn.Ends → AreEventsDone keys.old block.now pauses (view_of pager.old) keys.new (asks_size turn) (view_of pager.new)) }
+    ensures ends { IfOk result (λ turn. turn ≡ Turn.Ends → IsEndedIn keys.old block.now (view_of pager.old)) }
 {
     let mut asks = false;
     for b in block {
         let event = keys.byte(*b);
-        let turn = apply_told(alloc, session, event)?;
+        let turn = apply_told(alloc, pager, event)?;
         let ends = turn.ends();
         if ends {
             return Ok(Turn::Ends);
@@ -58,7 +56,7 @@ fn apply_events(
     }
     let turn = turn_after(asks);
     if pauses {
-        apply_pause(alloc, session, keys)?;
+        apply_pause(alloc, pager, keys)?;
         return Ok(turn);
     }
     Ok(turn)
@@ -73,27 +71,21 @@ fn turn_after(asks: bool) -> Turn
 }
 
 // Does what a pause says: a lone ESC is Esc, which never ends a session.
-fn apply_pause(alloc: Global, session: &mut Session, keys: &mut Keys) -> Result<(), AllocError>
-    ensures told { OnOk result ((told : Option Event) × PauseGives keys.old told keys.new × IsToldDone session.old.text.skin.now (paged_lines session.old.source) told (state_of session.old) (state_of session.new)) }
-    ensures text { OnOk result (HasSameText session.old session.new) }
+fn apply_pause(alloc: Global, pager: &mut Pager, keys: &mut Keys) -> Result<(), AllocError>
+    ensures told { OnOk result ((told : Option Event) × PauseGives keys.old told keys.new × IsToldDone told (view_of pager.old) (view_of pager.new)) }
 {
     let event = keys.pause();
-    apply_told(alloc, session, event)?;
+    apply_told(alloc, pager, event)?;
     Ok(())
 }
 
 // Does what an event says, if one was told.
-fn apply_told(
-    alloc: Global,
-    session: &mut Session,
-    event: Option<Event>,
-) -> Result<Turn, AllocError>
-    ensures step { OnOk result (IsToldStep session.old.text.skin.now (paged_lines session.old.source) event (state_of session.old) (state_of session.new)) }
-    ensures turn { IfOk result (λ turn. turn ≡ turn_told event (state_of session.old)) }
-    ensures text { OnOk result (HasSameText session.old session.new) }
+fn apply_told(alloc: Global, pager: &mut Pager, event: Option<Event>) -> Result<Turn, AllocError>
+    ensures step { OnOk result (IsToldStep event (view_of pager.old) (view_of pager.new)) }
+    ensures turn { IfOk result (λ turn. turn ≡ turn_told event (view_of pager.old)) }
 {
     match event {
-        Some(event) => session.apply(alloc, event),
+        Some(event) => pager.apply(alloc, event),
         None => Ok(Turn::Goes),
     }
 }

@@ -1,17 +1,18 @@
 //! A run: keys are read, and after each block of them the screen is drawn anew.
 
 ghost use Rattle.std.specs.Prelude.{◌≡◌, ◌≢◌, IfOk, IfErr, OnOk, MatchResult, List, ℕ, string_bytes};
-ghost use Rattle.mad_pager.specs.Sessions.{asks_size, state_of, HasSameText};
-ghost use Rattle.mad_pager.specs.Screens.{IsOrderly};
-ghost use Rattle.mad_search.specs.PagedTexts.{paged_lines};
-ghost use Rattle.termimad_page_run.specs.Runs.{moment, name_row, paged_of, row_char, sheet_lines, IsBrokenOff, IsBrokenRun, IsFaultyTurn, IsLastTurn, IsPaged, IsTurn, IsTurned};
+ghost use Rattle.mad_pager.specs.Pagers.{view_of, IsOrderlyView};
+ghost use Rattle.mad_pager.specs.Sessions.{asks_size};
+ghost use Rattle.mad_outline.specs.Sources.{text_said};
+ghost use Rattle.termimad_page_run.specs.Runs.{moment, name_row, row_char, sheet_said, IsBrokenOff, IsBrokenRun, IsFaultyTurn, IsLastTurn, IsPaged, IsTurn, IsTurned};
 
 use crate::blocks::apply_block;
 use mad_fit::printable;
 use mad_keys::Keys;
 use mad_layout::MadSkin;
-use mad_pager::{Session, Turn};
+use mad_pager::{Pager, Turn};
 use mad_search::PagedText;
+use mad_steady::steady;
 use mad_term::{Error, Out, Source};
 use markdown_reader::Markdown;
 use std::alloc::{AllocError, Global};
@@ -48,7 +49,8 @@ pub struct Sheet<'s> {
 /// Pages a text: draws its start, then reads blocks of keys, does what they say and draws the screen anew after each, until a key ends it
 /// or the input does.
 ///
-/// What is printable of the name and of the text is shown; of Markdown that people write, what is printable of what it is read as. A block that fills the room for it whole is no pause.
+/// What is printable of the name and of the text is shown, made steady; of Markdown that people write, of what it is read as. A block that fills
+/// the room for it whole is no pause.
 ///
 /// # Errors
 ///
@@ -65,7 +67,8 @@ pub fn run<I: Source, O: Out>(
     let name = name_row(alloc, sheet.name)?;
     match sheet.grammar {
         Grammar::Lines => {
-            let text = printable(alloc, sheet.text)?;
+            let printed = printable(alloc, sheet.text)?;
+            let text = steady(alloc, &printed)?;
             page(
                 alloc,
                 sheet,
@@ -93,29 +96,29 @@ fn page<I: Source, O: Out>(
     out: &mut O,
 ) -> Result<(), Error>
     requires name { name.now ≡ name_row sheet.now.name.now }
-    requires text { paged_lines text ≡ sheet_lines sheet.now }
+    requires text { text_said text ≡ sheet_said sheet.now }
     ensures { MatchResult result (λ _. IsPaged sheet.now (I.seen input.old) (I.seen input.new) (O.seen out.old) (O.seen out.new))
         (λ e. IsBrokenRun sheet.now e (I.seen input.old) (I.seen input.new) (O.seen out.old) (O.seen out.new)) }
 {
-    let mut session = Session::new(alloc, name, text, sheet.skin, sheet.columns, sheet.rows)?;
-    turn_pages(alloc, &mut session, input, out)
+    let mut pager = Pager::new(alloc, name, text, sheet.skin, sheet.columns, sheet.rows)?;
+    turn_pages(alloc, &mut pager, input, out)
 }
 
 // Makes one turn after the other.
 fn turn_pages<I: Source, O: Out>(
     alloc: Global,
-    session: &mut Session,
+    pager: &mut Pager,
     input: &mut I,
     out: &mut O,
 ) -> Result<(), Error>
-    requires { IsOrderly session.now.text.skin.now (paged_lines session.now.source) (state_of session.now) }
-    ensures { MatchResult result (λ _. IsTurned (paged_of session.old) (state_of session.old) (I.seen input.old) (I.seen input.new) (O.seen out.old) (O.seen out.new))
-        (λ e. IsBrokenOff (paged_of session.old) (state_of session.old) e (I.seen input.old) (I.seen input.new) (O.seen out.old) (O.seen out.new)) }
+    requires { IsOrderlyView (view_of pager.now) }
+    ensures { MatchResult result (λ _. IsTurned (view_of pager.old) (I.seen input.old) (I.seen input.new) (O.seen out.old) (O.seen out.new))
+        (λ e. IsBrokenOff (view_of pager.old) e (I.seen input.old) (I.seen input.new) (O.seen out.old) (O.seen out.new)) }
 {
     let mut keys = Keys::new();
     let mut asks = false;
     for _turn in 0..u64::MAX {
-        let turn = turn_page(alloc, session, &mut keys, asks, input, out)?;
+        let turn = turn_page(alloc, pager, &mut keys, asks, input, out)?;
         let ends = turn.ends();
         if ends {
             return Ok(());
@@ -128,36 +131,36 @@ fn turn_pages<I: Source, O: Out>(
 // Draws the screen, reads a block of keys and does what it says.
 fn turn_page<I: Source, O: Out>(
     alloc: Global,
-    session: &mut Session,
+    pager: &mut Pager,
     keys: &mut Keys,
     asks: bool,
     input: &mut I,
     out: &mut O,
 ) -> Result<Turn, Error>
-    requires { IsOrderly session.now.text.skin.now (paged_lines session.now.source) (state_of session.now) }
-    ensures goes { IfOk result (λ turn. turn ≢ Turn.Ends → (block : List ℕ) × IsTurn (paged_of session.old) block
-        (moment session.old keys.old asks (I.seen input.old) (O.seen out.old)) (moment session.new keys.new (asks_size turn) (I.seen input.new) (O.seen out.new))) }
+    requires { IsOrderlyView (view_of pager.now) }
+    ensures goes { IfOk result (λ turn. turn ≢ Turn.Ends → (block : List ℕ) × IsTurn block
+        (moment pager.old keys.old asks (I.seen input.old) (O.seen out.old)) (moment pager.new keys.new (asks_size turn) (I.seen input.new) (O.seen out.new))) }
     ensures ends { IfOk result (λ turn. turn ≡ Turn.Ends
-        → IsLastTurn (paged_of session.old) (moment session.old keys.old asks (I.seen input.old) (O.seen out.old)) (I.seen input.new) (O.seen out.new)) }
-    ensures text { OnOk result (HasSameText session.old session.new) }
+        → IsLastTurn (moment pager.old keys.old asks (I.seen input.old) (O.seen out.old)) (I.seen input.new) (O.seen out.new)) }
     ensures fault { IfErr result (λ e.
-        IsFaultyTurn (paged_of session.old) (moment session.old keys.old asks (I.seen input.old) (O.seen out.old)) e (I.seen input.new) (O.seen out.new)) }
+        IsFaultyTurn (moment pager.old keys.old asks (I.seen input.old) (O.seen out.old)) e (I.seen input.new) (O.seen out.new)) }
 {
-    session.show(alloc, out, asks)?;
+    pager.show(alloc, out, asks)?;
     let mut block = [0; BLOCK];
     let count = input.fill(&mut block)?;
     if count == 0 {
         return Ok(Turn::Ends);
     }
-    let turn = apply_block(alloc, session, keys, &block[..count], count < BLOCK)?;
+    let turn = apply_block(alloc, pager, keys, &block[..count], count < BLOCK)?;
     Ok(turn)
 }
 
-// A name as it is shown: what is printable of it, in one row.
+// A name as it is shown: what is printable of it, steady, in one row.
 fn name_row(alloc: Global, name: &str) -> Result<String, AllocError>
     ensures { IfOk result (λ row. string_bytes row ≡ name_row name.now) }
 {
-    let name = printable(alloc, name)?;
+    let printed = printable(alloc, name)?;
+    let name = steady(alloc, &printed)?;
     let mut row = String::new(alloc);
     for c in name.chars() {
         row.push(row_char(c))?;

@@ -1,24 +1,22 @@
 use Rattle.std.proofs.Common.{◌≡◌, ◌+◌, [], ◌++◌, refl, sym, ap, ◌∙◌, true, false}
-use Rattle.mad_pager.specs.Sessions.{asks_size, ends, state_of}
+use Rattle.mad_pager.specs.Pagers.{view_of}
+use Rattle.mad_pager.specs.Sessions.{asks_size, ends}
 use Rattle.mad_keys.specs.Readings.{listed}
-use Rattle.mad_search.specs.PagedTexts.{paged_lines}
 use Rattle.termimad_page_run.specs.Blocks.{turn_told}
-use Rattle.termimad_page_run.proofs.BlockLemmas.{byte_read, session_more, step_along, same_text, ended, ends_is, goes_on, block_read, block_paused}
+use Rattle.termimad_page_run.proofs.BlockLemmas.{byte_read, session_more, ended, ends_is, goes_on, block_read, block_paused}
 use Rattle.termimad_page_run.proofs.blocks.apply_events.Goals as goal
 
 pub loop-b-init : goal.loop-b-init
-loop-b-init c = record { events = []; told = (refl, refl); session = (refl, refl); text = record { name = refl; source = refl; skin = refl } }
+loop-b-init c = record { events = []; told = (refl, refl); session = (refl, refl) }
 
 pub loop-b-preserved : goal.loop-b-preserved
 loop-b-preserved c =
     let inv = c.loop-b.invariant in
-    let goes : ends (turn_told c.byte-event.result (state_of c.loop-b.session)) ≡ false = ap ends (sym c.in_ok-turn.ensures.turn) ∙ (sym c.ends-ends.ensures ∙ c.if-ends.false) in
+    let goes : ends (turn_told c.byte-event.result (view_of c.loop-b.pager)) ≡ false = ap ends (sym c.in_ok-turn.ensures.turn) ∙ (sym c.ends-ends.ensures ∙ c.if-ends.false) in
     record {
       events = inv.events ++ listed c.byte-event.result;
       told = byte_read _ _ _ _ _ _ _ c.loop-b-test.true inv.told c.byte-event.ensures;
-      session = session_more c.args.session.now.text.skin.now (paged_lines c.args.session.now.source) _ _ _ _ _ _ _ inv.session (step_along c.args.session.now.text.skin.now _ (paged_lines c.args.session.now.source) _ _ _ _ inv.text.skin (ap paged_lines inv.text.source) c.in_ok-turn.ensures.step) (goes_on _ goes)
-          (c.asks_size-asks.ensures ∙ ap asks_size c.in_ok-turn.ensures.turn);
-      text = same_text _ _ _ inv.text c.in_ok-turn.ensures.text;
+      session = session_more _ _ _ _ _ _ _ inv.session c.in_ok-turn.ensures.step (goes_on _ goes) (c.asks_size-asks.ensures ∙ ap asks_size c.in_ok-turn.ensures.turn);
     }
 
 pub returns-then-ends-clause-goes : goal.returns-then-ends-clause-goes
@@ -27,29 +25,22 @@ returns-then-ends-clause-goes c = λ differs. absurd (differs refl)
 pub returns-then-ends-clause-ends : goal.returns-then-ends-clause-ends
 returns-then-ends-clause-ends c = λ is.
     let inv = c.loop-b.invariant in
-    let over : ends (turn_told c.byte-event.result (state_of c.loop-b.session)) ≡ true = ap ends (sym c.in_ok-turn.ensures.turn) ∙ (sym c.ends-ends.ensures ∙ c.if-ends.true) in
-    ended _ _ _ _ (c.loop-b.b-index + 1) _ inv.events _ _ c.byte-event.result _ (byte_read _ _ _ _ _ _ _ c.loop-b-test.true inv.told c.byte-event.ensures) inv.session (ends_is _ over)
-
-pub returns-then-ends-clause-text : goal.returns-then-ends-clause-text
-returns-then-ends-clause-text c = same_text _ _ _ c.loop-b.invariant.text c.in_ok-turn.ensures.text
+    let over : ends (turn_told c.byte-event.result (view_of c.loop-b.pager)) ≡ true = ap ends (sym c.in_ok-turn.ensures.turn) ∙ (sym c.ends-ends.ensures ∙ c.if-ends.true) in
+    ended _ _ (c.loop-b.b-index + 1) _ inv.events _ _ c.byte-event.result _ (byte_read _ _ _ _ _ _ _ c.loop-b-test.true inv.told c.byte-event.ensures) inv.session (ends_is _ over)
 
 pub returns-then-pauses-clause-goes : goal.returns-then-pauses-clause-goes
 returns-then-pauses-clause-goes c = λ differs.
     let inv = c.loop-b.invariant in
-    let it = c.in_ok-apply_pause.ensures.told in
-    block_paused _ _ _ _ c.loop-b.b-index _ inv.events _ _ _ _ _ it.0 _ _ c.loop-b-test.false c.if-pauses.true inv.told inv.session c.turn_after-turn.ensures.asks it.1
-    (step_along _ _ _ _ _ _ _ inv.text.skin (ap paged_lines inv.text.source) it.2.0, it.2.1)
+    let it = c.in_ok-apply_pause.ensures in
+    block_paused _ _ c.loop-b.b-index _ inv.events _ _ _ _ _ it.0 _ _ c.loop-b-test.false c.if-pauses.true inv.told inv.session c.turn_after-turn.ensures.asks it.1 it.2
 
 pub returns-then-pauses-clause-ends : goal.returns-then-pauses-clause-ends
 returns-then-pauses-clause-ends c = λ is. absurd (c.turn_after-turn.ensures.goes is)
 
-pub returns-then-pauses-clause-text : goal.returns-then-pauses-clause-text
-returns-then-pauses-clause-text c = same_text _ _ _ c.loop-b.invariant.text c.in_ok-apply_pause.ensures.text
-
 pub returns-clause-goes : goal.returns-clause-goes
 returns-clause-goes c = λ differs.
     let inv = c.loop-b.invariant in
-    block_read _ _ _ _ c.loop-b.b-index _ inv.events _ _ _ _ _ c.loop-b-test.false c.if-pauses.false inv.told inv.session c.turn_after-turn.ensures.asks
+    block_read _ _ c.loop-b.b-index _ inv.events _ _ _ _ _ c.loop-b-test.false c.if-pauses.false inv.told inv.session c.turn_after-turn.ensures.asks
 
 pub returns-clause-ends : goal.returns-clause-ends
 returns-clause-ends c = λ is. absurd (c.turn_after-turn.ensures.goes is)

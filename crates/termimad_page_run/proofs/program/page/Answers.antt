@@ -1,14 +1,10 @@
-use Rattle.std.proofs.Common.{Bor, List, ℕ, ap}
-use Rattle.termimad_page_run.proofs.RunLemmas.{begun_order, sheet_paged}
+use Rattle.termimad_page_run.proofs.RunLemmas.{opened_along, sheet_paged}
+use Rattle.mad_pager.proofs.PagerOrder.{opened_order}
 use Rattle.termimad_page_run.proofs.program.page.Goals as goal
 
 pub turn_pages-requires : goal.turn_pages-requires
-turn_pages-requires g c =
-    let made = c.in_ok-session.ensures in
-    begun_order c.in_ok-session.session _ _ _ _ made.skin made.source made.start
+turn_pages-requires g c = opened_order _ _ _ _ _ _ c.in_ok-pager.ensures
 
 pub returns : goal.returns
 returns g c =
-    let made = c.in_ok-session.ensures in
-    sheet_paged c.args.sheet.now c.in_ok-session.session c.args.name.now c.args.text c.turn_pages.result _ _ _ _
-    (ap (λ (b : Bor (List ℕ)). b.now) made.name) c.requires.name made.source c.requires.text made.skin made.start c.turn_pages.ensures
+    sheet_paged c.args.sheet.now _ c.turn_pages.result _ _ _ _ (opened_along c.args.sheet.now _ _ _ c.requires.name c.requires.text c.in_ok-pager.ensures) c.turn_pages.ensures

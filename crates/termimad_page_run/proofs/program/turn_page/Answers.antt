@@ -9,5 +9,5 @@ returns-then-count-eq0-clause-ends g c = λ is.
 pub returns-clause-goes : goal.returns-clause-goes
 returns-clause-goes g c = λ goes. (
   take c.in_ok-count.count c.fill.new.buffer,
-  block_done _ _ _ _ _ _ c.fill.new.buffer c.in_ok-count.count _ _ _ _ _ _ c.requires c.in_ok-show.ensures c.in_ok-count.ensures (omega arith) refl (c.in_ok-turn.ensures.goes goes),
+  block_done _ _ _ _ _ c.fill.new.buffer c.in_ok-count.count _ _ _ _ _ _ c.requires c.in_ok-show.ensures c.in_ok-count.ensures (omega arith) refl (c.in_ok-turn.ensures.goes goes),
 )

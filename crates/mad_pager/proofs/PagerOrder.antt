@@ -1,0 +1,131 @@
+-- The sessions of a pager stay orderly.
+use Rattle.std.proofs.Common.{◌≡◌, ℕ, List, Option, Some, None, ap, refl, sym, subst}
+use Rattle.std.specs.Prelude.{slice_index}
+use Rattle.mad_md.specs.Lines.{LineContent}
+use Rattle.mad_layout.specs.declared.skin.MadSkin.{MadSkin}
+use Rattle.mad_term.specs.declared.events.Event.{Event}
+use Rattle.mad_term.specs.declared.events.Event.TheVariants.{Key, Mouse, Resize, FocusGained, FocusLost}
+use Rattle.mad_term.specs.declared.keys.KeyEvent.{KeyEvent}
+use Rattle.mad_pager.specs.Screens.{IsOrderly}
+use Rattle.mad_pager.specs.Sessions.{State, HasSameText, IsEventStep, IsSettled, hears_size, state_of}
+use Rattle.mad_outline.specs.Sources.{Content, TextSaid, a_text, addresses, headers, content_lines, content_of, said_of, source_lines}
+use Rattle.mad_pager.specs.Pagers.{Leaf, View, IsAnswered, IsChoice, IsCovered, IsLeafSettled, IsLeafStep, IsOpened, IsOrderlyLeaf, IsOrderlyOver, IsOrderlyView, IsOverSettled, IsOverStart, IsPageStart, IsSameLeaf, IsStep, IsStepIn, IsViewSettled, contents_page, header_row, help_page, hearing, leaf_lines, leaf_of, links_page, over_answer, sighted}
+use Rattle.mad_outline.specs.declared.contents.TheConstants.{CONTENTS_NAME}
+use Rattle.mad_pager.specs.declared.help.TheConstants.{HELP_NAME}
+use Rattle.mad_outline.specs.declared.links.TheConstants.{LINKS_NAME}
+use Rattle.mad_pager.specs.declared.over.Answer.{Answer}
+use Rattle.mad_pager.specs.declared.over.Answer.TheVariants.{Closes, Takes, Chooses, Passes}
+use Rattle.mad_pager.specs.declared.session.Overlay.{Overlay}
+use Rattle.mad_pager.specs.declared.session.Overlay.TheVariants as overlay
+use Rattle.mad_pager.specs.declared.session.Session.{Session}
+use Rattle.mad_pager.proofs.OrderLemmas.{event_order, header_order, resized_order, settled_order, sight_order, start_order}
+
+-- ---- leaves
+
+-- what a session shows stays the same
+pub same_leaf : (old new : Session) → HasSameText old new → IsSameLeaf (leaf_of old) (leaf_of new)
+same_leaf old new h = record { skin = h.skin; name = h.name; content = ap content_of h.source }
+
+-- a session of which only the state is another
+pub leaf_with : (old new : Session) (s : State) → HasSameText old new → state_of new ≡ s → leaf_of new ≡ record (leaf_of old) { state = s }
+leaf_with old new s h e = cc (h.skin, h.name, h.source, e)
+
+-- a session that was laid out anew
+pub settled_leaf : (old new : Session) → HasSameText old new → IsSettled old.text.skin.now (source_lines old.source) (state_of old) (state_of new) → IsLeafSettled (leaf_of old) (leaf_of new)
+settled_leaf old new h settled = record { same = same_leaf old new h; settled = settled }
+
+-- an event that was done on a session
+pub stepped_leaf : (event : Event) (old new : Session) → HasSameText old new → IsEventStep old.text.skin.now (source_lines old.source) event (state_of old) (state_of new) → IsLeafStep event (leaf_of old) (leaf_of new)
+stepped_leaf event old new h step = record { same = same_leaf old new h; step = step }
+
+-- a page is opened over the text, or not
+pub covered_so : (opened : Option Overlay) (overlay : Overlay) (below start : Leaf) (over : Option Leaf) → opened ≡ Some overlay → IsOverStart overlay below start → over ≡ Some start → IsCovered opened below over
+covered_so opened overlay below start over is begun e = subst (λ (o : Option Overlay). IsCovered o below over) (sym is) (start, begun, e)
+
+pub covered_not : (opened : Option Overlay) (below : Leaf) (over : Option Leaf) → opened ≡ None → over ≡ None → IsCovered opened below over
+covered_not opened below over is none = subst (λ (o : Option Overlay). IsCovered o below over) (sym is) none
+
+-- ---- order
+
+order_at : (skin : MadSkin) (content : Content) (new : Leaf) → new.skin ≡ skin → new.content ≡ content → IsOrderly skin (content_lines content) new.state → IsOrderlyLeaf new
+order_at skin content new same is h =
+    subst (λ (d : MadSkin). IsOrderly d (leaf_lines new) new.state) (sym same) (subst (λ (c : Content). IsOrderly skin (content_lines c) new.state) (sym is) h)
+
+-- an event leaves a session orderly
+leaf_order : (event : Event) (old new : Leaf) → IsLeafStep event old new → IsOrderlyLeaf old → IsOrderlyLeaf new
+leaf_order event old new step h = order_at old.skin old.content new step.same.skin step.same.content (event_order old.skin (leaf_lines old) event old.state new.state step.step h)
+
+-- so does a size that it hears
+hearing_order : (event : Event) (l : Leaf) → IsOrderlyLeaf l → IsOrderlyLeaf (hearing event l)
+hearing_order (Key key) l h = h
+hearing_order (Mouse m) l h = h
+hearing_order (Resize columns rows) l h = event_order l.skin (leaf_lines l) (Resize columns rows) l.state (hears_size columns rows l.state) refl h
+hearing_order FocusGained l h = h
+hearing_order FocusLost l h = h
+
+-- a page over a text is orderly from its start on
+page_start_order : (name : List ℕ) (content : Content) (below over : Leaf) → IsPageStart name content below over → IsOrderlyLeaf over
+page_start_order name content below over start =
+    let s : State = record over.state { told = None } in
+    let begun = start_order below.skin (content_lines content) below.state.page.columns below.state.page.rows s start.start in
+    order_at below.skin content over start.skin start.made (record { lines = begun.lines; field = record { area = begun.field.area; typed = begun.field.typed } })
+
+over_start_order : (overlay : Overlay) (below over : Leaf) → IsOverStart overlay below over → IsOrderlyLeaf over
+over_start_order overlay.Help below over start = page_start_order HELP_NAME.now help_page below over start
+over_start_order overlay.Links below over start = page_start_order LINKS_NAME.now (links_page (said_of below.content) below.state) below over start
+over_start_order overlay.Contents below over start = page_start_order CONTENTS_NAME.now (contents_page (said_of below.content).lines below.state) below over start
+
+covered_order : (opened : Option Overlay) (below : Leaf) (over : Option Leaf) → IsCovered opened below over → IsOrderlyOver over
+covered_order None below over none = subst IsOrderlyOver (sym none) tt
+covered_order (Some overlay) below over (start, is, e) = subst IsOrderlyOver (sym e) (over_start_order overlay below start is)
+
+choice_order : (key : KeyEvent) (old new : Leaf) → IsChoice key old new → IsOrderlyLeaf old → IsOrderlyLeaf new
+choice_order key old new choice h =
+    order_at old.skin _ new choice.skin choice.content (resized_order old.skin _ _ _ _ new.state choice.laid (record { area = h.field.area; typed = h.field.typed }))
+
+answered_order : (answer : Answer) (event : Event) (over text : Leaf) (new : View) → IsAnswered answer event over text new → IsOrderlyLeaf text → IsOrderlyLeaf over → IsOrderlyView new
+answered_order Closes event over text new step h k = record { text = subst IsOrderlyLeaf (sym step.text) h; over = subst IsOrderlyOver (sym step.over) tt }
+answered_order Takes event over text new step h k = record {
+  text = subst IsOrderlyLeaf (sym step.text) (header_order text.skin (leaf_lines text) (header_row over.content text.state.starts) text.state _ refl h);
+  over = subst IsOrderlyOver (sym step.over) tt;
+}
+answered_order (Chooses key) event over text new step h k = record {
+  text = subst IsOrderlyLeaf (sym step.text) h;
+  over = subst IsOrderlyOver (sym step.over) (choice_order key over step.after step.choice k);
+}
+answered_order Passes event over text new step h k = record {
+  text = subst IsOrderlyLeaf (sym step.text) (hearing_order event text h);
+  over = subst IsOrderlyOver (sym step.over) (leaf_order event over step.after step.step k);
+}
+
+step_in_order : (over : Option Leaf) (event : Event) (text : Leaf) (new : View) → IsStepIn over event text new → IsOrderlyLeaf text → IsOrderlyOver over → IsOrderlyView new
+step_in_order None event text new step h k = record { text = leaf_order event text new.text step.text h; over = covered_order _ new.text new.over step.over }
+step_in_order (Some over) event text new step h k = answered_order (over_answer event over) event over text new step h k
+
+-- an event leaves both so
+pub step_order : (event : Event) (old new : View) → IsStep event old new → IsOrderlyView old → IsOrderlyView new
+step_order event old new step h = step_in_order old.over event old.text new step h.text h.over
+
+settled_leaf_order : (old new : Leaf) → IsLeafSettled old new → IsOrderlyLeaf old → IsOrderlyLeaf new
+settled_leaf_order old new h k = order_at old.skin old.content new h.same.skin h.same.content (settled_order old.skin (leaf_lines old) old.state new.state h.settled k)
+
+sighted_order : (skin : MadSkin) (text : List LineContent) (content : Content) (s : State) → IsOrderly skin text s → IsOrderly skin text (sighted content s)
+sighted_order skin text (headers of chosen) s h = sight_order skin text (slice_index s.starts chosen) s h
+sighted_order skin text (a_text said) s h = h
+sighted_order skin text (addresses links) s h = h
+
+settled_over_order : (old new : Option Leaf) → IsOverSettled old new → IsOrderlyOver old → IsOrderlyOver new
+settled_over_order None new e k = subst IsOrderlyOver (sym e) tt
+settled_over_order (Some over) new (mid, h, e) k =
+    subst IsOrderlyOver (sym e) (sighted_order mid.skin (leaf_lines mid) mid.content mid.state (settled_leaf_order over mid h k))
+
+-- so does another size
+pub view_settled_order : (old new : View) → IsViewSettled old new → IsOrderlyView old → IsOrderlyView new
+view_settled_order old new h k = record { text = settled_leaf_order old.text new.text h.text k.text; over = settled_over_order old.over new.over h.over k.over }
+
+-- they are so from the start on
+pub opened_order : (skin : MadSkin) (name : List ℕ) (text : TextSaid) (columns rows : ℕ) (v : View) → IsOpened skin name text columns rows v → IsOrderlyView v
+opened_order skin name text columns rows v h = record {
+  text = order_at skin (a_text text) v.text h.dress h.content (start_order skin text.lines columns rows v.text.state h.start);
+  over = subst IsOrderlyOver (sym h.over) tt;
+}

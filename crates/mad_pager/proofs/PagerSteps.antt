@@ -1,0 +1,89 @@
+-- What events do to a pager, along what is equal.
+use Rattle.std.proofs.Common.{◌≡◌, ℕ, false, List, Option, Some, None, option_map, refl, sym, ap, subst, ◌∙◌}
+use Rattle.mad_md.specs.Lines.{LineContent}
+use Rattle.mad_layout.specs.declared.skin.MadSkin.{MadSkin}
+use Rattle.mad_term.specs.declared.events.Event.{Event}
+use Rattle.mad_term.specs.declared.keys.KeyEvent.{KeyEvent}
+use Rattle.mad_search.specs.KeptRows.{part_of}
+use Rattle.markdown_reader.specs.MarkdownSays.{LinkSaid}
+use Rattle.mad_pager.specs.Sessions.{State, HasSameText, IsResized, IsStart, state_of, turn_of}
+use Rattle.mad_outline.specs.Sources.{Content, addresses, content_lines, content_of, lines_before, next, part_numbers, source_lines}
+use Rattle.mad_pager.specs.Pagers.{Leaf, View, IsAnswered, IsChoice, IsOverStep, IsPageStart, IsStepIn, IsTextStep, content_chosen, last_row_of, leaf_of, links_in, over_answer, size_to_lay, turn_answered, turn_at, turn_over, uncounted_state}
+use Rattle.mad_pager.specs.declared.over.Answer.{Answer}
+use Rattle.mad_pager.specs.declared.session.Session.{Session}
+use Rattle.mad_pager.specs.declared.session.Turn.{Turn}
+use Rattle.mad_pager.specs.declared.sizes.ScreenSize.{ScreenSize}
+
+-- ---- which is shown
+
+pub step_over : (event : Event) (over : Option Session) (page : Session) (text : Leaf) (new : View) → over ≡ Some page → IsOverStep event (leaf_of page) text new → IsStepIn (option_map leaf_of over) event text new
+step_over event over page text new is h = subst (λ (o : Option Session). IsStepIn (option_map leaf_of o) event text new) (sym is) h
+
+pub step_below : (event : Event) (over : Option Session) (text : Leaf) (new : View) → over ≡ None → IsTextStep event text new → IsStepIn (option_map leaf_of over) event text new
+step_below event over text new is h = subst (λ (o : Option Session). IsStepIn (option_map leaf_of o) event text new) (sym is) h
+
+pub turn_at_over : (event : Event) (over : Option Session) (page : Session) (text : Leaf) (turn : Turn) → over ≡ Some page → turn ≡ turn_over event (leaf_of page) → turn ≡ turn_at (option_map leaf_of over) event text
+turn_at_over event over page text turn is h = h ∙ ap (λ (o : Option Session). turn_at (option_map leaf_of o) event text) (sym is)
+
+pub turn_at_text : (event : Event) (over : Option Session) (text : Leaf) (turn : Turn) → over ≡ None → turn ≡ turn_of event text.state → turn ≡ turn_at (option_map leaf_of over) event text
+turn_at_text event over text turn is h = h ∙ ap (λ (o : Option Session). turn_at (option_map leaf_of o) event text) (sym is)
+
+-- ---- what is answered
+
+pub answered : (answer made : Answer) (event : Event) (over text : Leaf) (new : View) → made ≡ over_answer event over → made ≡ answer → IsAnswered answer event over text new → IsOverStep event over text new
+answered answer made event over text new e is h = subst (λ (a : Answer). IsAnswered a event over text new) (sym is ∙ e) h
+
+pub turn_so : (answer made : Answer) (event : Event) (over : Leaf) (turn : Turn) → made ≡ over_answer event over → made ≡ answer → turn ≡ turn_answered answer event over.state → turn ≡ turn_over event over
+turn_so answer made event over turn e is h = h ∙ ap (λ (a : Answer). turn_answered a event over.state) (sym is ∙ e)
+
+-- ---- pages
+
+-- nothing was told to a page yet
+pub untold : (s : State) → s.told ≡ None → record s { told = None } ≡ s
+untold s e = ap (λ (o : Option ScreenSize). let t : State = record s { told = o } in t) (sym e)
+
+-- a page at its start, which hears what the text below had heard
+pub page_started : (name : List ℕ) (content : Content) (below : Leaf) (over new : Session) → over.text.skin.now ≡ below.skin → over.name.now ≡ name → content_of over.source ≡ content
+    → IsStart below.skin (content_lines content) below.state.page.columns below.state.page.rows (state_of over) → leaf_of new ≡ record (leaf_of over) { state = record (state_of over) { told = below.state.told } }
+    → IsPageStart name content below (leaf_of new)
+page_started name content below over new skin named made start e =
+    subst (λ (l : Leaf). IsPageStart name content below l) (sym e) (record {
+      skin = skin;
+      named = named;
+      made = made;
+      start = subst (λ (s : State). IsStart below.skin (content_lines content) below.state.page.columns below.state.page.rows s) (sym (untold (state_of over) start.told)) start;
+      told = refl;
+    })
+
+-- ---- choices
+
+-- another header is chosen, and all is laid out anew
+pub chosen : (key : KeyEvent) (old mid new : Session) (size : ScreenSize) → mid.text.skin.now ≡ old.text.skin.now → mid.name.now ≡ old.name.now → content_of mid.source ≡ content_chosen key (state_of old) (content_of old.source)
+    → state_of mid ≡ uncounted_state (state_of old) → size ≡ size_to_lay (state_of old) → HasSameText mid new → IsResized mid.text.skin.now (source_lines mid.source) size.columns size.rows (state_of mid) (state_of new) → IsChoice key (leaf_of old) (leaf_of new)
+chosen key old mid new size skin name content state is same laid = record {
+  skin = same.skin ∙ skin;
+  name = same.name ∙ name;
+  content = ap content_of same.source ∙ content;
+  laid =
+      subst (λ (d : MadSkin). IsResized d (content_lines (content_chosen key (state_of old) (content_of old.source))) (size_to_lay (state_of old)).columns (size_to_lay (state_of old)).rows (uncounted_state (state_of old)) (state_of new)) skin
+      (subst (λ (c : Content). IsResized mid.text.skin.now (content_lines c) (size_to_lay (state_of old)).columns (size_to_lay (state_of old)).rows (uncounted_state (state_of old)) (state_of new)) content
+      (subst (λ (z : ScreenSize). IsResized mid.text.skin.now (source_lines mid.source) z.columns z.rows (uncounted_state (state_of old)) (state_of new)) is
+      (subst (λ (s : State). IsResized mid.text.skin.now (source_lines mid.source) size.columns size.rows s (state_of new)) state laid)));
+}
+
+-- ---- links
+
+-- the links of the lines whose parts are on the screen
+pub links_shown : (links : List LinkSaid) (said : List LineContent) (s : State) (numbers above below starts : List ℕ) (row first last after from to : ℕ)
+    → numbers ≡ part_numbers false 0 said → above ≡ numbers → below ≡ numbers → starts ≡ s.starts
+    → first ≡ part_of starts s.page.top → row ≡ last_row_of s.page → last ≡ part_of starts row → after ≡ next last → from ≡ lines_before above first → to ≡ lines_before below after
+    → addresses (record { links = links; from = from; to = to }) ≡ addresses (links_in said links s)
+links_shown links said s numbers above below starts row first last after from to n a b begin f r l t g h =
+    let parts : List ℕ = part_numbers false 0 said in
+    let start : ℕ = part_of s.starts s.page.top in
+    let end : ℕ = part_of s.starts (last_row_of s.page) in
+    let is_start : first ≡ start = f ∙ ap (λ (z : List ℕ). part_of z s.page.top) begin in
+    let is_end : last ≡ end = l ∙ ap (λ (z : List ℕ). part_of z row) begin ∙ ap (λ (m : ℕ). part_of s.starts m) r in
+    let is_from : from ≡ lines_before parts start = g ∙ ap (λ (z : List ℕ). lines_before z first) (a ∙ n) ∙ ap (λ (m : ℕ). lines_before parts m) is_start in
+    let is_to : to ≡ lines_before parts (next end) = h ∙ ap (λ (z : List ℕ). lines_before z after) (b ∙ n) ∙ ap (λ (m : ℕ). lines_before parts m) (t ∙ ap (λ (m : ℕ). next m) is_end) in
+    ap (λ (m : ℕ). addresses (record { links = links; from = m; to = to })) is_from ∙ ap (λ (m : ℕ). addresses (record { links = links; from = lines_before parts start; to = m })) is_to

@@ -1,0 +1,326 @@
+-- A pager: a text, and a page over it while one is open.
+use Rattle.std.specs.Prelude.{◌≡◌, ℕ, ◌+◌, ◌-◌, ◌^◌, ◌==◌, ◌&&◌, min, Bool, true, false, List, length, Option, Some, None, option_map, slice_get, slice_index, if◌then◌else◌}
+use Rattle.mad_md.specs.Lines.{LineContent}
+use Rattle.mad_md.specs.Reading.{unread_text}
+use Rattle.mad_md.specs.Scan.{lines_of}
+use Rattle.mad_layout.specs.declared.skin.MadSkin.{MadSkin}
+use Rattle.mad_page.specs.PageKeys.{after_key, command_of, is_break, uncounted}
+use Rattle.mad_page.specs.Pages.{body_rows, in_sight}
+use Rattle.mad_page.specs.declared.commands.Ask.TheVariants.{Forget, Help, Links, Contents, Quit}
+use Rattle.mad_page.specs.declared.commands.Command.{Command}
+use Rattle.mad_page.specs.declared.commands.Command.TheVariants.{Asks, Moves}
+use Rattle.mad_page.specs.declared.page.Page.{Page}
+use Rattle.mad_search.specs.KeptRows.{part_of}
+use Rattle.mad_term.specs.Trace.{Trace}
+use Rattle.mad_term.specs.declared.errors.Error.{Error}
+use Rattle.mad_term.specs.declared.events.Event.{Event}
+use Rattle.mad_term.specs.declared.events.Event.TheVariants.{Key}
+use Rattle.mad_term.specs.declared.keys.KeyCode.{KeyCode}
+use Rattle.mad_term.specs.declared.keys.KeyCode.TheVariants.{Enter}
+use Rattle.mad_term.specs.declared.keys.KeyEvent.{KeyEvent}
+use Rattle.markdown_reader.specs.MarkdownSays.{LinkSaid}
+use Rattle.mad_pager.specs.Screens.{IsOrderly, IsShown, IsUnshown}
+use Rattle.mad_pager.specs.Sessions.{State, IsEventStep, IsResized, IsSettled, IsStart, at_header, hears, opens, state_of, turn_of}
+use Rattle.mad_outline.specs.Sources.{Content, LinksIn, TextSaid, a_text, addresses, headers, content_lines, content_of, lines_before, next, part_numbers, said_of}
+use Rattle.mad_outline.specs.declared.contents.TheConstants.{CONTENTS_NAME}
+use Rattle.mad_pager.specs.declared.help.TheConstants.{HELP, HELP_NAME}
+use Rattle.mad_outline.specs.declared.links.TheConstants.{LINKS_NAME, NEVER_LINKS}
+use Rattle.mad_pager.specs.declared.over.Answer.{Answer}
+use Rattle.mad_pager.specs.declared.over.Answer.TheVariants.{Closes, Takes, Chooses, Passes}
+use Rattle.mad_pager.specs.declared.pager.Pager.{Pager}
+use Rattle.mad_pager.specs.declared.session.Overlay.{Overlay}
+use Rattle.mad_pager.specs.declared.session.Overlay.TheVariants as overlay
+use Rattle.mad_pager.specs.declared.session.Session.{Session}
+use Rattle.mad_pager.specs.declared.session.Turn.{Turn}
+use Rattle.mad_pager.specs.declared.session.Turn.TheVariants.{Goes}
+use Rattle.mad_pager.specs.declared.sizes.ScreenSize.{ScreenSize}
+
+-- ---- what it is of
+
+-- What is shown: its skin, its name, what it is made of, and the state of its session.
+pub record Leaf : Type 0 where
+  pub skin : MadSkin
+  pub name : List ℕ
+  pub content : Content
+  pub state : State
+
+abbrev pub leaf_of : Session → Leaf
+leaf_of s = record { skin = s.text.skin.now; name = s.name.now; content = content_of s.source; state = state_of s }
+
+-- the lines of what is shown
+abbrev pub leaf_lines : Leaf → List LineContent
+leaf_lines l = content_lines l.content
+
+-- What a pager has: a text, and the page over it, while one is open.
+pub record View : Type 0 where
+  pub text : Leaf
+  pub over : Option Leaf
+
+abbrev pub view_of : Pager → View
+view_of p = record { text = leaf_of p.text; over = option_map leaf_of p.over }
+
+-- the one that is shown: the page over the text, while one is open, and else the text
+abbrev pub leaf_or : Leaf → Option Leaf → Leaf
+leaf_or text None = text
+leaf_or text (Some over) = over
+
+abbrev pub shown : View → Leaf
+shown v = leaf_or v.text v.over
+
+-- the start of a text on a screen of this size; no page is over it
+pub record IsOpened (skin : MadSkin) (name : List ℕ) (text : TextSaid) (columns rows : ℕ) (v : View) : Type 0 where
+  pub dress : v.text.skin ≡ skin
+  pub named : v.text.name ≡ name
+  pub content : v.text.content ≡ a_text text
+  pub start : IsStart skin text.lines columns rows v.text.state
+  pub over : v.over ≡ None
+
+-- ---- what events do on a text
+
+-- the text, its name and its skin stay
+pub record IsSameLeaf (old new : Leaf) : Type 0 where
+  pub skin : new.skin ≡ old.skin
+  pub name : new.name ≡ old.name
+  pub content : new.content ≡ old.content
+
+-- an event is done on it
+pub record IsLeafStep (event : Event) (old new : Leaf) : Type 0 where
+  pub same : IsSameLeaf old new
+  pub step : IsEventStep old.skin (leaf_lines old) event old.state new.state
+
+-- it hears a size, where an event tells one
+abbrev pub hearing : Event → Leaf → Leaf
+hearing event l = record l { state = hears event l.state }
+
+-- ---- pages over a text
+
+-- A page of this content over a text, at its start: in the skin of the text, on its screen. It has heard the same size.
+pub record IsPageStart (name : List ℕ) (content : Content) (below over : Leaf) : Type 0 where
+  pub skin : over.skin ≡ below.skin
+  pub named : over.name ≡ name
+  pub made : over.content ≡ content
+  pub start : IsStart below.skin (content_lines content) below.state.page.columns below.state.page.rows (record over.state { told = None })
+  pub told : over.state.told ≡ below.state.told
+
+-- the page of help is a text, which has no links
+abbrev pub help_page : Content
+help_page = a_text (record { lines = lines_of (unread_text false HELP.now); links = None })
+
+-- the row of a text that is in the last row which the screen has for it
+abbrev pub last_row_of : Page → ℕ
+last_row_of page = min (page.top + (body_rows page - 1)) (2 ^ 64 - 1)
+
+-- the links of the lines whose parts are on the screen
+abbrev pub links_in : List LineContent → List LinkSaid → State → LinksIn
+links_in lines links s =
+    let numbers : List ℕ = part_numbers false 0 lines in
+    record {
+      links = links;
+      from = lines_before numbers (part_of s.starts s.page.top);
+      to = lines_before numbers (next (part_of s.starts (last_row_of s.page)));
+    }
+
+abbrev pub links_page_of : Option (List LinkSaid) → List LineContent → State → Content
+links_page_of None lines s = a_text (record { lines = lines_of (unread_text false NEVER_LINKS.now); links = None })
+links_page_of (Some links) lines s = addresses (links_in lines links s)
+
+-- the page of links over a text: those on the screen, or that the text can't have some
+abbrev pub links_page : TextSaid → State → Content
+links_page text s = links_page_of text.links text.lines s
+
+-- the page of contents over a text: the last header is chosen that the top row has, or that is above
+abbrev pub contents_page : List LineContent → State → Content
+contents_page lines s = headers lines (lines_before (part_numbers true 0 lines) (next (part_of s.starts s.page.top)) - 1)
+
+-- a page over a text, at its start
+abbrev pub IsOverStart : Overlay → Leaf → Leaf → Type 0
+IsOverStart overlay.Help below over = IsPageStart HELP_NAME.now help_page below over
+IsOverStart overlay.Links below over = IsPageStart LINKS_NAME.now (links_page (said_of below.content) below.state) below over
+IsOverStart overlay.Contents below over = IsPageStart CONTENTS_NAME.now (contents_page (said_of below.content).lines below.state) below over
+
+-- a page is opened over a text, or not
+abbrev pub IsCovered : Option Overlay → Leaf → Option Leaf → Type 0
+IsCovered None below over = over ≡ None
+IsCovered (Some overlay) below over = (start : Leaf) × IsOverStart overlay below start × (over ≡ Some start)
+
+-- What an event does while no page is over the text: it is done on that, and opens a page where it asks for one.
+pub record IsTextStep (event : Event) (below : Leaf) (new : View) : Type 0 where
+  pub text : IsLeafStep event below new.text
+  pub over : IsCovered (opens (turn_of event below.state)) new.text new.over
+
+-- ---- what events do on such a page
+
+-- it has headers, one of which is chosen
+abbrev pub has_choice : Content → Bool
+has_choice (headers text chosen) = true
+has_choice content = false
+
+abbrev pub is_enter_code : KeyCode → Bool
+is_enter_code Enter = true
+is_enter_code code = false
+
+abbrev pub is_enter : KeyEvent → Bool
+is_enter key = key.modifiers.0 == 0 && is_enter_code key.code
+
+-- `q`, Esc, and the keys that open a page, close it; those that scroll choose a header, where one is chosen
+abbrev pub command_over : KeyEvent → Bool → Command → Answer
+command_over key choice (Asks Quit) = Closes
+command_over key choice (Asks Forget) = Closes
+command_over key choice (Asks Help) = Closes
+command_over key choice (Asks Links) = Closes
+command_over key choice (Asks Contents) = Closes
+command_over key choice (Moves motion) = if choice then Chooses key else Passes
+command_over key choice command = Passes
+
+-- what a key says there: Control with `c` what it says of any text, and Enter to take the header that is chosen
+abbrev pub key_over : KeyEvent → Bool → Answer
+key_over key choice = if is_break key then Passes else if choice && is_enter key then Takes else command_over key choice (command_of key)
+
+-- what an event says there; while something is being typed, what it says of any text
+abbrev pub over_answer : Event → Leaf → Answer
+over_answer (Key key) over = if over.state.is_typing then Passes else key_over key (has_choice over.content)
+over_answer event over = Passes
+
+-- the header that is chosen after a key: each has one row of a page that shows one row
+abbrev pub choice_after : KeyEvent → State → ℕ → ℕ
+choice_after key s chosen =
+    (after_key key (record { columns = s.page.columns; rows = 2; height = length s.starts - 1; top = chosen; count = s.page.count; holds_bar = false })).page.top
+
+abbrev pub content_chosen : KeyEvent → State → Content → Content
+content_chosen key s (headers text chosen) = headers text (choice_after key s chosen)
+content_chosen key s content = content
+
+-- the size that it is to be laid out for: what was told last, or else that of the screen
+abbrev pub size_or : Option ScreenSize → Page → ScreenSize
+size_or None page = record { columns = page.columns; rows = page.rows }
+size_or (Some size) page = size
+
+abbrev pub size_to_lay : State → ScreenSize
+size_to_lay s = size_or s.told s.page
+
+-- no number was typed any more
+abbrev pub uncounted_state : State → State
+uncounted_state s = record s { page = uncounted s.page }
+
+-- Another header is chosen, for which all is laid out anew.
+pub record IsChoice (key : KeyEvent) (old new : Leaf) : Type 0 where
+  pub skin : new.skin ≡ old.skin
+  pub name : new.name ≡ old.name
+  pub content : new.content ≡ content_chosen key old.state old.content
+  pub laid : IsResized old.skin (content_lines (content_chosen key old.state old.content)) (size_to_lay old.state).columns (size_to_lay old.state).rows (uncounted_state old.state) new.state
+
+-- the row in which the part begins whose number has this index, if one has it
+abbrev pub row_at : List ℕ → List ℕ → ℕ → Option ℕ
+row_at parts starts index = option_map (slice_index starts) (slice_get parts index)
+
+-- the row of the header that is chosen, in a text whose parts begin in these rows
+abbrev pub header_row : Content → List ℕ → Option ℕ
+header_row (headers text chosen) starts = row_at (part_numbers true 0 text) starts chosen
+header_row content starts = None
+
+-- What closes it: nothing else.
+pub record IsClosed (below : Leaf) (new : View) : Type 0 where
+  pub text : new.text ≡ below
+  pub over : new.over ≡ None
+
+-- What takes the header that is chosen: it is on top of the text.
+pub record IsTaken (page below : Leaf) (new : View) : Type 0 where
+  pub text : new.text ≡ record below { state = at_header (header_row page.content below.state.starts) below.state }
+  pub over : new.over ≡ None
+
+-- What chooses another header.
+pub record IsChosen (key : KeyEvent) (page below : Leaf) (new : View) : Type 0 where
+  pub after : Leaf
+  pub choice : IsChoice key page after
+  pub over : new.over ≡ Some after
+  pub text : new.text ≡ below
+
+-- What does on it what it does on any text; the text below hears a size.
+pub record IsDoneOver (event : Event) (page below : Leaf) (new : View) : Type 0 where
+  pub after : Leaf
+  pub step : IsLeafStep event page after
+  pub over : new.over ≡ Some after
+  pub text : new.text ≡ hearing event below
+
+abbrev pub IsAnswered : Answer → Event → Leaf → Leaf → View → Type 0
+IsAnswered Closes event over text new = IsClosed text new
+IsAnswered Takes event over text new = IsTaken over text new
+IsAnswered (Chooses key) event over text new = IsChosen key over text new
+IsAnswered Passes event over text new = IsDoneOver event over text new
+
+-- what an event does while this page is open over a text
+abbrev pub IsOverStep : Event → Leaf → Leaf → View → Type 0
+IsOverStep event over text new = IsAnswered (over_answer event over) event over text new
+
+-- ---- what events do
+
+abbrev pub IsStepIn : Option Leaf → Event → Leaf → View → Type 0
+IsStepIn None event text new = IsTextStep event text new
+IsStepIn (Some over) event text new = IsOverStep event over text new
+
+-- what an event does
+abbrev pub IsStep : Event → View → View → Type 0
+IsStep event old new = IsStepIn old.over event old.text new
+
+-- how the pager goes on after it
+abbrev pub turn_answered : Answer → Event → State → Turn
+turn_answered Passes event s = turn_of event s
+turn_answered answer event s = Goes
+
+abbrev pub turn_over : Event → Leaf → Turn
+turn_over event over = turn_answered (over_answer event over) event over.state
+
+abbrev pub turn_at : Option Leaf → Event → Leaf → Turn
+turn_at None event text = turn_of event text.state
+turn_at (Some over) event text = turn_over event over
+
+abbrev pub turn_in : Event → View → Turn
+turn_in event v = turn_at v.over event v.text
+
+-- ---- sizes
+
+-- it is laid out for the size that was told, if one was
+pub record IsLeafSettled (old new : Leaf) : Type 0 where
+  pub same : IsSameLeaf old new
+  pub settled : IsSettled old.skin (leaf_lines old) old.state new.state
+
+-- the header that is chosen, if one is, is on the screen
+abbrev pub sighted : Content → State → State
+sighted (headers text chosen) s = record s { page = in_sight s.page (slice_index s.starts chosen) }
+sighted content s = s
+
+abbrev pub in_sight_of : Leaf → Leaf
+in_sight_of l = record l { state = sighted l.content l.state }
+
+abbrev pub IsOverSettled : Option Leaf → Option Leaf → Type 0
+IsOverSettled None new = new ≡ None
+IsOverSettled (Some over) new = (mid : Leaf) × IsLeafSettled over mid × (new ≡ Some (in_sight_of mid))
+
+-- so are the text and the page over it, on which the header that is chosen is on the screen
+pub record IsViewSettled (old new : View) : Type 0 where
+  pub text : IsLeafSettled old.text new.text
+  pub over : IsOverSettled old.over new.over
+
+-- ---- what is shown
+
+abbrev pub IsOrderlyLeaf : Leaf → Type 0
+IsOrderlyLeaf l = IsOrderly l.skin (leaf_lines l) l.state
+
+abbrev pub IsOrderlyOver : Option Leaf → Type 0
+IsOrderlyOver None = Unit {0}
+IsOrderlyOver (Some over) = IsOrderlyLeaf over
+
+-- What a pager keeps from its start on: the sessions of its text and of the page over it are orderly.
+pub record IsOrderlyView (v : View) : Type 0 where
+  pub text : IsOrderlyLeaf v.text
+  pub over : IsOrderlyOver v.over
+
+-- the screen is that of the session that is shown
+abbrev pub IsLeafShown : Bool → Leaf → Trace → Trace → Type 0
+IsLeafShown asks l old new = IsShown l.skin l.name asks l.state old new
+
+abbrev pub IsViewShown : Bool → View → Trace → Trace → Type 0
+IsViewShown asks v old new = IsLeafShown asks (shown v) old new
+
+abbrev pub IsViewUnshown : Bool → View → Trace → Error → Trace → Type 0
+IsViewUnshown asks v old e new = IsUnshown (shown v).skin (shown v).name asks (shown v).state old e new

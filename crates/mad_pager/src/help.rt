@@ -1,0 +1,36 @@
+//! The page of help: what keys do.
+
+/// The name of the page.
+pub const HELP_NAME: &str = "help";
+
+/// Its text, each of whose lines stands for itself.
+pub const HELP: &str = "# Keys
+
+These close this page: **q**, **Esc**, **?** and **h**.
+
+|:-|:-|
+|**keys**|**what they do**|
+|:-|:-|
+|j, e, Down, Enter|a row on|
+|k, y, Up|a row back|
+|space, PageDown|a page on|
+|b, PageUp|a page back|
+|d, u|half a page on, and back|
+|g, Home; G, End|the start; the end|
+|a number|before j or k: so many rows; before g: that row|
+|}, ]; {, [|the next header; the one before|
+|t|the contents: j and k choose a header, Enter goes there|
+|/|asks for a text: Enter seeks it, Esc gives it up|
+|n, N|the next row that has it; the one before|
+|Esc|forgets it|
+|l|the addresses of the links on the screen|
+|?, h|this page|
+|Control-L|draws anew|
+|Control-Z|stops; fg brings it back|
+|q, Control-C|ends|
+|the wheel|three rows|
+|the scroll bar|can be clicked, and dragged|
+|-
+
+To select text with the mouse, as an address, hold **Shift**.
+";
