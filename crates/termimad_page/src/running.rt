@@ -4,7 +4,7 @@ use crate::call::{Call, Place, parse_call};
 use crate::failing::Refusal;
 use std::io::{BufWriter, Error as IoError, ErrorKind};
 use std::{env, fs, io};
-use termimad::{Error, MadSkin, Out, Stream, printable, write_markdown_on};
+use termimad::{Error, MadSkin, Out, Stream, printable, steady, write_markdown_on};
 use termimad_page_run::{Grammar, Sheet, run};
 use termimad_run::{Failure, skin_of};
 
@@ -72,7 +72,8 @@ fn write_whole(
     let mut out = Stream::new(writer);
     match grammar {
         Grammar::Lines => {
-            let text = printable(rt.alloc(), text)?;
+            let printed = printable(rt.alloc(), text)?;
+            let text = steady(rt.alloc(), &printed)?;
             skin.write_parts_on(rt.alloc(), &mut out, &text, Some(columns))?;
         }
         Grammar::Markdown => {
