@@ -1,5 +1,5 @@
 -- What events do to a pager, along what is equal.
-use Rattle.std.proofs.Common.{◌≡◌, ℕ, false, List, Option, Some, None, option_map, refl, sym, ap, subst, ◌∙◌}
+use Rattle.std.proofs.Common.{◌≡◌, ℕ, Bool, false, List, Option, Some, None, option_map, refl, sym, ap, subst, ◌∙◌, if◌then◌else◌}
 use Rattle.mad_md.specs.Lines.{LineContent}
 use Rattle.mad_layout.specs.declared.skin.MadSkin.{MadSkin}
 use Rattle.mad_term.specs.declared.events.Event.{Event}
@@ -8,8 +8,9 @@ use Rattle.mad_search.specs.KeptRows.{part_of}
 use Rattle.markdown_reader.specs.MarkdownSays.{LinkSaid}
 use Rattle.mad_pager.specs.Sessions.{State, HasSameText, IsResized, IsStart, state_of, turn_of}
 use Rattle.mad_outline.specs.Sources.{Content, addresses, content_lines, content_of, lines_before, next, part_numbers, source_lines}
-use Rattle.mad_pager.specs.Pagers.{Leaf, View, IsAnswered, IsChoice, IsOverStep, IsPageStart, IsStepIn, IsTextStep, content_chosen, last_row_of, leaf_of, links_in, over_answer, size_to_lay, turn_answered, turn_at, turn_over, uncounted_state}
+use Rattle.mad_pager.specs.Pagers.{Leaf, View, IsAnswered, IsChoice, IsOverStep, IsPageStart, IsStepIn, IsTextStep, content_chosen, key_over, last_row_of, leaf_of, links_in, over_answer, size_to_lay, turn_answered, turn_at, turn_over, uncounted_state}
 use Rattle.mad_pager.specs.declared.over.Answer.{Answer}
+use Rattle.mad_pager.specs.declared.over.Answer.TheVariants.{Passes}
 use Rattle.mad_pager.specs.declared.session.Session.{Session}
 use Rattle.mad_pager.specs.declared.session.Turn.{Turn}
 use Rattle.mad_pager.specs.declared.sizes.ScreenSize.{ScreenSize}
@@ -35,6 +36,10 @@ answered answer made event over text new e is h = subst (λ (a : Answer). IsAnsw
 
 pub turn_so : (answer made : Answer) (event : Event) (over : Leaf) (turn : Turn) → made ≡ over_answer event over → made ≡ answer → turn ≡ turn_answered answer event over.state → turn ≡ turn_over event over
 turn_so answer made event over turn e is h = h ∙ ap (λ (a : Answer). turn_answered a event over.state) (sym is ∙ e)
+
+-- what a key says on a page over the text, by whether something is being typed there, and whether a header is chosen
+abbrev pub key_answer : KeyEvent → Bool → Bool → Answer
+key_answer key typing choice = if typing then Passes else key_over key choice
 
 -- ---- pages
 

@@ -4,6 +4,7 @@ use crate::call::{Call, Place, parse_call};
 use crate::failing::Refusal;
 use mad_fit::printable;
 use mad_layout::MadSkin;
+use mad_steady::steady;
 use mad_term::{Error, Out, Stream};
 use markdown_layout::write_markdown_on;
 use std::io::{BufWriter, Error as IoError, ErrorKind};
@@ -75,7 +76,8 @@ fn write_whole(
     let mut out = Stream::new(writer);
     match grammar {
         Grammar::Lines => {
-            let text = printable(rt.alloc(), text)?;
+            let printed = printable(rt.alloc(), text)?;
+            let text = steady(rt.alloc(), &printed)?;
             skin.write_parts_on(rt.alloc(), &mut out, &text, Some(columns))?;
         }
         Grammar::Markdown => {

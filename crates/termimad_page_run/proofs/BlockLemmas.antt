@@ -1,14 +1,14 @@
 -- Bytes that are read one after the other, and their events.
-use Rattle.std.proofs.Common.{◌≡◌, ◌≢◌, ℕ, ◌+◌, ◌<◌, ◌≤◌, ◌==◌, ◌||◌, Bool, true, false, not, List, [], ◌∷◌, ◌++◌, take, drop, length, get_or, Option, Some, None, refl, ap, sym, ◌∙◌, subst, append_assoc, if◌then◌else◌}
+use Rattle.std.proofs.Common.{◌≡◌, ◌≢◌, ℕ, ◌+◌, ◌<◌, ◌≤◌, ◌==◌, ◌||◌, Bool, true, false, List, [], ◌∷◌, ◌++◌, take, drop, length, get_or, Option, Some, None, refl, ap, sym, ◌∙◌, subst, append_assoc, if◌then◌else◌}
 use Rattle.std.proofs.lemmas.List.{append-nil, take_more, take_all, take-append-drop}
 use Rattle.mad_term.specs.declared.events.Event.{Event}
 use Rattle.mad_term.specs.declared.events.Event.TheVariants.{Key}
 use Rattle.mad_keys.specs.Decoding.{ByteGives, BytesGive, PauseGives}
 use Rattle.mad_keys.specs.Readings.{listed, lone_escape}
 use Rattle.mad_keys.specs.Keys.{escape_key}
-use Rattle.mad_pager.specs.Pagers.{Leaf, View, IsStep, has_choice, key_over, turn_answered, turn_at, turn_in}
+use Rattle.mad_pager.proofs.PagerSteps.{key_answer}
+use Rattle.mad_pager.specs.Pagers.{Leaf, View, IsStep, has_choice, turn_answered, turn_at, turn_in}
 use Rattle.mad_pager.specs.Sessions.{State, asks_size, ends}
-use Rattle.mad_pager.specs.declared.over.Answer.TheVariants.{Passes}
 use Rattle.mad_pager.specs.declared.session.Turn.{Turn}
 use Rattle.mad_pager.specs.declared.session.Turn.TheVariants.{Goes, AsksSize, Opens, Ends}
 use Rattle.termimad_page_run.specs.Blocks.{IsToldStep, IsToldDone, turn_told, IsSession, AreEventsDone, IsEndedIn}
@@ -105,7 +105,7 @@ typing_goes true = refl
 typing_goes false = refl
 
 -- nor does it on a page over the text
-over_goes : (typing choice : Bool) (s : State) → s.is_typing ≡ typing → turn_answered (if typing then Passes else key_over escape_key choice) (Key escape_key) s ≡ Goes
+over_goes : (typing choice : Bool) (s : State) → s.is_typing ≡ typing → turn_answered (key_answer escape_key typing choice) (Key escape_key) s ≡ Goes
 over_goes true choice s is = ap (λ (b : Bool). if b then Goes else Goes) is
 over_goes false true s is = refl
 over_goes false false s is = refl

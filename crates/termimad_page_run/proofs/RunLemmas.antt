@@ -11,8 +11,8 @@ use Rattle.mad_term.specs.declared.events.Event.{Event}
 use Rattle.mad_md.specs.Lines.{LineContent}
 use Rattle.markdown_reader.specs.MarkdownSays.{LinkSaid}
 use Rattle.mad_outline.specs.Sources.{TextSaid}
-use Rattle.mad_pager.proofs.PagerOrder.{opened_order, step_order, view_settled_order}
-use Rattle.mad_pager.specs.Pagers.{View, IsOpened, IsOrderlyView, IsViewShown, view_of}
+use Rattle.mad_pager.proofs.PagerOrder.{step_order, view_settled_order}
+use Rattle.mad_pager.specs.Pagers.{View, IsOpened, IsOrderlyView, IsViewShown}
 use Rattle.mad_pager.specs.declared.pager.Pager.{Pager}
 use Rattle.termimad_page_run.specs.Blocks.{IsBlockDone, IsSession}
 use Rattle.termimad_page_run.specs.Runs.{AreTurns, EndsAtInput, IsBrokenOff, IsBrokenRun, IsPaged, IsTurn, IsTurned, Moment, block_room, moment, name_row, printed_text, row_char, said_in, sheet_said, shown_text}

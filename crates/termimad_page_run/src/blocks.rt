@@ -72,7 +72,7 @@ fn turn_after(asks: bool) -> Turn
 
 // Does what a pause says: a lone ESC is Esc, which never ends a session.
 fn apply_pause(alloc: Global, pager: &mut Pager, keys: &mut Keys) -> Result<(), AllocError>
-    ensures told { OnOk result ((told : Option Event) × PauseGives keys.old told keys.new × IsToldDone told (view_of pager.old) (view_of pager.new)) }
+    ensures { OnOk result ((told : Option Event) × PauseGives keys.old told keys.new × IsToldDone told (view_of pager.old) (view_of pager.new)) }
 {
     let event = keys.pause();
     apply_told(alloc, pager, event)?;
