@@ -2,4 +2,5 @@ pub mod DrawnHits
 pub mod HitLemmas
 pub mod LineLemmas
 pub mod MatchLemmas
+pub mod RowHitLemmas
 pub mod TookLemmas
