@@ -66,17 +66,19 @@ fn push_line_parts(
 ) -> Result<(), AllocError>
     ensures { OnOk result (map marked_of hits.new.items ≡ map marked_of hits.old.items ++ line_parts skin.now sought.now width above.now below.now line.now) }
 {
-    let FmtLine::Normal(composite) = line else {
-        return Ok(());
-    };
-    let column = column_in_row(skin, composite, width);
     let count = char_count(alloc, sought)?;
     let text = row_text(alloc, sought, line)?;
     let end = char_count(alloc, text.as_str())?;
-    push_parts(
-        alloc, hits, skin, composite, column, count, end, above, below,
-    )?;
-    Ok(())
+    match line {
+        FmtLine::Normal(composite) => {
+            let column = column_in_row(skin, composite, width);
+            push_parts(
+                alloc, hits, skin, composite, column, count, end, above, below,
+            )?;
+            Ok(())
+        }
+        FmtLine::TableRow(_) | FmtLine::TableRule(_) | FmtLine::HorizontalRule => Ok(()),
+    }
 }
 
 // How many characters a text has.

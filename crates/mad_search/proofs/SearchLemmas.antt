@@ -1,5 +1,5 @@
 -- Texts of lines, put together piece by piece, and rows that have a text, row by row.
-use Rattle.std.proofs.Common.{◌≡◌, ◌↔◌, ◌⊎◌, IsTrue, ℕ, ◌+◌, ◌<◌, ◌≤◌, ◌==◌, ◌&&◌, nat_eq, min, Bool, true, false, List, [], ◌∷◌, ◌++◌, take, drop, length, get_or, Option, Some, None, MatchOption, below_more, refl, ap, sym, ◌∙◌, subst, inl, inr, arith, append_assoc}
+use Rattle.std.proofs.Common.{◌≡◌, ◌↔◌, ◌⊎◌, IsTrue, ℕ, ◌+◌, ◌<◌, ◌≤◌, ◌==◌, ◌&&◌, nat_eq, min, Bool, true, false, List, [], ◌∷◌, ◌++◌, take, drop, length, get_or, Option, Some, None, slice_get, MatchOption, below_more, refl, ap, sym, ◌∙◌, subst, inl, inr, arith, append_assoc}
 use Rattle.std.specs.List.{ends_with, flat_map, starts_with}
 use Rattle.std.specs.Str.Iter.{HasSubslice}
 use Rattle.std.proofs.Math.Nat.{eq-or-lt_of_le}
@@ -7,11 +7,11 @@ use Rattle.std.proofs.lemmas.Bool.{cases_lt}
 use Rattle.std.proofs.lemmas.List.{drop_more, get_or_past}
 use Rattle.std.proofs.lemmas.List.Concat.{flat_map-cons}
 use Rattle.std.proofs.lemmas.Bool.Decides.{nat_tests}
-use Rattle.std.proofs.lemmas.Option.{slice_get_past}
+use Rattle.std.proofs.lemmas.Option.{same_Some, slice_get_past}
 use Rattle.mad_format.specs.declared.composite.FmtComposite.{FmtComposite}
 use Rattle.mad_format.specs.declared.line.FmtLine.{FmtLine}
-use Rattle.mad_search.specs.Breaks.{ends_at, goes_over}
-use Rattle.mad_search.specs.Searches.{composite_text, cells_text, row_text, GoesOn, text_after, HasText, NoneBetween, NoneFrom, IsFirstFrom, IsLastBefore, IsNextRowIn, IsNowhere, IsPreviousRowIn}
+use Rattle.mad_search.specs.Breaks.{ends_at, goes_over, rows_after}
+use Rattle.mad_search.specs.Searches.{composite_text, cells_text, compared_line, row_text, GoesOn, text_after, HasText, NoneBetween, NoneFrom, IsFirstFrom, IsLastBefore, IsNextRowIn, IsNowhere, IsPreviousRowIn}
 
 -- a piece more is put after a text, of those that are left
 pub piece_put : {X : Type 0} (f : X → List ℕ) (xs : List X) (i : ℕ) (d : X) (whole text new : List ℕ) → i < length xs → text ++ flat_map f (drop i xs) ≡ whole → new ≡ text ++ f (get_or xs i d) → new ++ flat_map f (drop (i + 1) xs) ≡ whole
@@ -85,6 +85,15 @@ has_over s own row text given rows b goes same too has lacks over = (
 pub row_within : (sought : List ℕ) (lines : List FmtLine) (starts : List ℕ) (row : ℕ) → HasText sought lines starts row → ¬ (length lines ≤ row)
 row_within sought lines starts row h past = let e : None ≡ Some h.line = sym (slice_get_past lines row past) ∙ h.is in absurd (cc)
 
+-- a row has it, as its line does
+pub has_at : (s : List ℕ) (lines : List FmtLine) (t : List ℕ) (row : ℕ) (line : FmtLine) (b : Bool) → slice_get lines row ≡ Some line
+    → IsTrue b ↔ (HasSubslice (compared_line s line) s ⊎ GoesOn s (row_text s line) (rows_after lines t row (length s))) → IsTrue b ↔ HasText s lines t row
+has_at s lines t row line b is has = (
+  λ e. record { line = line; is = is; has = has.0 e },
+  λ h.
+      has.1 (subst (λ (l : FmtLine). HasSubslice (compared_line s l) s ⊎ GoesOn s (row_text s l) (rows_after lines t row (length s))) (same_Some _ _ (sym h.is ∙ is)) h.has),
+)
+
 -- no row before the first one
 pub none_yet : (sought : List ℕ) (lines : List FmtLine) (starts : List ℕ) (from : ℕ) → NoneBetween sought lines starts from from
 none_yet sought lines starts from row low high has = absurd (omega arith)
@@ -97,7 +106,7 @@ none_more sought lines starts from row none here r low high has =
 -- no row after the last one
 pub none_after_all : (sought : List ℕ) (lines : List FmtLine) (starts : List ℕ) (from row : ℕ) → NoneBetween sought lines starts from row → length lines ≤ row → NoneFrom sought lines starts from
 none_after_all sought lines starts from row none past r low has =
-    let inside = row_within sought lines r has in
+    let inside = row_within sought lines starts r has in
     let high : r < row = omega (arith, inside) in
     none r low high has
 
