@@ -1,5 +1,5 @@
 -- Rows that come of one line of the text, and what is sought over the break between two of them.
-use Rattle.std.specs.Prelude.{ℕ, ◌+◌, ◌-◌, ◌==◌, nat_eq, nat_le, nat_lt, min, Bool, true, false, not, ◌&&◌, List, [], ◌∷◌, find, reverse, take, drop, slice_get, slice_index, Option, Some, None, if◌then◌else◌}
+use Rattle.std.specs.Prelude.{ℕ, ◌+◌, ◌-◌, ◌==◌, nat_eq, nat_le, nat_lt, min, Bool, false, not, ◌&&◌, List, [], find, reverse, take, drop, slice_get, slice_index, Option, Some, None, if◌then◌else◌}
 use Rattle.std.specs.List.{ends_with, starts_with}
 use Rattle.mad_blocks.specs.LayoutParts.{is_code_kind}
 use Rattle.mad_format.specs.declared.line.FmtLine.{FmtLine}

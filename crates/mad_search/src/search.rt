@@ -214,11 +214,7 @@ fn goes_over(
     }
     let rows = rows_after(lines, starts, row, sought.len());
     let after = text_after(alloc, sought, rows)?;
-    Ok(begins_from(
-        sought.as_bytes(),
-        after.as_str().as_bytes(),
-        at,
-    ))
+    Ok(begins_from(sought.as_bytes(), after.as_str().as_bytes(), at))
 }
 
 /// The texts of lines that follow a break, each with a blank before it, as they are compared with what is sought. Blanks at their ends don't count.

@@ -1,4 +1,4 @@
-use Rattle.std.proofs.Common.{List, ℕ, ap, ◌∙◌}
+use Rattle.std.proofs.Common.{ap, ◌∙◌}
 use Rattle.std.specs.Str.{trim_end}
 use Rattle.mad_search.proofs.SearchLemmas.{has_within, has_over}
 use Rattle.mad_search.proofs.search.has_text.Goals as goal
