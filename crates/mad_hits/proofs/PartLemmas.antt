@@ -26,15 +26,16 @@ parts_put n count end text first second above below old mid new a b h k =
     ∙ ap (λ (t : List StyledChar). old ++ (map (part_below n text count) above ++ map (part_above n t end) below)) b)))
 
 -- those of a line of text
-pub line_parted : (skin : RowSkin) (sought : List ℕ) (width : ℕ) (above below : List ℕ) (l : FmtComposite) (column count end : ℕ) (old new : List Marked) → count ≡ length (chars sought) → end ≡ length (chars (row_text sought (Normal l)))
+pub line_parted : (skin : RowSkin) (sought : List ℕ) (width : ℕ) (above below : List ℕ) (line : FmtLine) (l : FmtComposite) (column count end : ℕ) (old new : List Marked) → line ≡ Normal l → count ≡ length (chars sought) → end ≡ length (chars (row_text sought line))
     → column ≡ capped (text_column skin (Some width) (margins_of skin (Some width) l) l)
-    → ((n : ℕ) → column ≡ capped n → new ≡ old ++ (map (part_below n (styled_text skin l) count) above ++ map (part_above n (styled_text skin l) end) below)) → new ≡ old ++ line_parts skin sought width above below (Normal l)
-line_parted skin sought width above below l column count end old new counted ended at put =
+    → ((n : ℕ) → column ≡ capped n → new ≡ old ++ (map (part_below n (styled_text skin l) count) above ++ map (part_above n (styled_text skin l) end) below)) → new ≡ old ++ line_parts skin sought width above below line
+line_parted skin sought width above below line l column count end old new is counted ended at put =
     let n : ℕ = text_column skin (Some width) (margins_of skin (Some width) l) l in
     let text : List StyledChar = styled_text skin l in
     put n at
     ∙ (ap (λ (k : ℕ). old ++ (map (part_below n text k) above ++ map (part_above n text end) below)) counted
-    ∙ ap (λ (k : ℕ). old ++ (map (part_below n text (length (chars sought))) above ++ map (part_above n text k) below)) ended)
+    ∙ (ap (λ (k : ℕ). old ++ (map (part_below n text (length (chars sought))) above ++ map (part_above n text k) below)) (ended ∙ ap (λ (x : FmtLine). length (chars (row_text sought x))) is)
+    ∙ ap (λ (x : FmtLine). old ++ line_parts skin sought width above below x) (sym is)))
 
 -- the hits of a row
 pub row_hit : (skin : RowSkin) (width : ℕ) (sought : List ℕ) (lines : List FmtLine) (starts : List ℕ) (row : ℕ) (line : FmtLine) (own : List Hit) (marks : List Marked) (above below : List ℕ) → slice_get lines row ≡ Some line → AreHits skin width sought line own

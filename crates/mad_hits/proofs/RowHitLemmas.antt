@@ -4,9 +4,9 @@ use Rattle.std.specs.Prelude.{chars, slice_index}
 use Rattle.std.specs.List.{filter, range_with_len}
 use Rattle.std.proofs.lemmas.Bool.Decides.{nat_tests}
 use Rattle.std.proofs.lemmas.Bool.{cases_lt}
-use Rattle.std.proofs.lemmas.List.{append-nil, get_or_past}
+use Rattle.std.proofs.lemmas.List.{append-nil, get_or_past, map-id}
 use Rattle.std.proofs.lemmas.List.Elements.{filter-append}
-use Rattle.std.proofs.lemmas.List.FromFn.{length-range_with_len}
+use Rattle.std.proofs.lemmas.List.FromFn.{length-range_with_len, map-range_with_len_more}
 use Rattle.mad_term.specs.Trace.{Trace, TookWith}
 use Rattle.mad_format.specs.declared.line.FmtLine.{FmtLine}
 use Rattle.mad_rows.specs.declared.row_skin.RowSkin.{RowSkin}
@@ -14,18 +14,16 @@ use Rattle.mad_search.specs.Breaks.{goes_over}
 use Rattle.mad_search.specs.Searches.{text_after}
 use Rattle.mad_hits.specs.Drawn.{AreHitsShown}
 use Rattle.mad_hits.specs.Hits.{Marked, marked_of}
-use Rattle.mad_hits.specs.Overs.{overs, overs_between}
+use Rattle.mad_hits.specs.Overs.{overs, overs_above, overs_below, overs_between}
 use Rattle.mad_hits.specs.Parts.{AreRowHits, AreRowsMarked, IsRowMarked}
 use Rattle.mad_hits.specs.declared.hits.Hit.{Hit}
 use Rattle.mad_hits.proofs.TookLemmas.{took_so}
 
 -- ---- numbers in a row
 
-pub range_more : (a n : ℕ) → range_with_len a (n + 1) ≡ range_with_len a n ++ (a + n) ∷ []
-range_more a zero = ap (λ (k : ℕ). k ∷ []) (omega arith)
-range_more a (suc n) =
-    let here : (a + 1) + n ≡ a + suc n = omega arith in
-    ap (λ (l : List ℕ). a ∷ l) (range_more (a + 1) n ∙ ap (λ (k : ℕ). range_with_len (a + 1) n ++ k ∷ []) here)
+range_more : (a n j : ℕ) → a + n ≡ j → range_with_len a (n + 1) ≡ range_with_len a n ++ j ∷ []
+range_more a n j e =
+    sym (map-id (range_with_len a (n + 1))) ∙ (map-range_with_len_more (λ (k : ℕ). k) a n j e ∙ ap (λ (l : List ℕ). l ++ j ∷ []) (map-id (range_with_len a n)))
 
 filter_last : (p : ℕ → Bool) (xs : List ℕ) (x : ℕ) → filter p (xs ++ x ∷ []) ≡ filter p xs ++ cond (p x) (x ∷ []) []
 filter_last p xs x = filter-append p xs (x ∷ [])
@@ -37,32 +35,23 @@ pub record OversSoFar (letters before after : List ℕ) (at : ℕ) (found : List
 pub no_over : (letters before after found : List ℕ) → found ≡ [] → OversSoFar letters before after 0 found
 no_over letters before after found none = record { are = none }
 
+-- an index is put where they go over there
+pub over_put : (b : Bool) (at : ℕ) (old new : List ℕ) → b ≡ true → new ≡ old ++ at ∷ [] → new ≡ old ++ cond b (at ∷ []) []
+over_put b at old new so put = put ∙ sym (ap (λ (x : Bool). old ++ cond x (at ∷ []) []) so)
+
+pub over_left : (b : Bool) (at : ℕ) (old : List ℕ) → b ≡ false → old ≡ old ++ cond b (at ∷ []) []
+over_left b at old so = sym (ap (λ (x : Bool). old ++ cond x (at ∷ []) []) so ∙ append-nil old)
+
 -- one index more
-pub over_more : (letters before after found new : List ℕ) (at next : ℕ) → goes_over letters before after at ≡ true → OversSoFar letters before after at found → new ≡ found ++ at ∷ [] → next ≡ at + 1
+pub over_next : (letters before after found new : List ℕ) (at next : ℕ) → OversSoFar letters before after at found → new ≡ found ++ cond (goes_over letters before after at) (at ∷ []) [] → next ≡ at + 1
     → OversSoFar letters before after next new
-over_more letters before after found new at next goes so put on =
+over_next letters before after found new at next so put on =
     let p = goes_over letters before after in
     record {
       are =
           put
-          ∙ (ap (λ (l : List ℕ). l ++ at ∷ []) so.are
-          ∙ sym
-          (ap (λ (n : ℕ). filter p (range_with_len 0 n)) on
-          ∙ (ap (filter p) (range_more 0 at)
-          ∙ (filter_last p (range_with_len 0 at) at ∙ ap (λ (b : Bool). filter p (range_with_len 0 at) ++ cond b (at ∷ []) []) goes))));
-    }
-
-pub over_less : (letters before after found : List ℕ) (at next : ℕ) → goes_over letters before after at ≡ false → OversSoFar letters before after at found → next ≡ at + 1 → OversSoFar letters before after next found
-over_less letters before after found at next stays so on =
-    let p = goes_over letters before after in
-    record {
-      are =
-          so.are
-          ∙ sym
-          (ap (λ (n : ℕ). filter p (range_with_len 0 n)) on
-          ∙ (ap (filter p) (range_more 0 at)
-          ∙ (filter_last p (range_with_len 0 at) at
-          ∙ (ap (λ (b : Bool). filter p (range_with_len 0 at) ++ cond b (at ∷ []) []) stays ∙ append-nil (filter p (range_with_len 0 at))))));
+          ∙ (ap (λ (l : List ℕ). l ++ cond (p at) (at ∷ []) []) so.are
+          ∙ sym (ap (λ (n : ℕ). filter p (range_with_len 0 n)) on ∙ (ap (filter p) (range_more 0 at at (omega arith)) ∙ filter_last p (range_with_len 0 at) at)));
     }
 
 pub overs_whole : (letters before after found : List ℕ) (at : ℕ) → at ≤ length letters → length letters ≤ at → OversSoFar letters before after at found → found ≡ overs letters before after
@@ -106,6 +95,11 @@ none_between sought letters above below spelt none =
     ap (λ (l : List ℕ). overs l (drop 1 (chars (text_after sought above))) (chars (text_after sought below))) (sym spelt)
     ∙ none_over letters (drop 1 (chars (text_after sought above))) (chars (text_after sought below)) none
 
+-- the break above a row is that below the row before it
+pub above_is : (sought : List ℕ) (lines : List FmtLine) (starts : List ℕ) (row before : ℕ) → before + 1 ≡ row → overs_above sought lines starts row ≡ overs_below sought lines starts before
+above_is sought lines starts zero before e = absurd (omega (arith, e))
+above_is sought lines starts (suc r) before e = let same : r ≡ before = omega (arith, e) in ap (overs_below sought lines starts) same
+
 -- ---- rows that are marked
 
 pub row_marked : (skin : RowSkin) (width : ℕ) (sought : List ℕ) (lines : List FmtLine) (starts : List ℕ) (y row : ℕ) (hits given : List Hit) (old new : Trace) → given ≡ hits
@@ -132,5 +126,5 @@ pub row_more : (skin : RowSkin) (width : ℕ) (sought : List ℕ) (lines : List 
     → AreRowsMarked skin width sought lines starts 0 (range_with_len top y) a → IsRowMarked skin width sought lines starts y row b → AreRowsMarked skin width sought lines starts 0 (range_with_len top (y + 1)) (a ++ b)
 row_more skin width sought lines starts top y row a b at so here =
     let long : length (range_with_len top y) ≡ y = length-range_with_len top y in
-    subst (λ (rows : List ℕ). AreRowsMarked skin width sought lines starts 0 rows (a ++ b)) (sym (range_more top y))
+    subst (λ (rows : List ℕ). AreRowsMarked skin width sought lines starts 0 rows (a ++ b)) (sym (range_more top y (top + y) refl))
     (rows_more skin width sought lines starts 0 y (range_with_len top y) (top + y) a b (omega (arith, long)) so (subst (λ (r : ℕ). IsRowMarked skin width sought lines starts y r b) at here))

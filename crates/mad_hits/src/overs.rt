@@ -1,6 +1,6 @@
 //! Where what is sought goes over the break between two rows that come of one line of the text.
 
-ghost use Rattle.std.specs.Prelude.{◌≡◌, ◌≢◌, ℕ, IfOk, chars, drop, false, slice_index};
+ghost use Rattle.std.specs.Prelude.{◌≡◌, ◌≢◌, ◌++◌, ◌∷◌, [], ℕ, IfOk, OnOk, if◌then◌else◌, chars, drop, false, slice_index};
 ghost use Rattle.mad_search.specs.Breaks.{goes_over};
 ghost use Rattle.mad_search.specs.Searches.{text_after};
 ghost use Rattle.mad_hits.specs.Overs.{overs, overs_above, overs_below, overs_between};
@@ -27,7 +27,8 @@ pub(crate) fn overs_above(
     if row == 0 {
         return Ok(Vec::new(alloc));
     }
-    overs_below(alloc, lines, starts, row - 1, sought)
+    let overs = overs_below(alloc, lines, starts, row - 1, sought)?;
+    Ok(overs)
 }
 
 /// Those at which it goes over the break below a row.
@@ -117,11 +118,27 @@ fn overs(
 {
     let mut found = Vec::new(alloc);
     for at in 0..letters.len() {
-        if goes_over(letters, before, after, at) {
-            found.push(at)?;
-        }
+        push_over(&mut found, letters, before, after, at)?;
     }
     Ok(found)
+}
+
+// Puts an index after others, where they go over it there.
+fn push_over(
+    found: &mut Vec<usize>,
+    letters: &[char],
+    before: &[char],
+    after: &[char],
+    at: usize,
+) -> Result<(), AllocError>
+    ensures { OnOk result (found.new.items ≡ found.old.items ++ (if goes_over letters.now before.now after.now at then at ∷ [] else [])) }
+{
+    let goes_over = goes_over(letters, before, after, at);
+    if goes_over {
+        found.push(at)?;
+        return Ok(());
+    }
+    Ok(())
 }
 
 // Whether they go over it at this index.
