@@ -1,19 +1,20 @@
 -- The hits of rows, row by row, and where what is sought goes over a break.
-use Rattle.std.proofs.Common.{◌≡◌, ◌≢◌, ℕ, zero, suc, ◌+◌, ◌==◌, Bool, true, false, ◌&&◌, List, [], ◌∷◌, ◌++◌, cond, drop, length, get_or, map, refl, ap, sym, ◌∙◌, subst, arith, append_assoc}
-use Rattle.std.specs.Prelude.{slice_index}
-use Rattle.std.specs.List.{filter, flat_map, range_with_len}
+use Rattle.std.proofs.Common.{◌≡◌, ◌≢◌, ℕ, zero, suc, ◌+◌, ◌<◌, ◌≤◌, ◌==◌, Bool, true, false, ◌&&◌, List, [], ◌∷◌, ◌++◌, cond, drop, length, get_or, map, below_more, refl, ap, sym, ◌∙◌, subst, inl, inr, arith, append_assoc}
+use Rattle.std.specs.Prelude.{chars, slice_index}
+use Rattle.std.specs.List.{filter, range_with_len}
 use Rattle.std.proofs.lemmas.Bool.Decides.{nat_tests}
-use Rattle.std.proofs.lemmas.List.{append-nil}
+use Rattle.std.proofs.lemmas.Bool.{cases_lt}
+use Rattle.std.proofs.lemmas.List.{append-nil, get_or_past}
 use Rattle.std.proofs.lemmas.List.Elements.{filter-append}
 use Rattle.std.proofs.lemmas.List.FromFn.{length-range_with_len}
 use Rattle.mad_term.specs.Trace.{Trace, TookWith}
 use Rattle.mad_format.specs.declared.line.FmtLine.{FmtLine}
 use Rattle.mad_rows.specs.declared.row_skin.RowSkin.{RowSkin}
 use Rattle.mad_search.specs.Breaks.{goes_over}
-use Rattle.mad_search.proofs.SearchLemmas.{piece_put}
+use Rattle.mad_search.specs.Searches.{text_after}
 use Rattle.mad_hits.specs.Drawn.{AreHitsShown}
 use Rattle.mad_hits.specs.Hits.{Marked, marked_of}
-use Rattle.mad_hits.specs.Overs.{line_chars, lines_chars, overs}
+use Rattle.mad_hits.specs.Overs.{overs, overs_between}
 use Rattle.mad_hits.specs.Parts.{AreRowHits, AreRowsMarked, IsRowMarked}
 use Rattle.mad_hits.specs.declared.hits.Hit.{Hit}
 use Rattle.mad_hits.proofs.TookLemmas.{took_so}
@@ -29,26 +30,44 @@ range_more a (suc n) =
 filter_last : (p : ℕ → Bool) (xs : List ℕ) (x : ℕ) → filter p (xs ++ x ∷ []) ≡ filter p xs ++ cond (p x) (x ∷ []) []
 filter_last p xs x = filter-append p xs (x ∷ [])
 
--- one index more
-pub over_more : (letters before after found new : List ℕ) (at : ℕ) → goes_over letters before after at ≡ true → found ≡ filter (goes_over letters before after) (range_with_len 0 at) → new ≡ found ++ at ∷ []
-    → new ≡ filter (goes_over letters before after) (range_with_len 0 (at + 1))
-over_more letters before after found new at goes so put =
-    let p = goes_over letters before after in
-    put
-    ∙ (ap (λ (l : List ℕ). l ++ at ∷ []) so
-    ∙ sym
-    (ap (filter p) (range_more 0 at)
-    ∙ (filter_last p (range_with_len 0 at) at ∙ ap (λ (b : Bool). filter p (range_with_len 0 at) ++ cond b (at ∷ []) []) goes)))
+-- the indices so far
+pub record OversSoFar (letters before after : List ℕ) (at : ℕ) (found : List ℕ) : Type 0 where
+  pub are : found ≡ filter (goes_over letters before after) (range_with_len 0 at)
 
-pub over_less : (letters before after found : List ℕ) (at : ℕ) → goes_over letters before after at ≡ false → found ≡ filter (goes_over letters before after) (range_with_len 0 at)
-    → found ≡ filter (goes_over letters before after) (range_with_len 0 (at + 1))
-over_less letters before after found at stays so =
+pub no_over : (letters before after found : List ℕ) → found ≡ [] → OversSoFar letters before after 0 found
+no_over letters before after found none = record { are = none }
+
+-- one index more
+pub over_more : (letters before after found new : List ℕ) (at next : ℕ) → goes_over letters before after at ≡ true → OversSoFar letters before after at found → new ≡ found ++ at ∷ [] → next ≡ at + 1
+    → OversSoFar letters before after next new
+over_more letters before after found new at next goes so put on =
     let p = goes_over letters before after in
-    so
-    ∙ sym
-    (ap (filter p) (range_more 0 at)
-    ∙ (filter_last p (range_with_len 0 at) at
-    ∙ (ap (λ (b : Bool). filter p (range_with_len 0 at) ++ cond b (at ∷ []) []) stays ∙ append-nil (filter p (range_with_len 0 at)))))
+    record {
+      are =
+          put
+          ∙ (ap (λ (l : List ℕ). l ++ at ∷ []) so.are
+          ∙ sym
+          (ap (λ (n : ℕ). filter p (range_with_len 0 n)) on
+          ∙ (ap (filter p) (range_more 0 at)
+          ∙ (filter_last p (range_with_len 0 at) at ∙ ap (λ (b : Bool). filter p (range_with_len 0 at) ++ cond b (at ∷ []) []) goes))));
+    }
+
+pub over_less : (letters before after found : List ℕ) (at next : ℕ) → goes_over letters before after at ≡ false → OversSoFar letters before after at found → next ≡ at + 1 → OversSoFar letters before after next found
+over_less letters before after found at next stays so on =
+    let p = goes_over letters before after in
+    record {
+      are =
+          so.are
+          ∙ sym
+          (ap (λ (n : ℕ). filter p (range_with_len 0 n)) on
+          ∙ (ap (filter p) (range_more 0 at)
+          ∙ (filter_last p (range_with_len 0 at) at
+          ∙ (ap (λ (b : Bool). filter p (range_with_len 0 at) ++ cond b (at ∷ []) []) stays ∙ append-nil (filter p (range_with_len 0 at))))));
+    }
+
+pub overs_whole : (letters before after found : List ℕ) (at : ℕ) → at ≤ length letters → length letters ≤ at → OversSoFar letters before after at found → found ≡ overs letters before after
+overs_whole letters before after found at low high so =
+    let whole : at ≡ length letters = omega (arith, low, high) in so.are ∙ ap (λ (n : ℕ). filter (goes_over letters before after) (range_with_len 0 n)) whole
 
 -- ---- no blank
 
@@ -59,20 +78,33 @@ none_filtered p (x ∷ xs) none = ap (λ (b : Bool). cond b (x ∷ filter p xs) 
 no_blank_at : (a b c : Bool) → a ≡ false → ((a && b) && c) ≡ false
 no_blank_at a b c e = ap (λ (x : Bool). (x && b) && c) e
 
+-- none of the first characters is a blank
+pub record NoBlank (letters : List ℕ) (n : ℕ) : Type 0 where
+  pub none : (k : ℕ) → k < n → get_or letters k 0 ≢ 32
+
+pub no_blank : (letters : List ℕ) → NoBlank letters 0
+no_blank letters = record { none = λ k inside. absurd (omega (arith, inside)) }
+
+pub blank_less : (letters : List ℕ) (i c : ℕ) → NoBlank letters i → c ≡ get_or letters i 0 → c ≢ 32 → NoBlank letters (i + 1)
+blank_less letters i c so is other = record { none = below_more (λ (k : ℕ). get_or letters k 0 ≢ 32) i so.none (λ e. other (is ∙ e)) }
+
+pub blank_none : (letters : List ℕ) (i : ℕ) → length letters ≤ i → NoBlank letters i → (at : ℕ) → slice_index letters at ≢ 32
+blank_none letters i past so at =
+    elim (cases_lt at i) [
+      | inl inside ↦ so.none at inside
+      | inr over ↦ λ e. let none : get_or letters at 0 ≡ 0 = get_or_past letters at 0 (omega (arith, past, over)) in absurd (omega (arith, e, none))
+    ]
+
 -- without a blank nothing goes over a break
 pub none_over : (letters before after : List ℕ) → ((at : ℕ) → slice_index letters at ≢ 32) → overs letters before after ≡ []
 none_over letters before after none =
     none_filtered (goes_over letters before after) (range_with_len 0 (length letters))
     (λ at. no_blank_at (slice_index letters at == 32) _ _ (let other = none at in grind (arith, nat_tests, other)))
 
--- ---- characters of lines
-
-pub chars_put : (skin : RowSkin) (exact : Bool) (xs : List FmtLine) (i : ℕ) (x : FmtLine) (own whole text mid new : List ℕ) → i < length xs → x ≡ get_or xs i x → text ++ lines_chars skin exact (drop i xs) ≡ whole → own ≡ line_chars skin exact x
-    → mid ≡ text ++ 32 ∷ [] → new ≡ mid ++ own → new ++ lines_chars skin exact (drop (i + 1) xs) ≡ whole
-chars_put skin exact xs i x own whole text mid new inside is h e blank k =
-    let part : FmtLine → List ℕ = λ line. 32 ∷ line_chars skin exact line in
-    let put : new ≡ text ++ part (get_or xs i x) = k ∙ ap (λ (l : List ℕ). l ++ own) blank ∙ append_assoc text (32 ∷ []) own ∙ ap (λ (l : List ℕ). text ++ 32 ∷ l) e ∙ ap (λ (line : FmtLine). text ++ part line) is in
-    piece_put part xs i x whole text new inside h put
+pub none_between : (sought letters : List ℕ) (above below : List FmtLine) → letters ≡ chars sought → ((at : ℕ) → slice_index letters at ≢ 32) → overs_between sought above below ≡ []
+none_between sought letters above below spelt none =
+    ap (λ (l : List ℕ). overs l (drop 1 (chars (text_after sought above))) (chars (text_after sought below))) (sym spelt)
+    ∙ none_over letters (drop 1 (chars (text_after sought above))) (chars (text_after sought below)) none
 
 -- ---- rows that are marked
 

@@ -70,12 +70,8 @@ fn begins(text: &[char], sought: &[char]) -> bool
     text.starts_with(sought)
 }
 
-/// The characters as they are compared: as they stand, or else in small letters.
-///
-/// # Errors
-///
-/// Out of memory is the only error.
-pub(crate) fn compared_chars(
+// The characters as they are compared: as they stand, or else in small letters.
+fn compared_chars(
     alloc: Global,
     text: &[StyledChar],
     is_exact: bool,

@@ -1,15 +1,13 @@
 //! Where what is sought goes over the break between two rows that come of one line of the text.
 
-ghost use Rattle.std.specs.List.{filter, range_with_len};
-ghost use Rattle.std.specs.Prelude.{◌≡◌, ◌+◌, ◌≢◌, ◌++◌, ℕ, IfOk, OnOk, drop, false, length, slice_index};
+ghost use Rattle.std.specs.Prelude.{◌≡◌, ◌≢◌, ℕ, IfOk, chars, drop, false, slice_index};
 ghost use Rattle.mad_search.specs.Breaks.{goes_over};
-ghost use Rattle.mad_hits.specs.Overs.{line_chars, lines_chars, overs, overs_above, overs_below, overs_between};
+ghost use Rattle.mad_search.specs.Searches.{text_after};
+ghost use Rattle.mad_hits.specs.Overs.{overs, overs_above, overs_below, overs_between};
 
-use crate::matches::{compared_chars, letters_of};
-use crate::styled::styled_text;
+use crate::matches::letters_of;
 use mad_format::FmtLine;
-use mad_rows::RowSkin;
-use mad_search::{has_capital, rows_after, rows_up_to};
+use mad_search::{rows_after, rows_up_to, text_after};
 use std::alloc::{AllocError, Global};
 
 /// The indices of what is sought at which it goes over the break above a row, by its characters.
@@ -19,18 +17,17 @@ use std::alloc::{AllocError, Global};
 /// Out of memory is the only error.
 pub(crate) fn overs_above(
     alloc: Global,
-    skin: &RowSkin,
     lines: &[FmtLine],
     starts: &[usize],
     row: usize,
     sought: &str,
 ) -> Result<Vec<usize>, AllocError>
-    ensures { IfOk result (λ overs. overs.items ≡ overs_above skin.now sought.now lines.now starts.now row) }
+    ensures { IfOk result (λ overs. overs.items ≡ overs_above sought.now lines.now starts.now row) }
 {
     if row == 0 {
         return Ok(Vec::new(alloc));
     }
-    overs_below(alloc, skin, lines, starts, row - 1, sought)
+    overs_below(alloc, lines, starts, row - 1, sought)
 }
 
 /// Those at which it goes over the break below a row.
@@ -40,43 +37,38 @@ pub(crate) fn overs_above(
 /// Out of memory is the only error.
 pub(crate) fn overs_below(
     alloc: Global,
-    skin: &RowSkin,
     lines: &[FmtLine],
     starts: &[usize],
     row: usize,
     sought: &str,
 ) -> Result<Vec<usize>, AllocError>
-    ensures { IfOk result (λ overs. overs.items ≡ overs_below skin.now sought.now lines.now starts.now row) }
+    ensures { IfOk result (λ overs. overs.items ≡ overs_below sought.now lines.now starts.now row) }
 {
     let letters = letters_of(alloc, sought)?;
     let count = letters.as_slice().len();
-    let overs = overs_between(
-        alloc,
-        skin,
-        has_capital(sought),
-        letters.as_slice(),
-        rows_up_to(lines, starts, row, count),
-        rows_after(lines, starts, row, count),
-    )?;
+    let above = rows_up_to(lines, starts, row, count);
+    let below = rows_after(lines, starts, row, count);
+    let overs = overs_between(alloc, sought, letters.as_slice(), above, below)?;
     Ok(overs)
 }
 
-// Those at which characters go over the break between rows. The rows are read only where a blank is among the characters.
+// Those at which it goes over the break between rows. The rows are read only where a blank is in it.
 fn overs_between(
     alloc: Global,
-    skin: &RowSkin,
-    is_exact: bool,
+    sought: &str,
     letters: &[char],
     above: &[FmtLine],
     below: &[FmtLine],
 ) -> Result<Vec<usize>, AllocError>
-    ensures { IfOk result (λ overs. overs.items ≡ overs_between skin.now is_exact letters.now above.now below.now) }
+    requires { letters.now ≡ chars sought.now }
+    ensures { IfOk result (λ overs. overs.items ≡ overs_between sought.now above.now below.now) }
 {
-    if !has_blank(letters) {
+    let has_blank = has_blank(letters);
+    if !has_blank {
         return Ok(Vec::new(alloc));
     }
-    let before = lines_chars(alloc, skin, is_exact, above)?;
-    let after = lines_chars(alloc, skin, is_exact, below)?;
+    let before = chars_after(alloc, sought, above)?;
+    let after = chars_after(alloc, sought, below)?;
     let overs = overs(
         alloc,
         letters,
@@ -84,6 +76,15 @@ fn overs_between(
         after.as_slice(),
     )?;
     Ok(overs)
+}
+
+// The characters of lines that follow a break, each with a blank before it.
+fn chars_after(alloc: Global, sought: &str, lines: &[FmtLine]) -> Result<Vec<char>, AllocError>
+    ensures { IfOk result (λ given. given.items ≡ chars (text_after sought.now lines.now)) }
+{
+    let text = text_after(alloc, sought, lines)?;
+    let chars = letters_of(alloc, text.as_str())?;
+    Ok(chars)
 }
 
 // All characters but the first.
@@ -130,54 +131,5 @@ fn goes_over(letters: &[char], before: &[char], after: &[char], at: usize) -> bo
     match letters.get(at) {
         Some(' ') => before.ends_with(&letters[..at]) && after.starts_with(&letters[at..]),
         _ => false,
-    }
-}
-
-// The characters of lines, each with a blank before it, as they are compared with what is sought.
-fn lines_chars(
-    alloc: Global,
-    skin: &RowSkin,
-    is_exact: bool,
-    lines: &[FmtLine],
-) -> Result<Vec<char>, AllocError>
-    ensures { IfOk result (λ chars. chars.items ≡ lines_chars skin.now is_exact lines.now) }
-{
-    let mut chars = Vec::new(alloc);
-    for line in lines {
-        let own = line_chars(alloc, skin, is_exact, line)?;
-        chars.push(' ')?;
-        push_all(&mut chars, own.as_slice())?;
-    }
-    Ok(chars)
-}
-
-// Puts characters after others.
-fn push_all(chars: &mut Vec<char>, more: &[char]) -> Result<(), AllocError>
-    ensures { OnOk result (chars.new.items ≡ chars.old.items ++ more.now) }
-{
-    for c in more {
-        chars.push(*c)?;
-    }
-    Ok(())
-}
-
-// The characters of a line of text, as they are compared; of any other line none.
-fn line_chars(
-    alloc: Global,
-    skin: &RowSkin,
-    is_exact: bool,
-    line: &FmtLine,
-) -> Result<Vec<char>, AllocError>
-    ensures { IfOk result (λ chars. chars.items ≡ line_chars skin.now is_exact line.now) }
-{
-    match line {
-        FmtLine::Normal(composite) => {
-            let text = styled_text(alloc, skin, composite)?;
-            let chars = compared_chars(alloc, text.as_slice(), is_exact)?;
-            Ok(chars)
-        }
-        FmtLine::TableRow(_) | FmtLine::TableRule(_) | FmtLine::HorizontalRule => {
-            Ok(Vec::new(alloc))
-        }
     }
 }

@@ -1,10 +1,10 @@
 //! The hits in a row: those in its own text, and its parts of those that go over a break.
 
-ghost use Rattle.std.specs.Prelude.{◌≡◌, ◌++◌, ◌<◌, ℕ, IfOk, OnOk, Some, length, map};
+ghost use Rattle.std.specs.Prelude.{◌≡◌, ◌++◌, ◌<◌, ℕ, IfOk, OnOk, chars, length, map};
 ghost use Rattle.mad_wrap.specs.WrapLines.{capped};
-ghost use Rattle.mad_rows.specs.Rows.{margins_of};
-ghost use Rattle.mad_hits.specs.Hits.{marked_of, text_column};
-ghost use Rattle.mad_hits.specs.Parts.{composite_parts, line_parts, part_above, part_below, AreRowHits};
+ghost use Rattle.mad_hits.specs.Hits.{marked_of};
+ghost use Rattle.mad_hits.specs.Parts.{line_parts, part_above, part_below, AreRowHits};
+ghost use Rattle.mad_hits.specs.Styled.{styled_text};
 
 use crate::hits::{Hit, hit_at, hits_in};
 use crate::matches::letters_of;
@@ -13,6 +13,7 @@ use crate::places::column_in_row;
 use crate::styled::styled_text;
 use mad_format::{FmtComposite, FmtLine};
 use mad_rows::RowSkin;
+use mad_search::row_text;
 use mad_style::StyledChar;
 use std::alloc::{AllocError, Global};
 
@@ -37,16 +38,15 @@ pub fn row_hits(
         return Ok(Vec::new(alloc));
     };
     let mut hits = hits_in(alloc, skin, line, width, sought)?;
-    let letters = letters_of(alloc, sought)?;
-    let above = overs_above(alloc, skin, lines, starts, row, sought)?;
-    let below = overs_below(alloc, skin, lines, starts, row, sought)?;
+    let above = overs_above(alloc, lines, starts, row, sought)?;
+    let below = overs_below(alloc, lines, starts, row, sought)?;
     push_line_parts(
         alloc,
         &mut hits,
         skin,
         line,
         width,
-        letters.as_slice().len(),
+        sought,
         above.as_slice(),
         below.as_slice(),
     )?;
@@ -60,37 +60,50 @@ fn push_line_parts(
     skin: &RowSkin,
     line: &FmtLine,
     width: usize,
-    count: usize,
+    sought: &str,
     above: &[usize],
     below: &[usize],
 ) -> Result<(), AllocError>
-    ensures { OnOk result (map marked_of hits.new.items ≡ map marked_of hits.old.items ++ line_parts skin.now width count above.now below.now line.now) }
+    ensures { OnOk result (map marked_of hits.new.items ≡ map marked_of hits.old.items ++ line_parts skin.now sought.now width above.now below.now line.now) }
 {
-    match line {
-        FmtLine::Normal(composite) => push_parts(
-            alloc, hits, skin, composite, width, count, above, below,
-        ),
-        FmtLine::TableRow(_) | FmtLine::TableRule(_) | FmtLine::HorizontalRule => Ok(()),
-    }
+    let FmtLine::Normal(composite) = line else {
+        return Ok(());
+    };
+    let column = column_in_row(skin, composite, width);
+    let count = char_count(alloc, sought)?;
+    let text = row_text(alloc, sought, line)?;
+    let end = char_count(alloc, text.as_str())?;
+    push_parts(
+        alloc, hits, skin, composite, column, count, end, above, below,
+    )?;
+    Ok(())
 }
 
-// Puts those in a composite after hits.
+// How many characters a text has.
+fn char_count(alloc: Global, text: &str) -> Result<usize, AllocError>
+    ensures { IfOk result (λ count. count ≡ length (chars text.now)) }
+{
+    let letters = letters_of(alloc, text)?;
+    Ok(letters.as_slice().len())
+}
+
+// Puts those in a composite after hits, whose text begins in that column and ends before an index.
 fn push_parts(
     alloc: Global,
     hits: &mut Vec<Hit>,
     skin: &RowSkin,
     composite: &FmtComposite,
-    width: usize,
+    column: usize,
     count: usize,
+    end: usize,
     above: &[usize],
     below: &[usize],
 ) -> Result<(), AllocError>
-    ensures { OnOk result (map marked_of hits.new.items ≡ map marked_of hits.old.items ++ composite_parts skin.now (text_column skin.now (Some width) (margins_of skin.now (Some width) composite.now) composite.now) count above.now below.now composite.now) }
+    ensures { OnOk result ((n : ℕ) → column ≡ capped n → map marked_of hits.new.items ≡ map marked_of hits.old.items ++ (map (part_below n (styled_text skin.now composite.now) count) above.now ++ map (part_above n (styled_text skin.now composite.now) end) below.now)) }
 {
     let text = styled_text(alloc, skin, composite)?;
-    let column = column_in_row(skin, composite, width);
     push_below(alloc, hits, text.as_slice(), column, count, above)?;
-    push_above(alloc, hits, text.as_slice(), column, below)?;
+    push_above(alloc, hits, text.as_slice(), column, end, below)?;
     Ok(())
 }
 
@@ -113,18 +126,19 @@ fn push_below(
     Ok(())
 }
 
-// Puts the parts above a break: what comes before the blank, at the end of the text.
+// Puts the parts above a break: what comes before the blank, before this index.
 fn push_above(
     alloc: Global,
     hits: &mut Vec<Hit>,
     text: &[StyledChar],
     column: usize,
+    end: usize,
     overs: &[usize],
 ) -> Result<(), AllocError>
-    ensures { OnOk result ((n : ℕ) → column ≡ capped n → map marked_of hits.new.items ≡ map marked_of hits.old.items ++ map (part_above n text.now) overs.now) }
+    ensures { OnOk result ((n : ℕ) → column ≡ capped n → map marked_of hits.new.items ≡ map marked_of hits.old.items ++ map (part_above n text.now end) overs.now) }
 {
     for at in overs {
-        let start = text.len().saturating_sub(*at);
+        let start = end.saturating_sub(*at);
         let hit = hit_at(alloc, text, column, start, *at)?;
         hits.push(hit)?;
     }

@@ -1,14 +1,17 @@
 -- Texts of lines, put together piece by piece, and rows that have a text, row by row.
-use Rattle.std.proofs.Common.{◌≡◌, ℕ, ◌+◌, ◌<◌, ◌≤◌, ◌==◌, min, Bool, true, false, List, [], ◌∷◌, ◌++◌, drop, length, get_or, Option, Some, None, MatchOption, below_more, ap, sym, ◌∙◌, subst, inl, inr, arith, append_assoc}
-use Rattle.std.specs.List.{flat_map}
+use Rattle.std.proofs.Common.{◌≡◌, ◌↔◌, ◌⊎◌, IsTrue, ℕ, ◌+◌, ◌<◌, ◌≤◌, ◌==◌, ◌&&◌, nat_eq, min, Bool, true, false, List, [], ◌∷◌, ◌++◌, take, drop, length, get_or, Option, Some, None, MatchOption, below_more, refl, ap, sym, ◌∙◌, subst, inl, inr, arith, append_assoc}
+use Rattle.std.specs.List.{ends_with, flat_map, starts_with}
+use Rattle.std.specs.Str.Iter.{HasSubslice}
 use Rattle.std.proofs.Math.Nat.{eq-or-lt_of_le}
-use Rattle.std.proofs.lemmas.List.{drop_more}
+use Rattle.std.proofs.lemmas.Bool.{cases_lt}
+use Rattle.std.proofs.lemmas.List.{drop_more, get_or_past}
 use Rattle.std.proofs.lemmas.List.Concat.{flat_map-cons}
 use Rattle.std.proofs.lemmas.Bool.Decides.{nat_tests}
 use Rattle.std.proofs.lemmas.Option.{slice_get_past}
 use Rattle.mad_format.specs.declared.composite.FmtComposite.{FmtComposite}
 use Rattle.mad_format.specs.declared.line.FmtLine.{FmtLine}
-use Rattle.mad_search.specs.Searches.{composite_text, cells_text, compared_line, text_after, HasText, NoneBetween, NoneFrom, IsFirstFrom, IsLastBefore, IsNextRowIn, IsNowhere, IsPreviousRowIn}
+use Rattle.mad_search.specs.Breaks.{ends_at, goes_over}
+use Rattle.mad_search.specs.Searches.{composite_text, cells_text, row_text, GoesOn, text_after, HasText, NoneBetween, NoneFrom, IsFirstFrom, IsLastBefore, IsNextRowIn, IsNowhere, IsPreviousRowIn}
 
 -- a piece more is put after a text, of those that are left
 pub piece_put : {X : Type 0} (f : X → List ℕ) (xs : List X) (i : ℕ) (d : X) (whole text new : List ℕ) → i < length xs → text ++ flat_map f (drop i xs) ≡ whole → new ≡ text ++ f (get_or xs i d) → new ++ flat_map f (drop (i + 1) xs) ≡ whole
@@ -26,11 +29,57 @@ cell_put xs i x whole text mid new inside is h e k =
     piece_put part xs i x whole text new inside h put
 
 -- a line's text and the blank before it
-pub line_put : (sought : List ℕ) (xs : List FmtLine) (i : ℕ) (x : FmtLine) (own whole text mid new : List ℕ) → i < length xs → x ≡ get_or xs i x → text ++ text_after sought (drop i xs) ≡ whole → own ≡ compared_line sought x → mid ≡ text ++ 32 ∷ [] → new ≡ mid ++ own → new ++ text_after sought (drop (i + 1) xs) ≡ whole
+pub line_put : (sought : List ℕ) (xs : List FmtLine) (i : ℕ) (x : FmtLine) (own whole text mid new : List ℕ) → i < length xs → x ≡ get_or xs i x → text ++ text_after sought (drop i xs) ≡ whole → own ≡ row_text sought x → mid ≡ text ++ 32 ∷ [] → new ≡ mid ++ own → new ++ text_after sought (drop (i + 1) xs) ≡ whole
 line_put sought xs i x own whole text mid new inside is h e blank k =
-    let part : FmtLine → List ℕ = λ line. 32 ∷ compared_line sought line in
+    let part : FmtLine → List ℕ = λ line. 32 ∷ row_text sought line in
     let put : new ≡ text ++ part (get_or xs i x) = k ∙ ap (λ (l : List ℕ). l ++ own) blank ∙ append_assoc text (32 ∷ []) own ∙ ap (λ (l : List ℕ). text ++ 32 ∷ l) e ∙ ap (λ (line : FmtLine). text ++ part line) is in
     piece_put part xs i x whole text new inside h put
+
+-- ---- over a break
+
+-- past the end of what is sought it goes over nothing
+past_over : (s text after : List ℕ) (at : ℕ) → length s ≤ at → goes_over s text after at ≡ false
+past_over s text after at past = ap (λ (n : ℕ). ((n == 32) && ends_with nat_eq text (take at s)) && starts_with nat_eq after (drop at s)) (get_or_past s at 0 past)
+
+-- where all before an index doesn't end the text it doesn't go over there
+pub not_ended : (s text after : List ℕ) (at : ℕ) → ends_at s text at ≡ false → goes_over s text after at ≡ false
+not_ended s text after at e = ap (λ (b : Bool). b && starts_with nat_eq after (drop at s)) e
+
+-- where it does, the rest decides
+pub ended : (s text after : List ℕ) (at : ℕ) (b : Bool) → ends_at s text at ≡ true → b ≡ starts_with nat_eq after (drop at s) → b ≡ goes_over s text after at
+ended s text after at b e begins = begins ∙ sym (ap (λ (b : Bool). b && starts_with nat_eq after (drop at s)) e)
+
+-- it goes over a break here
+pub goes_here : (s text : List ℕ) (rows : List FmtLine) (at : ℕ) → goes_over s text (text_after s rows) at ≡ true → IsTrue true ↔ GoesOn s text rows
+goes_here s text rows at goes = (λ e. (at, goes), λ h. refl)
+
+-- or nowhere
+pub goes_nowhere : (s text : List ℕ) (rows : List FmtLine) → ((k : ℕ) → k < length s → goes_over s text (text_after s rows) k ≡ false) → IsTrue false ↔ GoesOn s text rows
+goes_nowhere s text rows none = (
+  λ e. absurd (cc),
+  λ (at, goes).
+      elim (cases_lt at (length s)) [
+        | inl inside ↦ let e : false ≡ true = sym (none at inside) ∙ goes in absurd (cc)
+        | inr past ↦ let e : false ≡ true = sym (past_over s text (text_after s rows) at past) ∙ goes in absurd (cc)
+      ],
+)
+
+-- a text has what is sought
+pub has_within : (s own row text : List ℕ) (rows : List FmtLine) (b : Bool) → text ≡ own → IsTrue b ↔ HasSubslice text s → b ≡ true → IsTrue true ↔ (HasSubslice own s ⊎ GoesOn s row rows)
+has_within s own row text rows b same has so = (λ e. inl (subst (λ (t : List ℕ). HasSubslice t s) same (has.0 so)), λ h. refl)
+
+-- or has it where it goes over the break
+pub has_over : (s own row text given : List ℕ) (rows : List FmtLine) (b goes : Bool) → text ≡ own → given ≡ row → IsTrue b ↔ HasSubslice text s → b ≡ false → IsTrue goes ↔ GoesOn s given rows → IsTrue goes ↔ (HasSubslice own s ⊎ GoesOn s row rows)
+has_over s own row text given rows b goes same too has lacks over = (
+  λ e. inr (subst (λ (t : List ℕ). GoesOn s t rows) too (over.0 e)),
+  λ h.
+      elim h [
+        | inl within ↦ let e : false ≡ true = sym lacks ∙ has.1 (subst (λ (t : List ℕ). HasSubslice t s) (sym same) within) in absurd (cc)
+        | inr it ↦ over.1 (subst (λ (t : List ℕ). GoesOn s t rows) (sym too) it)
+      ],
+)
+
+-- ---- row by row
 
 -- there is a row that has it
 pub row_within : (sought : List ℕ) (lines : List FmtLine) (starts : List ℕ) (row : ℕ) → HasText sought lines starts row → ¬ (length lines ≤ row)

@@ -1,6 +1,7 @@
 -- Which row of a laid out text has what is sought.
 use Rattle.std.specs.Prelude.{◌≡◌, ◌⊎◌, ℕ, ◌+◌, ◌<◌, ◌≤◌, Bool, true, List, [], ◌∷◌, ◌++◌, length, slice_get, Option, Some, None}
 use Rattle.std.specs.List.{flat_map}
+use Rattle.std.specs.Str.{trim_end}
 use Rattle.std.specs.Str.Iter.{HasSubslice}
 use Rattle.mad_search.specs.Breaks.{goes_over, rows_after}
 use Rattle.mad_search.specs.Capitals.{compared}
@@ -27,9 +28,13 @@ line_text _ = []
 abbrev pub compared_line : List ℕ → FmtLine → List ℕ
 compared_line sought line = compared sought (line_text line)
 
+-- the same at a break, where the blanks at its end don't count
+abbrev pub row_text : List ℕ → FmtLine → List ℕ
+row_text sought line = trim_end (compared_line sought line)
+
 -- those of lines that follow a break, each with a blank before it
 abbrev pub text_after : List ℕ → List FmtLine → List ℕ
-text_after sought lines = flat_map (λ (line : FmtLine). 32 ∷ compared_line sought line) lines
+text_after sought lines = flat_map (λ (line : FmtLine). 32 ∷ row_text sought line) lines
 
 -- what is sought begins in a text and goes over the break after it, where these lines follow
 abbrev pub GoesOn : List ℕ → List ℕ → List FmtLine → Type 0
@@ -40,7 +45,7 @@ GoesOn sought text lines = (at : ℕ) × (goes_over sought text (text_after soug
 pub record HasText (sought : List ℕ) (lines : List FmtLine) (starts : List ℕ) (row : ℕ) : Type 0 where
   pub line : FmtLine
   pub is : slice_get lines row ≡ Some line
-  pub has : HasSubslice (compared_line sought line) sought ⊎ GoesOn sought (compared_line sought line) (rows_after lines starts row (length sought))
+  pub has : HasSubslice (compared_line sought line) sought ⊎ GoesOn sought (row_text sought line) (rows_after lines starts row (length sought))
 
 -- no row has it from this one on, up to that one
 abbrev pub NoneBetween : List ℕ → List FmtLine → List ℕ → ℕ → ℕ → Type 0

@@ -3,7 +3,7 @@
 ghost use Rattle.std.specs.Prelude.{◌≡◌, ◌++◌, ◌⊎◌, IfOk, OnOk, IsTrue, ◌↔◌, MatchOption, string_bytes, length, ◌<◌, ◌≤◌};
 ghost use Rattle.std.specs.Str.Iter.{HasSubslice};
 ghost use Rattle.mad_search.specs.Breaks.{goes_over, rows_after};
-ghost use Rattle.mad_search.specs.Searches.{composite_text, compared_line, line_text, cells_text, text_after, GoesOn, HasText, IsFirstFrom, IsLastBefore, IsNextRow, IsNextRowIn, IsPreviousRow, IsPreviousRowIn, NoneBetween, NoneFrom};
+ghost use Rattle.mad_search.specs.Searches.{composite_text, compared_line, line_text, cells_text, row_text, text_after, GoesOn, HasText, IsFirstFrom, IsLastBefore, IsNextRow, IsNextRowIn, IsPreviousRow, IsPreviousRowIn, NoneBetween, NoneFrom};
 
 use crate::breaks::{begins_from, ends_at, rows_after};
 use crate::letters::compared;
@@ -166,14 +166,14 @@ fn has_text(
     sought: &str,
     row: usize,
 ) -> Result<bool, AllocError>
-    ensures { IfOk result (λ has. IsTrue has ↔ (HasSubslice (compared_line sought.now line.now) sought.now ⊎ GoesOn sought.now (compared_line sought.now line.now) (rows_after lines.now starts.now row (length sought.now)))) }
+    ensures { IfOk result (λ has. IsTrue has ↔ (HasSubslice (compared_line sought.now line.now) sought.now ⊎ GoesOn sought.now (row_text sought.now line.now) (rows_after lines.now starts.now row (length sought.now)))) }
 {
     let text = compared_line(alloc, line, sought)?;
     let is_within = contains(text.as_str(), sought);
     if is_within {
         return Ok(true);
     }
-    let goes_on = goes_on(alloc, text.as_str(), lines, starts, sought, row)?;
+    let goes_on = goes_on(alloc, text.as_str().trim_end(), lines, starts, sought, row)?;
     Ok(goes_on)
 }
 
@@ -221,16 +221,34 @@ fn goes_over(
     ))
 }
 
-// The texts of lines that follow a break, each with a blank before it, as they are compared.
-fn text_after(alloc: Global, sought: &str, lines: &[FmtLine]) -> Result<String, AllocError>
+/// The texts of lines that follow a break, each with a blank before it, as they are compared with what is sought. Blanks at their ends don't count.
+///
+/// # Errors
+///
+/// Out of memory is the only error.
+pub fn text_after(alloc: Global, sought: &str, lines: &[FmtLine]) -> Result<String, AllocError>
     ensures { IfOk result (λ text. string_bytes text ≡ text_after sought.now lines.now) }
 {
     let mut text = String::new(alloc);
     for line in lines {
         let own = compared_line(alloc, line, sought)?;
         text.push(' ')?;
-        text.push_str(own.as_str())?;
+        text.push_str(own.as_str().trim_end())?;
     }
+    Ok(text)
+}
+
+/// The text of a line at a break, as it is compared with what is sought: blanks at its end don't count.
+///
+/// # Errors
+///
+/// Out of memory is the only error.
+pub fn row_text(alloc: Global, sought: &str, line: &FmtLine) -> Result<String, AllocError>
+    ensures { IfOk result (λ text. string_bytes text ≡ row_text sought.now line.now) }
+{
+    let whole = compared_line(alloc, line, sought)?;
+    let mut text = String::new(alloc);
+    text.push_str(whole.as_str().trim_end())?;
     Ok(text)
 }
 
