@@ -12,6 +12,7 @@ use Rattle.mad_hits.proofs.TookLemmas.{known, took_so}
 use Rattle.mad_term.proofs.Traces.{took_both, cut_in_first, cut_in_second, flush_failed}
 use Rattle.mad_fit.specs.Areas.{IsWithinLimits}
 use Rattle.mad_fit.specs.declared.area.Area.{Area}
+use Rattle.std.specs.List.{range_with_len}
 use Rattle.mad_draw.specs.BesideBar.{columns_beside}
 use Rattle.mad_columns.specs.Columns.{char_columns}
 use Rattle.mad_fit.proofs.AllLemmas.{all_each}
