@@ -1,4 +1,4 @@
--- What sets a style sets it anywhere: commands, text between them, and the command that ends a style.
+-- What sets a style sets it anywhere: the commands of a row, without its text, lead to the same pen.
 use Rattle.std.proofs.Common.{◌≡◌, ◌≢◌, ◌⊎◌, inl, inr, ⊎_elim, ℕ, zero, suc, ◌+◌, ◌-◌, ◌*◌, ◌<◌, ◌≤◌, Bool, true, false, cond, eqb, List, [], ◌∷◌, ◌++◌, length, Option, Some, None, refl, ap, sym, ◌∙◌, subst, arith, lit<, append_assoc, length-append, IsUtf8}
 use Rattle.std.specs.Prelude.{option_and_then, option_map, IsAscii, ◌||◌, nat_lt, nat_le}
 use Rattle.std.specs.List.{AllByRecursion}
@@ -8,7 +8,7 @@ use Rattle.std.proofs.Math.Seq.{get_or-append_seam}
 use Rattle.std.proofs.lemmas.List.{append-nil}
 use Rattle.std.proofs.lemmas.Option.{option_and_then_some}
 use Rattle.std.proofs.lemmas.Bool.Decides.{nat_tests}
-use Rattle.std.proofs.lemmas.Str.{encodes-chars, chars-append, chars-IsAscii, IsUtf8-from_ascii, IsUtf8-take, IsUtf8-drop, IsCharBoundary-before_ascii}
+use Rattle.std.proofs.lemmas.Str.{encodes-chars, chars-append, chars-IsAscii, chars-nil, IsUtf8-from_ascii, IsUtf8-take, IsUtf8-drop, IsCharBoundary-before_ascii}
 use Rattle.unicode_width.specs.Width.{char_width}
 use Rattle.mad_screen.specs.Glyph.{Glyph, Look}
 use Rattle.mad_screen.specs.Grid.{Grid, painted, plain_pen, glyphs}
@@ -16,7 +16,7 @@ use Rattle.mad_screen.specs.Terminal.{Mode, Outside, Escape, Numbers, go_to, era
 use Rattle.mad_live.specs.Papers.{Paper, PaperReading, blank_line, with_line, at_rest, move_up, next_row, put_on, perform_on, end_number_on, feed_on, read_on, Reads}
 use Rattle.mad_live.specs.LiveRows.{rows_from, last_from, rows_in, last_in, IsRow, drawn}
 use Rattle.mad_live.specs.PaintedRows.{IsOneRow}
-use Rattle.mad_live.specs.StyledRows.{reset, AreText, EndsPlain, set_style, set_styles, AreNumbers}
+use Rattle.mad_live.specs.StyledRows.{Segment, byte, command, set_style, segment_bytes, segment_styles, AreNumbers, IsSegment, row_bytes, row_styles, HasStyles}
 use Rattle.mad_live.proofs.PaperLemmas.{AreLow, Begun, ascii_reads, drop_front, low_ascii, read_on-append, take_front, text_after}
 use Rattle.mad_live.proofs.RowLemmas.{all_both, all_first, all_then, last-append, rows-append}
 
@@ -40,9 +40,8 @@ last_more a b h = last-append [] a b ∙ last_one (last_in a) b h
 pub rows_more : (a b : List ℕ) → IsOneRow b → rows_in (a ++ b) ≡ rows_in a
 rows_more a b h = rows-append [] a b ∙ ap (λ (l : List (List ℕ)). rows_in a ++ l) (rows_one (last_in a) b h) ∙ append-nil (rows_in a)
 
-pub text_in_row : (bytes : List ℕ) → AreText bytes → IsOneRow bytes
-text_in_row [] h = tt
-text_in_row (c ∷ bytes) h = (h.0.1, text_in_row bytes h.1)
+abbrev AreText : List ℕ → Type 0
+AreText bytes = AllByRecursion (λ c. (c ≢ 27) × (c ≢ 10)) bytes
 
 numbers_in_row : (bytes : List ℕ) → AreNumbers bytes → IsOneRow bytes
 numbers_in_row [] h = tt
@@ -51,13 +50,17 @@ numbers_in_row (c ∷ bytes) h = (h.0.1, numbers_in_row bytes h.1)
 no_newline : (c : ℕ) → 10 < c → c ≢ 10
 no_newline c h e = absurd (omega (arith, e))
 
-pub styles_in_row : (commands : List (List ℕ)) → AllByRecursion AreNumbers commands → IsOneRow (set_styles commands)
-styles_in_row [] h = tt
-styles_in_row (numbers ∷ commands) h =
-    all_both (λ b. b ≢ 10) (set_style numbers) (set_styles commands) (no_newline 27 (lit< tt), (no_newline 91 (lit< tt), all_both (λ b. b ≢ 10) numbers (109 ∷ []) (numbers_in_row numbers h.0) (no_newline 109 (lit< tt), tt))) (styles_in_row commands h.1)
+command_in_row : (numbers : List ℕ) → AreNumbers numbers → IsOneRow (set_style numbers)
+command_in_row numbers h = (no_newline 27 (lit< tt), (no_newline 91 (lit< tt), all_both (λ b. b ≢ 10) numbers (109 ∷ []) (numbers_in_row numbers h) (no_newline 109 (lit< tt), tt)))
 
-pub reset_in_row : IsOneRow reset
-reset_in_row = (no_newline 27 (lit< tt), (no_newline 91 (lit< tt), (no_newline 48 (lit< tt), (no_newline 109 (lit< tt), tt))))
+-- a row of segments is one row
+row_in_row : (segments : List Segment) → AllByRecursion IsSegment segments → IsOneRow (row_bytes segments)
+row_in_row [] h = tt
+row_in_row (byte c ∷ segments) h = (h.0.1, row_in_row segments h.1)
+row_in_row (command numbers ∷ segments) h = all_both (λ b. b ≢ 10) (set_style numbers) (row_bytes segments) (command_in_row numbers h.0) (row_in_row segments h.1)
+
+pub styled_in_row : (row styles : List ℕ) → HasStyles row styles [] → IsOneRow row
+styled_in_row row styles h = subst (λ (l : List ℕ). IsOneRow l) (sym (h.bytes ∙ append-nil (row_bytes h.segments))) (row_in_row h.segments h.are)
 
 -- ---- ASCII
 
@@ -69,15 +72,13 @@ numbers_low : (bytes : List ℕ) → AreNumbers bytes → AreLow bytes
 numbers_low [] h = tt
 numbers_low (c ∷ bytes) h = (omega (arith, h.0.0), numbers_low bytes h.1)
 
-styles_low : (commands : List (List ℕ)) → AllByRecursion AreNumbers commands → AreLow (set_styles commands)
+command_low : (numbers : List ℕ) → AreNumbers numbers → AreLow (set_style numbers)
+command_low numbers h = (lit< tt, (lit< tt, low_both numbers (109 ∷ []) (numbers_low numbers h) (lit< tt, tt)))
+
+styles_low : (segments : List Segment) → AllByRecursion IsSegment segments → AreLow (row_styles segments)
 styles_low [] h = tt
-styles_low (numbers ∷ commands) h = low_both (set_style numbers) (set_styles commands) (lit< tt, (lit< tt, low_both numbers (109 ∷ []) (numbers_low numbers h.0) (lit< tt, tt))) (styles_low commands h.1)
-
-ascii_styles : (commands : List (List ℕ)) → AllByRecursion AreNumbers commands → IsAscii (set_styles commands)
-ascii_styles commands h = low_ascii (set_styles commands) (styles_low commands h)
-
-ascii_reset : IsAscii reset
-ascii_reset = low_ascii reset (lit< tt, (lit< tt, (lit< tt, (lit< tt, tt))))
+styles_low (byte c ∷ segments) h = styles_low segments h.1
+styles_low (command numbers ∷ segments) h = low_both (set_style numbers) (row_styles segments) (command_low numbers h.0) (styles_low segments h.1)
 
 -- a text before an ASCII byte, and from there on
 utf8_parts : (a b : List ℕ) (c : ℕ) → c < 128 → IsUtf8 (a ++ c ∷ b) → IsUtf8 a × IsUtf8 (c ∷ b)
@@ -213,18 +214,6 @@ numbers_set (c ∷ bytes) ps now p r are h =
     let rest : SetsPen (bytes ++ 109 ∷ []) (Numbers one.numbers one.last) p r = numbers_set bytes one.numbers one.last p r are.1 (subst (λ (y : PaperReading). read_on (bytes ++ 109 ∷ []) y ≡ Some r) one.is f) in
     record { pen = rest.pen; is = rest.is; again = λ q same. ap (option_and_then (read_on (bytes ++ 109 ∷ []))) (one.again q) ∙ rest.again q same })
 
-styles_set : (commands : List (List ℕ)) (p : Paper) (r : PaperReading) → AllByRecursion AreNumbers commands → read_on (set_styles commands) (at_rest p) ≡ Some r → SetsPen (set_styles commands) Outside p r
-styles_set [] p r are h = record { pen = p.line.pen; is = same_some (at_rest p) r h; again = λ q same. ap (λ (l : Look). Some (at_rest (with_pen q l))) same }
-styles_set (numbers ∷ commands) p r are h =
-    let parts : Between (set_style numbers) (set_styles commands) (at_rest p) r = between (set_style numbers) (set_styles commands) (at_rest p) r h in
-    let one : SetsPen (numbers ++ 109 ∷ []) (Numbers [] None) p parts.mid = numbers_set numbers [] None p parts.mid are.0 parts.first in
-    let two : SetsPen (set_styles commands) Outside (with_pen p one.pen) r = styles_set commands (with_pen p one.pen) r are.1 (subst (λ (y : PaperReading). read_on (set_styles commands) y ≡ Some r) one.is parts.second) in
-    record {
-      pen = two.pen;
-      is = two.is;
-      again = λ q same. read_on-append (set_style numbers) (set_styles commands) (at_rest q) ∙ ap (option_and_then (read_on (set_styles commands))) (one.again q same) ∙ two.again (with_pen q one.pen) refl;
-    }
-
 -- ---- text
 
 abbrev pen_of : Look → Option Grid → Look
@@ -283,92 +272,91 @@ text_keeps (c ∷ cs) p r text h =
     let rest : KeepsPen (with_line p one.line) r = text_keeps cs (with_line p one.line) r text.1 (subst (λ (y : PaperReading). read_on cs y ≡ Some r) one.is f) in
     record { line = rest.line; is = rest.is; pen = rest.pen ∙ one.pen })
 
--- ---- the end of a style
+-- ---- the commands of a row
 
-reset_by : (mode : Mode) (p : Paper) (r : PaperReading) → read_on reset (record { paper = p; mode = mode }) ≡ Some r → (mode ≡ Outside) × (r ≡ at_rest (with_pen p plain_pen))
-reset_by Outside p r h = (refl, same_some (at_rest (with_pen p plain_pen)) r h)
-reset_by Escape p r h = clash r h
-reset_by (Numbers [] None) p r h = clash r h
-reset_by (Numbers (n ∷ ns) None) p r h = clash r h
-reset_by (Numbers [] (Some n)) p r h = clash r h
-reset_by (Numbers (m ∷ ms) (Some n)) p r h = clash r h
+-- A row changes the cursor's row alone. Its commands, without the text, lead any terminal that has the same pen to the pen that it leaves.
+record Replays (segments : List Segment) (p : Paper) (r : PaperReading) : Type 0 where
+  pub line : Grid
+  pub is : r ≡ at_rest (with_line p line)
+  pub again : (q : Paper) → q.line.pen ≡ p.line.pen → read_on (row_styles segments) (at_rest q) ≡ Some (at_rest (with_pen q line.pen))
 
-reset_plain : (s r : PaperReading) → read_on reset s ≡ Some r → (s.mode ≡ Outside) × (r ≡ at_rest (with_pen s.paper plain_pen))
-reset_plain s r h = reset_by s.mode s.paper r h
-
--- ---- rows that leave the plain pen
-
-abbrev pub RowEndsPlain : List ℕ → Type 0
-RowEndsPlain row = AreText row ⊎ ((before : List ℕ) × (since : List ℕ) × (row ≡ before ++ (reset ++ since)) × AreText since)
-
-pub last_is_plain : (bytes : List ℕ) → EndsPlain bytes → RowEndsPlain (last_in bytes)
-last_is_plain bytes h =
-    let last : last_in bytes ≡ last_in h.before ++ h.since = ap last_in h.is ∙ last_more h.before h.since (text_in_row h.since h.text) in
-    ⊎_elim (λ (none : h.before ≡ []). inl (subst (λ (l : List ℕ). AreText l) (sym (last ∙ ap (λ (l : List ℕ). last_in l ++ h.since) none)) h.text))
-    (λ (some : ((front : List ℕ) × (h.before ≡ front ++ 10 ∷ [])) ⊎ ((front : List ℕ) × (h.before ≡ front ++ reset))).
-    ⊎_elim (λ (ended : (front : List ℕ) × (h.before ≡ front ++ 10 ∷ [])). inl (subst (λ (l : List ℕ). AreText l) (sym (last ∙ ap (λ (l : List ℕ). l ++ h.since) (ap last_in ended.1 ∙ last-append [] ended.0 (10 ∷ [])))) h.text))
-    (λ (plain : (front : List ℕ) × (h.before ≡ front ++ reset)). inr (last_in plain.0, h.since, last ∙ ap (λ (l : List ℕ). l ++ h.since) (ap last_in plain.1 ∙ last_more plain.0 reset reset_in_row) ∙ append_assoc (last_in plain.0) reset h.since, h.text)) some)
-    h.begins
-
-record AtPlain (p : Paper) (r : PaperReading) : Type 0 where
-  pub mode : r.mode ≡ Outside
-  pub pen : r.paper.line.pen ≡ plain_pen
-
-kept_plain : (p : Paper) (r : PaperReading) → p.line.pen ≡ plain_pen → KeepsPen p r → AtPlain p r
-kept_plain p r plain h = record { mode = ap (λ (s : PaperReading). s.mode) h.is; pen = ap (λ (s : PaperReading). s.paper.line.pen) h.is ∙ h.pen ∙ plain }
-
-plain_row : (row : List ℕ) (p : Paper) (r : PaperReading) → IsUtf8 row → RowEndsPlain row → p.line.pen ≡ plain_pen → read_on (chars row) (at_rest p) ≡ Some r → AtPlain p r
-plain_row row p r utf8 (inl text) plain h = kept_plain p r plain (text_keeps (chars row) p r (text_chars row utf8 text) h)
-plain_row row p r utf8 (inr (before, since, is, text)) plain h =
-    let parts : IsUtf8 before × IsUtf8 (reset ++ since) = utf8_parts before (91 ∷ 48 ∷ 109 ∷ since) 27 (lit< tt) (subst (λ (l : List ℕ). IsUtf8 l) is utf8) in
-    let since_utf8 : IsUtf8 since = text_after reset since (IsUtf8-from_ascii reset ascii_reset) parts.1 in
-    let spelled : chars row ≡ chars before ++ (reset ++ chars since) =
-    ap chars is ∙ chars-append before (reset ++ since) parts.0 ∙ ap (λ (l : List ℕ). chars before ++ l) (chars-append reset since (IsUtf8-from_ascii reset ascii_reset) ∙ ap (λ (l : List ℕ). l ++ chars since) (chars-IsAscii reset ascii_reset)) in
-    let first : Between (chars before) (reset ++ chars since) (at_rest p) r = between (chars before) (reset ++ chars since) (at_rest p) r (sym (ap (λ (l : List ℕ). read_on l (at_rest p)) spelled) ∙ h) in
-    let second : Between reset (chars since) first.mid r = between reset (chars since) first.mid r first.second in
-    let at : second.mid ≡ at_rest (with_pen first.mid.paper plain_pen) = (reset_plain first.mid second.mid second.first).1 in
-    let kept : KeepsPen (with_pen first.mid.paper plain_pen) r = text_keeps (chars since) (with_pen first.mid.paper plain_pen) r (text_chars since since_utf8 text) (subst (λ (y : PaperReading). read_on (chars since) y ≡ Some r) at second.second) in
-    record { mode = ap (λ (s : PaperReading). s.mode) kept.is; pen = ap (λ (s : PaperReading). s.paper.line.pen) kept.is ∙ kept.pen }
-
--- ---- the style is set again
-
-pub record Restyled (w : ℕ) (row style : List ℕ) (p : Paper) : Type 0 where
-  pub paper : Paper
-  pub reads : Reads p style paper
-  pub begun : Begun w row paper
-  pub pen : with_pen paper plain_pen ≡ p
-
--- of a terminal that has a row in a style, which has ended
-pub restyled : (w : ℕ) (front text first : List ℕ) (commands : List (List ℕ)) (p : Paper) → AllByRecursion AreNumbers (first ∷ commands) → RowEndsPlain front → AreText text → IsRow w ((front ++ (set_styles (first ∷ commands) ++ text)) ++ reset) → p.line ≡ drawn w ((front ++ (set_styles (first ∷ commands) ++ text)) ++ reset)
-    → Restyled w (front ++ (set_styles (first ∷ commands) ++ text)) (set_styles (first ∷ commands)) p
-restyled w front text first commands p numbers plain in_row is here =
-    let style : List ℕ = set_styles (first ∷ commands) in
-    let row : List ℕ = front ++ (style ++ text) in
-    let start : Paper = with_line p (blank_line w) in
-    let ascii : IsAscii style = ascii_styles (first ∷ commands) numbers in
-    let row_utf8 : IsUtf8 row = (utf8_parts row (91 ∷ 48 ∷ 109 ∷ []) 27 (lit< tt) is.text).0 in
-    let parts : IsUtf8 front × IsUtf8 (style ++ text) = utf8_parts front (91 ∷ ((first ++ 109 ∷ []) ++ set_styles commands) ++ text) 27 (lit< tt) row_utf8 in
-    let text_utf8 : IsUtf8 text = text_after style text (IsUtf8-from_ascii style ascii) parts.1 in
-    let spelled : chars row ≡ chars front ++ (style ++ chars text) =
-    chars-append front (style ++ text) parts.0 ∙ ap (λ (l : List ℕ). chars front ++ l) (chars-append style text (IsUtf8-from_ascii style ascii) ∙ ap (λ (l : List ℕ). l ++ chars text) (chars-IsAscii style ascii)) in
-    let whole : read_on (chars row ++ reset) (at_rest start) ≡ Some (at_rest (with_line p (drawn w (row ++ reset)))) =
-    sym (ap (λ (l : List ℕ). read_on l (at_rest start)) (chars-append row reset row_utf8 ∙ ap (λ (l : List ℕ). chars row ++ l) (chars-IsAscii reset ascii_reset))) ∙ is.reads start refl in
-    let one : Between (chars row) reset (at_rest start) (at_rest (with_line p (drawn w (row ++ reset)))) = between (chars row) reset (at_rest start) (at_rest (with_line p (drawn w (row ++ reset)))) whole in
-    let ended : at_rest (with_line p (drawn w (row ++ reset))) ≡ at_rest (with_pen one.mid.paper plain_pen) = (reset_plain one.mid (at_rest (with_line p (drawn w (row ++ reset)))) one.second).1 in
-    let two : Between (chars front) (style ++ chars text) (at_rest start) one.mid = between (chars front) (style ++ chars text) (at_rest start) one.mid (sym (ap (λ (l : List ℕ). read_on l (at_rest start)) spelled) ∙ one.first) in
-    let at : AtPlain start two.mid = plain_row front start two.mid parts.0 plain refl two.first in
-    let rest : read_on (style ++ chars text) (at_rest two.mid.paper) ≡ Some one.mid = ap (λ (m : Mode). read_on (style ++ chars text) (record { paper = two.mid.paper; mode = m })) (sym at.mode) ∙ two.second in
-    let three : Between style (chars text) (at_rest two.mid.paper) one.mid = between style (chars text) (at_rest two.mid.paper) one.mid rest in
-    let sets : SetsPen style Outside two.mid.paper three.mid = styles_set (first ∷ commands) two.mid.paper three.mid numbers three.first in
-    let keeps : KeepsPen (with_pen two.mid.paper sets.pen) one.mid =
-    text_keeps (chars text) (with_pen two.mid.paper sets.pen) one.mid (text_chars text text_utf8 in_row) (subst (λ (y : PaperReading). read_on (chars text) y ≡ Some one.mid) sets.is three.second) in
-    let q : Paper = with_line two.mid.paper keeps.line in
-    let e : with_pen q plain_pen ≡ p = ap (λ (s : PaperReading). with_pen s.paper plain_pen) (sym keeps.is) ∙ ap (λ (s : PaperReading). s.paper) (sym ended) ∙ ap (with_line p) (sym here) in
-    let same : p.line.pen ≡ two.mid.paper.line.pen = ap (λ (s : Paper). s.line.pen) (sym e) ∙ sym at.pen in
-    let then : with_pen p sets.pen ≡ q = ap (λ (s : Paper). with_pen s sets.pen) (sym e) ∙ ap (with_pen q) (sym keeps.pen) in
+-- text came before them
+replays : (text : List ℕ) (segments : List Segment) (p : Paper) (r : PaperReading) → AreText text → AllByRecursion IsSegment segments → IsUtf8 (text ++ row_bytes segments) → read_on (chars (text ++ row_bytes segments)) (at_rest p) ≡ Some r → Replays segments p r
+replays text [] p r in_row are utf8 h =
+    let kept : KeepsPen p r = text_keeps (chars text) p r (text_chars text (subst (λ (l : List ℕ). IsUtf8 l) (append-nil text) utf8) in_row) (sym (ap (λ (l : List ℕ). read_on (chars l) (at_rest p)) (append-nil text)) ∙ h) in
+    record { line = kept.line; is = kept.is; again = λ q same. ap (λ (l : Look). Some (at_rest (with_pen q l))) (same ∙ sym kept.pen) }
+replays text (byte c ∷ segments) p r in_row are utf8 h =
+    let more : text ++ (c ∷ row_bytes segments) ≡ (text ++ c ∷ []) ++ row_bytes segments = sym (append_assoc text (c ∷ []) (row_bytes segments)) in
+    let rest : Replays segments p r =
+    replays (text ++ c ∷ []) segments p r (all_both (λ b. (b ≢ 27) × (b ≢ 10)) text (c ∷ []) in_row (are.0, tt)) are.1 (subst (λ (l : List ℕ). IsUtf8 l) more utf8) (sym (ap (λ (l : List ℕ). read_on (chars l) (at_rest p)) more) ∙ h) in
+    record { line = rest.line; is = rest.is; again = rest.again }
+replays text (command numbers ∷ segments) p r in_row are utf8 h =
+    let set : List ℕ = set_style numbers in
+    let tail : List ℕ = row_bytes segments in
+    let ascii : IsAscii set = low_ascii set (command_low numbers are.0) in
+    let parts : IsUtf8 text × IsUtf8 (set ++ tail) = utf8_parts text (91 ∷ ((numbers ++ 109 ∷ []) ++ tail)) 27 (lit< tt) utf8 in
+    let tail_utf8 : IsUtf8 tail = text_after set tail (IsUtf8-from_ascii set ascii) parts.1 in
+    let spelled : chars (text ++ (set ++ tail)) ≡ chars text ++ (set ++ chars tail) =
+    chars-append text (set ++ tail) parts.0 ∙ ap (λ (l : List ℕ). chars text ++ l) (chars-append set tail (IsUtf8-from_ascii set ascii) ∙ ap (λ (l : List ℕ). l ++ chars tail) (chars-IsAscii set ascii)) in
+    let one : Between (chars text) (set ++ chars tail) (at_rest p) r = between (chars text) (set ++ chars tail) (at_rest p) r (sym (ap (λ (l : List ℕ). read_on l (at_rest p)) spelled) ∙ h) in
+    let kept : KeepsPen p one.mid = text_keeps (chars text) p one.mid (text_chars text parts.0 in_row) one.first in
+    let q : Paper = with_line p kept.line in
+    let two : Between set (chars tail) (at_rest q) r = between set (chars tail) (at_rest q) r (subst (λ (y : PaperReading). read_on (set ++ chars tail) y ≡ Some r) kept.is one.second) in
+    let sets : SetsPen (numbers ++ 109 ∷ []) (Numbers [] None) q two.mid = numbers_set numbers [] None q two.mid are.0 two.first in
+    let rest : Replays segments (with_pen q sets.pen) r = replays [] segments (with_pen q sets.pen) r tt are.1 tail_utf8 (subst (λ (y : PaperReading). read_on (chars tail) y ≡ Some r) sets.is two.second) in
     record {
-      paper = q;
-      reads = ascii_reads p q style ascii (sets.again p same ∙ ap (λ (s : Paper). Some (at_rest s)) then);
-      begun = record { text = row_utf8; reads = ap (λ (s : Paper). read_on (chars row) (at_rest (with_line s (blank_line w)))) e ∙ one.first ∙ ap (λ (s : PaperReading). Some s) keeps.is };
-      pen = e;
+      line = rest.line;
+      is = rest.is;
+      again = λ s same. read_on-append set (row_styles segments) (at_rest s) ∙ ap (option_and_then (read_on (row_styles segments))) (sets.again s (same ∙ sym kept.pen)) ∙ rest.again (with_pen s sets.pen) refl;
+    }
+
+-- ---- a row goes on before its end
+
+pub record Restyled (w : ℕ) (row styles : List ℕ) (p : Paper) : Type 0 where
+  pub line : Grid
+  pub reads : Reads p styles (with_line p line)
+  pub begun : Begun w row (with_line p line)
+
+-- commands are nothing, or begin one
+styles_begin : (segments : List Segment) → (row_styles segments ≡ []) ⊎ ((rest : List ℕ) × (row_styles segments ≡ 27 ∷ rest))
+styles_begin [] = inl refl
+styles_begin (byte c ∷ segments) = styles_begin segments
+styles_begin (command numbers ∷ segments) = inr (91 ∷ ((numbers ++ 109 ∷ []) ++ row_styles segments), refl)
+
+-- the text before commands
+utf8_before : (row ends : List ℕ) (segments : List Segment) → ends ≡ row_styles segments → IsUtf8 (row ++ ends) → IsUtf8 row
+utf8_before row ends segments is h =
+    ⊎_elim (λ (none : row_styles segments ≡ []). subst (λ (l : List ℕ). IsUtf8 l) (ap (λ (l : List ℕ). row ++ l) (is ∙ none) ∙ append-nil row) h)
+    (λ (some : (rest : List ℕ) × (row_styles segments ≡ 27 ∷ rest)). (utf8_parts row some.0 27 (lit< tt) (subst (λ (l : List ℕ). IsUtf8 (row ++ l)) (is ∙ some.1) h)).0) (styles_begin segments)
+
+-- A terminal has a row, and commands at its end have left the plain pen. The row's commands lead to where it was before these.
+pub restyled : (w : ℕ) (row styles ends : List ℕ) (p : Paper) → HasStyles row styles [] → HasStyles ends ends [] → IsRow w (row ++ ends) → p.line ≡ drawn w (row ++ ends) → Restyled w row styles p
+restyled w row styles ends p has last is here =
+    let start : Paper = with_line p (blank_line w) in
+    let row_is : row ≡ row_bytes has.segments = has.bytes ∙ append-nil (row_bytes has.segments) in
+    let styles_are : styles ≡ row_styles has.segments = has.styles_are ∙ append-nil (row_styles has.segments) in
+    let ends_bytes : ends ≡ row_bytes last.segments = last.bytes ∙ append-nil (row_bytes last.segments) in
+    let ends_styles : ends ≡ row_styles last.segments = last.styles_are ∙ append-nil (row_styles last.segments) in
+    let ascii : IsAscii ends = low_ascii ends (subst (λ (l : List ℕ). AreLow l) (sym ends_styles) (styles_low last.segments last.are)) in
+    let row_utf8 : IsUtf8 row = utf8_before row ends last.segments ends_styles is.text in
+    let whole : read_on (chars row ++ ends) (at_rest start) ≡ Some (at_rest (with_line p (drawn w (row ++ ends)))) =
+    sym (ap (λ (l : List ℕ). read_on l (at_rest start)) (chars-append row ends row_utf8 ∙ ap (λ (l : List ℕ). chars row ++ l) (chars-IsAscii ends ascii))) ∙ is.reads start refl in
+    let one : Between (chars row) ends (at_rest start) (at_rest (with_line p (drawn w (row ++ ends)))) = between (chars row) ends (at_rest start) (at_rest (with_line p (drawn w (row ++ ends)))) whole in
+    let first : Replays has.segments start one.mid = replays [] has.segments start one.mid tt has.are (subst (λ (l : List ℕ). IsUtf8 l) row_is row_utf8) (sym (ap (λ (l : List ℕ). read_on (chars l) (at_rest start)) row_is) ∙ one.first) in
+    let q : Paper = with_line p first.line in
+    let then : read_on ends (at_rest q) ≡ Some (at_rest (with_line p (drawn w (row ++ ends)))) = subst (λ (y : PaperReading). read_on ends y ≡ Some (at_rest (with_line p (drawn w (row ++ ends))))) first.is one.second in
+    let spelled : chars (row_bytes last.segments) ≡ ends = ap chars (sym ends_bytes) ∙ chars-IsAscii ends ascii in
+    let second : Replays last.segments q (at_rest (with_line p (drawn w (row ++ ends)))) =
+    replays [] last.segments q (at_rest (with_line p (drawn w (row ++ ends)))) tt last.are (subst (λ (l : List ℕ). IsUtf8 l) ends_bytes (IsUtf8-from_ascii ends ascii)) (ap (λ (l : List ℕ). read_on l (at_rest q)) spelled ∙ then) in
+    let pen : Look = second.line.pen in
+    let ended : at_rest (with_line p (drawn w (row ++ ends))) ≡ at_rest (with_pen q pen) =
+    same_some (at_rest (with_pen q pen)) (at_rest (with_line p (drawn w (row ++ ends)))) (sym (ap (λ (l : List ℕ). read_on l (at_rest q)) ends_styles ∙ second.again q refl) ∙ then) in
+    let e : p ≡ with_pen q pen = ap (with_line p) here ∙ ap (λ (s : PaperReading). s.paper) ended in
+    let plain : p.line.pen ≡ plain_pen = ap (λ (g : Grid). g.pen) (here ∙ is.plain) in
+    let back : with_pen p first.line.pen ≡ q = ap (λ (s : Paper). with_pen s first.line.pen) e in
+    record {
+      line = first.line;
+      reads = ascii_reads p q styles (low_ascii styles (subst (λ (l : List ℕ). AreLow l) (sym styles_are) (styles_low has.segments has.are)))
+          (ap (λ (l : List ℕ). read_on l (at_rest p)) styles_are ∙ first.again p plain ∙ ap (λ (s : Paper). Some (at_rest s)) back);
+      begun = record { text = row_utf8; reads = one.first ∙ ap (λ (s : PaperReading). Some s) first.is };
     }

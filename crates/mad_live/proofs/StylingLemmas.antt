@@ -1,124 +1,104 @@
--- What the end of a row is, byte after byte.
-use Rattle.std.proofs.Common.{◌≡◌, ◌≢◌, inl, inr, ℕ, ◌+◌, ◌-◌, ◌<◌, ◌≤◌, List, [], ◌∷◌, ◌++◌, length, take, drop, refl, ap, sym, ◌∙◌, subst, arith, append_assoc, length-append}
-use Rattle.std.proofs.lemmas.List.{append-nil}
+-- How the commands of a row are read, byte after byte.
+use Rattle.std.proofs.Common.{◌≡◌, ◌≢◌, ℕ, zero, suc, ◌+◌, ◌<◌, ◌≤◌, List, [], ◌∷◌, ◌++◌, length, take, drop, get_or, refl, ap, sym, ◌∙◌, subst, arith, append_assoc, length-append}
+use Rattle.std.specs.List.{AllByRecursion}
+use Rattle.std.proofs.lemmas.List.{append-nil, take-append-drop}
 use Rattle.std.proofs.lemmas.Grind.{flat_map-append}
-use Rattle.mad_live.specs.StyledRows.{reset, EndsPlain, set_style, set_styles, AreNumbers, HasStyle, IsStyling, GrowsInStyle}
-use Rattle.mad_live.specs.declared.styling.Styling.TheVariants.{Begun, Numbers, Styled}
-use Rattle.mad_live.proofs.PaperLemmas.{take_front, drop_front}
+use Rattle.mad_live.specs.LiveRows.{AreWhole, IsCommonFront, GrowsInStyle, IsAfterRows}
+use Rattle.mad_live.specs.StyledRows.{Segment, byte, command, set_style, segment_bytes, segment_styles, AreNumbers, IsSegment, row_bytes, row_styles, HasStyles, IsReadTo, TakesByte}
+use Rattle.mad_live.specs.declared.styling.Place.TheVariants.{Text, Begun, Numbers}
+use Rattle.mad_live.proofs.CodeLemmas.{one_more}
 use Rattle.mad_live.proofs.RowLemmas.{all_both}
 
-abbrev IsText : ℕ → Type 0
-IsText c = (c ≢ 27) × (c ≢ 10)
+pub nothing_read : HasStyles [] [] []
+nothing_read = record { segments = []; are = tt; bytes = refl; styles_are = refl }
 
-abbrev IsNumber : ℕ → Type 0
-IsNumber c = (c < 60) × (c ≢ 10)
-
--- ---- no style
-
-pub nothing_plain : EndsPlain []
-nothing_plain = record { before = []; since = []; is = refl; text = tt; begins = inl refl }
-
-pub newline_plain : (front : List ℕ) (c : ℕ) → c ≡ 10 → EndsPlain (front ++ c ∷ [])
-newline_plain front c is = record { before = front ++ c ∷ []; since = []; is = sym (append-nil (front ++ c ∷ [])); text = tt; begins = inr (inl (front, ap (λ d. front ++ d ∷ []) is)) }
-
-pub reset_plain : (front before : List ℕ) (c : ℕ) → c ≡ 109 → front ≡ before ++ 27 ∷ 91 ∷ 48 ∷ [] → EndsPlain (front ++ c ∷ [])
-reset_plain front before c is ends = record {
-  before = front ++ c ∷ [];
-  since = [];
-  is = sym (append-nil (front ++ c ∷ []));
-  text = tt;
-  begins = inr (inr (before, ap (λ d. front ++ d ∷ []) is ∙ ap (λ l. l ++ 109 ∷ []) ends ∙ append_assoc before (27 ∷ 91 ∷ 48 ∷ []) (109 ∷ [])));
+-- one more byte, of the row and of its commands
+both_more : (row styles rest : List ℕ) (c : ℕ) → HasStyles row styles rest → HasStyles (row ++ c ∷ []) (styles ++ c ∷ []) (rest ++ c ∷ [])
+both_more row styles rest c h = record {
+  segments = h.segments;
+  are = h.are;
+  bytes = ap (λ l. l ++ c ∷ []) h.bytes ∙ append_assoc (row_bytes h.segments) rest (c ∷ []);
+  styles_are = ap (λ l. l ++ c ∷ []) h.styles_are ∙ append_assoc (row_styles h.segments) rest (c ∷ []);
 }
 
-pub plain_more : (front : List ℕ) (c : ℕ) → c ≢ 27 → c ≢ 10 → EndsPlain front → EndsPlain (front ++ c ∷ [])
-plain_more front c no_escape no_newline h = record {
-  before = h.before;
-  since = h.since ++ c ∷ [];
-  is = ap (λ l. l ++ c ∷ []) h.is ∙ append_assoc h.before h.since (c ∷ []);
-  text = all_both IsText h.since (c ∷ []) h.text ((no_escape, no_newline), tt);
-  begins = h.begins;
+-- one more segment
+segment_more : (row styles : List ℕ) (segment : Segment) → IsSegment segment → HasStyles row styles [] → HasStyles (row ++ segment_bytes segment) (styles ++ segment_styles segment) []
+segment_more row styles segment is h = record {
+  segments = h.segments ++ segment ∷ [];
+  are = all_both IsSegment h.segments (segment ∷ []) h.are (is, tt);
+  bytes = ap (λ l. l ++ segment_bytes segment) (h.bytes ∙ append-nil (row_bytes h.segments)) ∙ ap (λ l. row_bytes h.segments ++ l) (sym (append-nil (segment_bytes segment))) ∙ sym (flat_map-append segment_bytes h.segments (segment ∷ []))
+      ∙ sym (append-nil (row_bytes (h.segments ++ segment ∷ [])));
+  styles_are = ap (λ l. l ++ segment_styles segment) (h.styles_are ∙ append-nil (row_styles h.segments)) ∙ ap (λ l. row_styles h.segments ++ l) (sym (append-nil (segment_styles segment)))
+      ∙ sym (flat_map-append segment_styles h.segments (segment ∷ [])) ∙ sym (append-nil (row_styles (h.segments ++ segment ∷ [])));
 }
-
--- ---- a style
-
-pub style_begins : (front : List ℕ) (c begin : ℕ) → c ≡ 27 → begin ≡ length front → EndsPlain front → IsStyling (front ++ c ∷ []) (Begun begin)
-style_begins front c begin is at plain = ([], record { front = front; is = ap (λ d. front ++ d ∷ []) is; plain = plain; numbers = tt; at = sym at })
-
-style_more : (bytes : List ℕ) (begin c : ℕ) (commands : List (List ℕ)) (rest : List ℕ) → HasStyle bytes begin commands rest → HasStyle (bytes ++ c ∷ []) begin commands (rest ++ c ∷ [])
-style_more bytes begin c commands rest h = record {
-  front = h.front;
-  is = ap (λ l. l ++ c ∷ []) h.is ∙ append_assoc h.front (set_styles commands ++ rest) (c ∷ []) ∙ ap (λ l. h.front ++ l) (append_assoc (set_styles commands) rest (c ∷ []));
-  plain = h.plain;
-  numbers = h.numbers;
-  at = h.at;
-}
-
-pub numbers_begin : (bytes : List ℕ) (begin c : ℕ) → c ≡ 91 → IsStyling bytes (Begun begin) → IsStyling (bytes ++ c ∷ []) (Numbers begin)
-numbers_begin bytes begin c is (commands, h) = (commands, [], subst (λ d. HasStyle (bytes ++ c ∷ []) begin commands (27 ∷ d ∷ [])) is (style_more bytes begin c commands (27 ∷ []) h), tt)
-
-pub numbers_more : (bytes : List ℕ) (begin c : ℕ) → c < 60 → c ≢ 10 → IsStyling bytes (Numbers begin) → IsStyling (bytes ++ c ∷ []) (Numbers begin)
-numbers_more bytes begin c small no_newline (commands, numbers, h, are) =
-    (commands, numbers ++ c ∷ [], style_more bytes begin c commands (27 ∷ 91 ∷ numbers) h, all_both IsNumber numbers (c ∷ []) are ((small, no_newline), tt))
 
 -- a command is complete
-command_ends : (bytes : List ℕ) (begin : ℕ) (commands : List (List ℕ)) (numbers : List ℕ) → HasStyle bytes begin commands (27 ∷ 91 ∷ numbers) → AreNumbers numbers → HasStyle (bytes ++ 109 ∷ []) begin (commands ++ numbers ∷ []) []
-unfolding style_more
-command_ends bytes begin commands numbers h are = record {
-  front = h.front;
-  is = (style_more bytes begin 109 commands (27 ∷ 91 ∷ numbers) h).is
-      ∙ ap (λ l. h.front ++ l) (ap (λ l. set_styles commands ++ l) (sym (append-nil (set_style numbers))) ∙ sym (flat_map-append set_style commands (numbers ∷ [])) ∙ sym (append-nil (set_styles (commands ++ numbers ∷ []))));
-  plain = h.plain;
-  numbers = all_both AreNumbers commands (numbers ∷ []) h.numbers (are, tt);
-  at = h.at;
-}
+command_more : (row styles numbers : List ℕ) → AreNumbers numbers → HasStyles row styles (27 ∷ 91 ∷ numbers) → HasStyles (row ++ 109 ∷ []) (styles ++ 109 ∷ []) []
+command_more row styles numbers are h =
+    let whole : HasStyles (row_bytes h.segments) (row_styles h.segments) [] = record { segments = h.segments; are = h.are; bytes = sym (append-nil (row_bytes h.segments)); styles_are = sym (append-nil (row_styles h.segments)) } in
+    let bytes : row ++ 109 ∷ [] ≡ row_bytes h.segments ++ set_style numbers = ap (λ l. l ++ 109 ∷ []) h.bytes ∙ append_assoc (row_bytes h.segments) (27 ∷ 91 ∷ numbers) (109 ∷ []) in
+    let styles_are : styles ++ 109 ∷ [] ≡ row_styles h.segments ++ set_style numbers = ap (λ l. l ++ 109 ∷ []) h.styles_are ∙ append_assoc (row_styles h.segments) (27 ∷ 91 ∷ numbers) (109 ∷ []) in
+    subst (λ (l : List ℕ). HasStyles l (styles ++ 109 ∷ []) []) (sym bytes) (subst (λ (l : List ℕ). HasStyles (row_bytes h.segments ++ set_style numbers) l []) (sym styles_are) (segment_more (row_bytes h.segments) (row_styles h.segments) (command numbers) are whole))
 
-styled_by : (bytes : List ℕ) (begin end : ℕ) (commands : List (List ℕ)) (last : List ℕ) → HasStyle bytes begin (commands ++ last ∷ []) [] → end ≡ length bytes → IsStyling bytes (Styled begin end)
-styled_by bytes begin end [] last h is = (last, [], [], h, tt, omega (arith, is, ap length h.is, h.at, length-append h.front (set_styles (last ∷ []) ++ []), ap length (append-nil (set_styles (last ∷ [])))))
-styled_by bytes begin end (first ∷ commands) last h is =
-    let all : List (List ℕ) = commands ++ last ∷ [] in
-    (first, all, [], h, tt, omega (arith, is, ap length h.is, h.at, length-append h.front (set_styles (first ∷ all) ++ []), ap length (append-nil (set_styles (first ∷ all)))))
+-- ---- what a byte does
 
-pub style_ends : (bytes : List ℕ) (begin end c : ℕ) → c ≡ 109 → end ≡ length bytes + 1 → IsStyling bytes (Numbers begin) → IsStyling (bytes ++ c ∷ []) (Styled begin end)
-style_ends bytes begin end c is at (commands, numbers, h, are) =
-    subst (λ d. IsStyling (bytes ++ d ∷ []) (Styled begin end)) (sym is) (styled_by (bytes ++ 109 ∷ []) begin end commands numbers (command_ends bytes begin commands numbers h are) (omega (arith, at, length-append bytes (109 ∷ []))))
+pub text_byte : (c : ℕ) → c ≢ 27 → c ≢ 10 → TakesByte Text c Text
+text_byte c no_escape no_newline row styles h = segment_more row styles (byte c) (no_escape, no_newline) h
 
-pub text_more : (bytes : List ℕ) (begin end c : ℕ) → c ≢ 27 → c ≢ 10 → IsStyling bytes (Styled begin end) → IsStyling (bytes ++ c ∷ []) (Styled begin end)
-text_more bytes begin end c no_escape no_newline (first, commands, text, h, are, at) =
-    (first, commands, text ++ c ∷ [], style_more bytes begin c (first ∷ commands) text h, all_both IsText text (c ∷ []) are ((no_escape, no_newline), tt), at)
+pub escape_byte : (c : ℕ) → c ≡ 27 → TakesByte Text c Begun
+escape_byte c is row styles h = subst (λ (d : ℕ). HasStyles (row ++ c ∷ []) (styles ++ c ∷ []) (d ∷ [])) is (both_more row styles [] c h)
 
-none_of : (l : List ℕ) → length l ≡ 0 → l ≡ []
-none_of [] h = refl
-none_of (x ∷ xs) h = absurd (omega arith)
+pub bracket_byte : (c : ℕ) → c ≡ 91 → TakesByte Begun c Numbers
+bracket_byte c is row styles h = ([], tt, subst (λ (d : ℕ). HasStyles (row ++ c ∷ []) (styles ++ c ∷ []) (27 ∷ d ∷ [])) is (both_more row styles (27 ∷ []) c h))
 
--- one more command begins, where no text is between
-pub more_begins : (bytes : List ℕ) (begin end c : ℕ) → c ≡ 27 → end ≡ length bytes → IsStyling bytes (Styled begin end) → IsStyling (bytes ++ c ∷ []) (Begun begin)
-more_begins bytes begin end c is at (first, commands, text, h, are, last) =
-    let style : List ℕ = set_styles (first ∷ commands) in
-    let none : text ≡ [] = none_of text (omega (arith, at, last, ap length h.is, h.at, length-append h.front (style ++ text), length-append style text)) in
-    (first ∷ commands, subst (λ (d : ℕ). HasStyle (bytes ++ c ∷ []) begin (first ∷ commands) (d ∷ [])) is (subst (λ (l : List ℕ). HasStyle (bytes ++ c ∷ []) begin (first ∷ commands) (l ++ c ∷ [])) none (style_more bytes begin c (first ∷ commands) text h)))
+pub number_byte : (c : ℕ) → c < 60 → c ≢ 10 → TakesByte Numbers c Numbers
+number_byte c small no_newline row styles (numbers, are, h) = (numbers ++ c ∷ [], all_both (λ d. (d < 60) × (d ≢ 10)) numbers (c ∷ []) are ((small, no_newline), tt), both_more row styles (27 ∷ 91 ∷ numbers) c h)
+
+pub letter_byte : (c : ℕ) → c ≡ 109 → TakesByte Numbers c Text
+letter_byte c is row styles (numbers, are, h) = subst (λ (d : ℕ). HasStyles (row ++ d ∷ []) (styles ++ d ∷ []) []) (sym is) (command_more row styles numbers are h)
+
+-- ---- a row is read
+
+pub read_more : (row before styles : List ℕ) (i : ℕ) → i < length row → before ≡ take i row ++ get_or row i 0 ∷ [] → HasStyles before styles [] → HasStyles (take (i + 1) row) styles []
+read_more row before styles i inside is h = subst (λ (l : List ℕ). HasStyles l styles []) (is ∙ sym (one_more row i inside)) h
+
+-- ---- commands alone
+
+fewer : (segments : List Segment) → length (row_styles segments) ≤ length (row_bytes segments)
+fewer [] = omega arith
+fewer (byte c ∷ segments) = omega (arith, fewer segments)
+fewer (command numbers ∷ segments) = omega (arith, fewer segments, length-append (set_style numbers) (row_styles segments), length-append (set_style numbers) (row_bytes segments))
+
+all_commands : (segments : List Segment) → length (row_styles segments) ≡ length (row_bytes segments) → row_styles segments ≡ row_bytes segments
+all_commands [] h = refl
+all_commands (byte c ∷ segments) h = absurd (omega (arith, h, fewer segments))
+all_commands (command numbers ∷ segments) h =
+    ap (λ l. set_style numbers ++ l) (all_commands segments (omega (arith, h, length-append (set_style numbers) (row_styles segments), length-append (set_style numbers) (row_bytes segments))))
+
+-- a row that is as long as its commands is these
+pub commands_alone : (row styles : List ℕ) → length styles ≡ length row → HasStyles row styles [] → HasStyles row row []
+commands_alone row styles size h =
+    let row_is : row ≡ row_bytes h.segments = h.bytes ∙ append-nil (row_bytes h.segments) in
+    let styles_are : styles ≡ row_styles h.segments = h.styles_are ∙ append-nil (row_styles h.segments) in
+    let same : styles ≡ row = styles_are ∙ all_commands h.segments (sym (ap length styles_are) ∙ size ∙ ap length row_is) ∙ sym row_is in
+    subst (λ (l : List ℕ). HasStyles row l []) same h
 
 -- ---- growth
 
-pub styled_inside : (bytes : List ℕ) (begin end : ℕ) → IsStyling bytes (Styled begin end) → (begin ≤ end) × (end ≤ length bytes)
-styled_inside bytes begin end (first, commands, text, h, are, last) =
-    let style : List ℕ = set_styles (first ∷ commands) in
-    (omega (arith, last), omega (arith, last, ap length h.is, h.at, length-append h.front (style ++ text), length-append style text))
+pub common_start : (a b : List ℕ) → take 0 a ≡ take 0 b
+common_start a b = refl
 
-pub grows_by : (shown wanted front more style : List ℕ) (begin end : ℕ) → shown ≡ front ++ reset → wanted ≡ front ++ more → IsStyling front (Styled begin end) → style ≡ take (end - begin) (drop begin front) → GrowsInStyle shown wanted style more
-grows_by shown wanted front more style begin end was is (first, commands, text, h, are, last) cut =
-    let set : List ℕ = set_styles (first ∷ commands) in
-    let rest : drop begin front ≡ set ++ text = ap (λ n. drop n front) (sym h.at) ∙ ap (drop (length h.front)) h.is ∙ drop_front h.front (set ++ text) in
-    let size : end - begin ≡ length set = omega (arith, last) in
-    let made : style ≡ set = cut ∙ ap (take (end - begin)) rest ∙ ap (λ n. take n (set ++ text)) size ∙ take_front set text in
-    record {
-      front = h.front;
-      first = first;
-      commands = commands;
-      text = text;
-      sets = made;
-      was = was ∙ ap (λ l. l ++ reset) (h.is ∙ ap (λ l. h.front ++ (l ++ text)) (sym made));
-      is = is ∙ ap (λ l. l ++ more) (h.is ∙ ap (λ l. h.front ++ (l ++ text)) (sym made));
-      plain = h.plain;
-      numbers = h.numbers;
-      in_row = are;
-    }
+pub common_more : (a b : List ℕ) (i : ℕ) → i < length a → i < length b → get_or a i 0 ≡ get_or b i 0 → take i a ≡ take i b → take (i + 1) a ≡ take (i + 1) b
+common_more a b i in_a in_b is same = one_more a i in_a ∙ ap (λ l. l ++ get_or a i 0 ∷ []) same ∙ ap (λ c. take i b ++ c ∷ []) is ∙ sym (one_more b i in_b)
+
+pub grows_by : (shown wanted row styles ending : List ℕ) (n count : ℕ) → IsCommonFront shown wanted n → IsAfterRows count (take n shown) row → HasStyles row styles [] → HasStyles (drop n shown) ending [] → length ending ≡ length (drop n shown) → GrowsInStyle shown wanted styles (drop n wanted)
+grows_by shown wanted row styles ending n count same cut has last size = record {
+  front = cut.front;
+  row = row;
+  ends = drop n shown;
+  was = sym (take-append-drop n shown) ∙ ap (λ l. l ++ drop n shown) cut.is;
+  is = sym (take-append-drop n wanted) ∙ ap (λ l. l ++ drop n wanted) (sym same.same ∙ cut.is);
+  whole = cut.whole;
+  in_row = has;
+  ends_are = commands_alone (drop n shown) ending size last;
+}

@@ -1,92 +1,117 @@
-//! The style that the end of a row is in.
+//! The styles that are set in a row.
 
-ghost use Rattle.std.specs.Prelude.{IfSome, ◌++◌, ◌∷◌, []};
-ghost use Rattle.mad_live.specs.StyledRows.{IsStyling, GrowsInStyle};
+ghost use Rattle.std.specs.Prelude.{IfOk, IfSome, []};
+ghost use Rattle.mad_live.specs.LiveRows.{IsCommonFront, Restyles};
+ghost use Rattle.mad_live.specs.StyledRows.{HasStyles, TakesByte};
 
-// What begins a command, and the bytes before the last of the one that ends a style.
+use crate::rows::{after_rows, count_rows};
+use std::alloc::{AllocError, Global};
+
+// What begins a command.
 const ESCAPE: u8 = 27;
-
-const RESET_FRONT: &[u8] = b"\x1b[0";
-
-const RESET: &[u8] = b"\x1b[0m";
 
 // Numbers and what parts them come before this byte.
 const FIRST_LETTER: u8 = 60;
 
-/// What the end of some bytes is.
-#[derive(Clone, Copy)]
-pub(crate) enum Styling {
-    /// Text without a style.
-    Plain,
-    /// Commands that set a style, the first at an index, and one that has begun.
-    Begun(usize),
-    /// The same, where the numbers of that one come.
-    Numbers(usize),
-    /// Text in a style. Its commands begin at the first index and end at the other.
-    Styled(usize, usize),
-    /// Something else.
-    Other,
+/// Where a byte of a row stands.
+#[derive(Clone, Copy, PartialEq, Eq)]
+pub(crate) enum Place {
+    /// In the text.
+    Text,
+    /// Behind the byte that begins a command.
+    Begun,
+    /// Among a command's numbers.
+    Numbers,
 }
 
-// What the end is once a byte came.
-fn styling_after(front: &[u8], styling: Styling, byte: u8) -> Styling
-    ensures { IsStyling front.now styling → IsStyling (front.now ++ byte ∷ []) result }
+// Where the byte after this one stands. None where it ends the row, or another command than one that sets a style.
+fn place_after(place: Place, byte: u8) -> Option<Place>
+    ensures { IfSome result (λ next. TakesByte place byte next) }
 {
-    if byte == b'\n' {
-        return Styling::Plain;
-    }
-    if byte == b'm' && front.ends_with(RESET_FRONT) {
-        return Styling::Plain;
-    }
-    match styling {
-        Styling::Plain => {
+    match place {
+        Place::Text => {
             if byte == ESCAPE {
-                Styling::Begun(front.len())
+                Some(Place::Begun)
+            } else if byte == b'\n' {
+                None
             } else {
-                Styling::Plain
+                Some(Place::Text)
             }
         }
-        Styling::Begun(begin) => {
+        Place::Begun => {
             if byte == b'[' {
-                Styling::Numbers(begin)
+                Some(Place::Numbers)
             } else {
-                Styling::Other
+                None
             }
         }
-        Styling::Numbers(begin) => {
+        Place::Numbers => {
             if byte == b'm' {
-                Styling::Styled(begin, front.len() + 1)
-            } else if byte < FIRST_LETTER {
-                Styling::Numbers(begin)
+                Some(Place::Text)
+            } else if byte < FIRST_LETTER && byte != b'\n' {
+                Some(Place::Numbers)
             } else {
-                Styling::Other
+                None
             }
         }
-        Styling::Styled(begin, end) => {
-            if byte != ESCAPE {
-                Styling::Styled(begin, end)
-            } else if end == front.len() {
-                Styling::Begun(begin)
-            } else {
-                Styling::Other
-            }
-        }
-        Styling::Other => Styling::Other,
     }
 }
 
-/// Where rows that are wanted go on from those that are shown in the style that these end in: the commands that set it, and what comes.
-pub(crate) fn growth_in_style<'r>(shown: &'r [u8], wanted: &'r [u8]) -> Option<(&'r [u8], &'r [u8])>
-    ensures { IfSome result (λ found. GrowsInStyle shown.now wanted.now found.0.now found.1.now) }
+// The commands of a row, where each sets a style and none is cut off.
+fn styles_of(alloc: Global, row: &[u8]) -> Result<Option<Vec<u8>>, AllocError>
+    ensures { IfOk result (λ found. IfSome found (λ styles. HasStyles row.now styles.items [])) }
 {
-    let front = shown.strip_suffix(RESET)?;
-    let more = wanted.strip_prefix(front)?;
-    let mut styling = Styling::Plain;
-    for (i, byte) in front.iter().enumerate() {
-        styling = styling_after(&front[..i], styling, *byte);
+    let mut styles = Vec::new(alloc);
+    let mut place = Place::Text;
+    for byte in row {
+        let Some(next) = place_after(place, *byte) else {
+            return Ok(None);
+        };
+        if place != Place::Text || next != Place::Text {
+            styles.push(*byte)?;
+        }
+        place = next;
     }
-    match styling {
-        Styling::Styled(begin, end) => Some((&front[begin..end], more)),
-        _ => None,
+    if place != Place::Text {
+        return Ok(None);
     }
+    Ok(Some(styles))
+}
+
+// How many bytes at the front both have.
+fn common_front(a: &[u8], b: &[u8]) -> usize
+    ensures { IsCommonFront a.now b.now result }
+{
+    let count = a.len().min(b.len());
+    for i in 0..count {
+        if a[i] != b[i] {
+            return i;
+        }
+    }
+    count
+}
+
+/// The bytes that lead from the rows that are shown to those that are wanted, where these go on from those before the commands that they end with:
+/// the commands of the row again, and what comes.
+pub(crate) fn growth_in_style(
+    alloc: Global,
+    shown: &[u8],
+    wanted: &[u8],
+) -> Result<Option<Vec<u8>>, AllocError>
+    ensures { IfOk result (λ found. IfSome found (λ bytes. Restyles shown.now wanted.now bytes.items)) }
+{
+    let same = common_front(shown, wanted);
+    let ends = &shown[same..];
+    let Some(ending) = styles_of(alloc, ends)? else {
+        return Ok(None);
+    };
+    if ending.len() != ends.len() {
+        return Ok(None);
+    }
+    let front = &shown[..same];
+    let Some(mut bytes) = styles_of(alloc, after_rows(front, count_rows(front)))? else {
+        return Ok(None);
+    };
+    bytes.extend_from_slice(&wanted[same..])?;
+    Ok(Some(bytes))
 }
