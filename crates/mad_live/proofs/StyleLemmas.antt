@@ -8,7 +8,7 @@ use Rattle.std.proofs.Math.Seq.{get_or-append_seam}
 use Rattle.std.proofs.lemmas.List.{append-nil}
 use Rattle.std.proofs.lemmas.Option.{option_and_then_some}
 use Rattle.std.proofs.lemmas.Bool.Decides.{nat_tests}
-use Rattle.std.proofs.lemmas.Str.{encodes-chars, chars-append, chars-IsAscii, chars-nil, IsUtf8-from_ascii, IsUtf8-take, IsUtf8-drop, IsCharBoundary-before_ascii}
+use Rattle.std.proofs.lemmas.Str.{encodes-chars, chars-append, chars-IsAscii, IsUtf8-from_ascii, IsUtf8-take, IsUtf8-drop, IsCharBoundary-before_ascii}
 use Rattle.unicode_width.specs.Width.{char_width}
 use Rattle.mad_screen.specs.Glyph.{Glyph, Look}
 use Rattle.mad_screen.specs.Grid.{Grid, painted, plain_pen, glyphs}
@@ -16,7 +16,7 @@ use Rattle.mad_screen.specs.Terminal.{Mode, Outside, Escape, Numbers, go_to, era
 use Rattle.mad_live.specs.Papers.{Paper, PaperReading, blank_line, with_line, at_rest, move_up, next_row, put_on, perform_on, end_number_on, feed_on, read_on, Reads}
 use Rattle.mad_live.specs.LiveRows.{rows_from, last_from, rows_in, last_in, IsRow, drawn}
 use Rattle.mad_live.specs.PaintedRows.{IsOneRow}
-use Rattle.mad_live.specs.StyledRows.{Segment, byte, command, set_style, segment_bytes, segment_styles, AreNumbers, IsSegment, row_bytes, row_styles, HasStyles}
+use Rattle.mad_live.specs.StyledRows.{Segment, byte, command, set_style, AreNumbers, IsSegment, row_bytes, row_styles, HasStyles}
 use Rattle.mad_live.proofs.PaperLemmas.{AreLow, Begun, ascii_reads, drop_front, low_ascii, read_on-append, take_front, text_after}
 use Rattle.mad_live.proofs.RowLemmas.{all_both, all_first, all_then, last-append, rows-append}
 

@@ -1,10 +1,9 @@
 -- How the commands of a row are read, byte after byte.
-use Rattle.std.proofs.Common.{◌≡◌, ◌≢◌, ℕ, zero, suc, ◌+◌, ◌<◌, ◌≤◌, List, [], ◌∷◌, ◌++◌, length, take, drop, get_or, refl, ap, sym, ◌∙◌, subst, arith, append_assoc, length-append}
-use Rattle.std.specs.List.{AllByRecursion}
+use Rattle.std.proofs.Common.{◌≡◌, ◌≢◌, ℕ, ◌+◌, ◌<◌, ◌≤◌, List, [], ◌∷◌, ◌++◌, length, take, drop, get_or, refl, ap, sym, ◌∙◌, subst, arith, append_assoc, length-append}
 use Rattle.std.proofs.lemmas.List.{append-nil, take-append-drop}
 use Rattle.std.proofs.lemmas.Grind.{flat_map-append}
-use Rattle.mad_live.specs.LiveRows.{AreWhole, IsCommonFront, GrowsInStyle, IsAfterRows}
-use Rattle.mad_live.specs.StyledRows.{Segment, byte, command, set_style, segment_bytes, segment_styles, AreNumbers, IsSegment, row_bytes, row_styles, HasStyles, IsReadTo, TakesByte}
+use Rattle.mad_live.specs.LiveRows.{IsCommonFront, GrowsInStyle, IsAfterRows}
+use Rattle.mad_live.specs.StyledRows.{Segment, byte, command, set_style, segment_bytes, segment_styles, AreNumbers, IsSegment, row_bytes, row_styles, HasStyles, TakesByte}
 use Rattle.mad_live.specs.declared.styling.Place.TheVariants.{Text, Begun, Numbers}
 use Rattle.mad_live.proofs.CodeLemmas.{one_more}
 use Rattle.mad_live.proofs.RowLemmas.{all_both}
