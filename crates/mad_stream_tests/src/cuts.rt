@@ -46,8 +46,7 @@ fn feed_twice(
     fed.map_err(|_| AllocError)
 }
 
-/// The rows of the whole text.
-pub fn whole_rows(asked: &Asked) -> Result<CutOut, AllocError> {
+fn whole_rows(asked: &Asked) -> Result<CutOut, AllocError> {
     let mut out = CutOut::new(asked.alloc, ROOM, ROOM, false)?;
     match asked
         .skin
