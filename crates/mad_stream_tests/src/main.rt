@@ -61,6 +61,7 @@ fn answer_asked(name: &str, asked: &Asked) -> Result<String, AllocError> {
         "markdown" => markdown::went_out(asked),
         "markdown_cuts" => markdown::at_each_byte(asked),
         "live" | "live_styled" => live::after_each(asked),
+        "live_faults" => live::gone_on_with(asked),
         "live_source" => live::source(asked),
         _ => String::from_str(asked.alloc, "no such call"),
     }

@@ -78,6 +78,16 @@ impl Paper {
         self.above.saturating_add(1).saturating_sub(self.height)
     }
 
+    /// The index of the cursor's row.
+    pub fn cursor(&self) -> usize {
+        self.above
+    }
+
+    /// Its rows from one on.
+    pub fn rows_from(&self, first: usize) -> &[String] {
+        self.rows.get(first..).unwrap_or(&[])
+    }
+
     fn erase(&mut self) {
         if let Some(row) = self.rows.get_mut(self.above) {
             row.clear();
