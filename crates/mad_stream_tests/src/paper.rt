@@ -88,6 +88,14 @@ impl Paper {
         self.rows.get(first..).unwrap_or(&[])
     }
 
+    /// A row, blank where it has none of that index.
+    pub fn row(&self, index: usize) -> &str {
+        match self.rows.get(index) {
+            Some(row) => row.as_str(),
+            None => "",
+        }
+    }
+
     fn erase(&mut self) {
         if let Some(row) = self.rows.get_mut(self.above) {
             row.clear();
