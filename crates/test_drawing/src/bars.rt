@@ -24,14 +24,14 @@ impl Rows for Same<'_> {
     fn push_row(&self, bytes: &mut String, _y: u16) -> Result<(), AllocError> {
         let style = CompoundStyle::default();
         // Nothing is done: this only says that the style is known.
-        know_style(&style);
+        know_style(style);
         write!(bytes, "{}", style.apply_to(self.text))
     }
 }
 
 // The numbers of a style's colors are bytes. Nothing is done.
-fn know_style(style: &CompoundStyle)
-    ensures { IsStyle style.now.object_style }
+fn know_style(style: CompoundStyle)
+    ensures { IsStyle style.object_style }
 {}
 
 /// Rows of a text in an area of four numbers, beside the bar of a content of so many lines, of which so many are hidden above. The thumb is `#`,
