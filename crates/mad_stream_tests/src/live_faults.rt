@@ -94,11 +94,16 @@ impl Run {
 
     // Both devices at the end of the text. None where the first hasn't failed by then.
     fn finish(self, asked: &Asked) -> Result<Option<(CutOut, CutOut)>, AllocError> {
-        let Some(mut second) = self.second else {
+        let Run {
+            live,
+            first,
+            second,
+        } = self;
+        let Some(mut second) = second else {
             return Ok(None);
         };
-        match self.live.finish(asked.alloc, &mut second) {
-            Ok(()) => Ok(Some((self.first, second))),
+        match live.finish(asked.alloc, &mut second) {
+            Ok(()) => Ok(Some((first, second))),
             Err(_) => Err(AllocError),
         }
     }
