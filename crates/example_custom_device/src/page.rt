@@ -15,11 +15,12 @@ pub struct Page {
 
 impl Page {
     ghost use Rattle.std.specs.Prelude.{◌≡◌};
-    ghost use Rattle.example_custom_device.specs.Page.{page_trace, empty_page};
+    ghost use Rattle.mad_frames.specs.Gathered.{untouched};
+    ghost use Rattle.example_custom_device.specs.Page.{page_trace};
 
     /// A page on which nothing is written yet.
     pub fn new(alloc: Global) -> Self
-        ensures { page_trace result ≡ empty_page }
+        ensures { page_trace result ≡ untouched }
     {
         Page {
             bytes: Vec::new(alloc),
