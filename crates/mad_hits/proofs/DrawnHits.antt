@@ -14,7 +14,7 @@ use Rattle.mad_style.specs.StyledChars.{char_alone, char_style}
 use Rattle.mad_term.specs.Trace.{Trace, TookWith, after}
 use Rattle.mad_wrap.specs.WrapLines.{capped}
 use Rattle.mad_hits.proofs.TookLemmas.{known, took_so}
-use Rattle.mad_hits.specs.Hits.{Marked, marked_of}
+use Rattle.mad_hits.specs.Hits.{AreHits, Marked, marked_of}
 use Rattle.mad_hits.specs.Drawn.{AreHitsShown, AreLinesMarked, IsHitShown, IsLineMarked, hit_area, hit_row, marked_columns}
 use Rattle.mad_hits.specs.declared.hits.Hit.{Hit}
 
@@ -87,3 +87,10 @@ line_more skin width sought lines y d a b inside so here =
 pub line_past : (skin : RowSkin) (width : ℕ) (sought : List ℕ) (lines : List FmtLine) (y : ℕ) (a : List ℕ) → length lines ≤ y → AreLinesMarked skin width sought 0 (take y lines) a → AreLinesMarked skin width sought 0 (take (y + 1) lines) a
 line_past skin width sought lines y a past so =
     subst (λ (ls : List FmtLine). AreLinesMarked skin width sought 0 ls a) (take_all y lines past ∙ sym (take_all (y + 1) lines (omega (arith, past)))) so
+
+-- the hits of a line were drawn
+pub line_marked : (skin : RowSkin) (width : ℕ) (sought : List ℕ) (y : ℕ) (line : FmtLine) (hits given : List Hit) (old new : Trace) → given ≡ hits → AreHits skin width sought line hits
+    → TookWith old new (AreHitsShown width y (map marked_of given)) → TookWith old new (IsLineMarked skin width sought y line)
+line_marked skin width sought y line hits given old new same are shown =
+    took_so old new (AreHitsShown width y (map marked_of given)) (IsLineMarked skin width sought y line)
+    (λ text h. record { hits = hits; are = are; shown = subst (λ (l : List Hit). AreHitsShown width y (map marked_of l) text) same h }) shown

@@ -1,13 +1,16 @@
 //! Hits, drawn over rows that were drawn before.
 
-ghost use Rattle.std.specs.Prelude.{◌+◌, ◌<◌, ◌^◌, OnOk, take};
+ghost use Rattle.std.specs.List.{range_with_len};
+ghost use Rattle.std.specs.Prelude.{◌+◌, ◌-◌, ◌<◌, ◌^◌, OnOk, length, map, min, take};
 ghost use Rattle.mad_term.specs.Trace.{TookWith};
 ghost use Rattle.mad_style.specs.StyledChars.{char_style};
 ghost use Rattle.mad_term.specs.Styles.{IsStyle};
-ghost use Rattle.mad_hits.specs.Drawn.{IsLineMarked, AreLinesMarked, IsHitShown};
+ghost use Rattle.mad_hits.specs.Drawn.{AreHitsShown, AreLinesMarked, IsHitShown, IsLineMarked};
 ghost use Rattle.mad_hits.specs.Hits.{marked_of};
+ghost use Rattle.mad_hits.specs.Parts.{AreRowsMarked, IsRowMarked};
 
 use crate::hits::{Hit, columns_of, hits_in};
+use crate::parts::row_hits;
 use mad_draw::{Rows, draw_rows};
 use mad_fit::Area;
 use mad_format::FmtLine;
@@ -56,7 +59,75 @@ fn draw_line_hits<O: Out>(
     ensures { OnOk result (TookWith (O.seen out.old) (O.seen out.new) (IsLineMarked skin.now width sought.now y line.now)) }
 {
     let hits = hits_in(alloc, skin, line, usize::from(width), sought)?;
-    for hit in &hits {
+    draw_each(alloc, out, hits.as_slice(), width, y)?;
+    Ok(())
+}
+
+/// Draws the hits of what is sought over rows of a text that were drawn in an area, those from the row `top` on, as many as its height. Each row
+/// has as many columns as they are laid out at. Nothing is flushed.
+///
+/// Parts of the text begin in the rows `starts`, as [`mad_search::PagedText::lay`] tells. Of what goes over the break between two rows that come of
+/// one line of the text, each row has its part, also where the other one isn't in the area.
+///
+/// # Errors
+///
+/// A fault of the device, or out of memory. What went out by then is a beginning of the whole.
+pub fn draw_row_hits<O: Out>(
+    alloc: Global,
+    out: &mut O,
+    skin: &RowSkin,
+    lines: &[FmtLine],
+    starts: &[usize],
+    top: usize,
+    width: u16,
+    height: u16,
+    sought: &str,
+) -> Result<(), Error>
+    ensures { OnOk result (TookWith (O.seen out.old) (O.seen out.new) (AreRowsMarked skin.now width sought.now lines.now starts.now 0 (range_with_len top (min height (length lines.now - top))))) }
+{
+    let count = usize::from(height).min(lines.len().saturating_sub(top));
+    let mut y: u16 = 0;
+    'rows: while usize::from(y) < count {
+        let row = top + usize::from(y);
+        draw_row(alloc, out, skin, lines, starts, row, width, y, sought)?;
+        y += 1;
+    }
+    Ok(())
+}
+
+// Draws those of one row.
+fn draw_row<O: Out>(
+    alloc: Global,
+    out: &mut O,
+    skin: &RowSkin,
+    lines: &[FmtLine],
+    starts: &[usize],
+    row: usize,
+    width: u16,
+    y: u16,
+    sought: &str,
+) -> Result<(), Error>
+    requires low { y + 1 < 2 ^ 16 }
+    requires within { row < length lines.now }
+    ensures { OnOk result (TookWith (O.seen out.old) (O.seen out.new) (IsRowMarked skin.now width sought.now lines.now starts.now y row)) }
+{
+    let hits = row_hits(alloc, skin, lines, starts, row, usize::from(width), sought)?;
+    draw_each(alloc, out, hits.as_slice(), width, y)?;
+    Ok(())
+}
+
+// Draws hits, each where it is within the columns.
+fn draw_each<O: Out>(
+    alloc: Global,
+    out: &mut O,
+    hits: &[Hit],
+    width: u16,
+    y: u16,
+) -> Result<(), Error>
+    requires { y + 1 < 2 ^ 16 }
+    ensures { OnOk result (TookWith (O.seen out.old) (O.seen out.new) (AreHitsShown width y (map marked_of hits.now))) }
+{
+    for hit in hits {
         draw_hit(alloc, out, hit, width, y)?;
     }
     Ok(())

@@ -1,17 +1,9 @@
-use Rattle.std.proofs.Common.{◌+◌, map, subst, take}
-use Rattle.mad_hits.specs.Drawn.{AreHitsShown, IsHitShown}
-use Rattle.mad_hits.specs.Hits.{marked_of}
-use Rattle.mad_hits.specs.declared.hits.Hit.{Hit}
-use Rattle.mad_hits.proofs.DrawnHits.{hit_more}
-use Rattle.mad_hits.proofs.TookLemmas.{took_in_turn}
+use Rattle.std.proofs.Common.{ℕ, subst}
+use Rattle.mad_hits.specs.Hits.{AreHits}
+use Rattle.mad_hits.proofs.DrawnHits.{line_marked}
 use Rattle.mad_hits.proofs.drawing.draw_line_hits.Goals as goal
 
-pub loop-hit-preserved : goal.loop-hit-preserved
-loop-hit-preserved g c =
-    let hits = c.deref-hit-items.result.now in
-    let i = c.loop-hit.hit-index in
-    took_in_turn (g.O.Out.seen c.args.out.now) (g.O.Out.seen c.loop-hit.out) (g.O.Out.seen c.draw_hit.new.out) (AreHitsShown c.args.width c.args.y (map marked_of (take i hits)))
-    (IsHitShown c.args.width c.args.y (marked_of c.hit-item.result)) (AreHitsShown c.args.width c.args.y (map marked_of (take (i + 1) hits)))
-    (λ a b so here.
-    hit_more c.args.width c.args.y hits i c.hit-item.result a b c.loop-hit-test.true so (subst (λ (h : Hit). IsHitShown c.args.width c.args.y (marked_of h) b) c.hit-item.is here))
-    c.loop-hit.invariant c.in_ok-draw_hit.ensures
+pub returns : goal.returns
+returns g c =
+    line_marked c.args.skin.now c.args.width c.args.sought.now c.args.y c.args.line.now _ _ (g.O.Out.seen c.args.out.now) (g.O.Out.seen c.draw_each.new.out) c.as_slice.ensures.value
+    (subst (λ (n : ℕ). AreHits c.args.skin.now n c.args.sought.now c.args.line.now c.in_ok-hits.hits.items) c.from.ensures c.in_ok-hits.ensures) c.in_ok-draw_each.ensures
