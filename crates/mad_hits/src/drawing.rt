@@ -1,15 +1,15 @@
 //! Hits, drawn over rows that were drawn before.
 
 ghost use Rattle.std.specs.List.{range_with_len};
-ghost use Rattle.std.specs.Prelude.{◌+◌, ◌-◌, ◌<◌, ◌^◌, OnOk, length, map, min, take};
+ghost use Rattle.std.specs.Prelude.{◌+◌, ◌-◌, ◌<◌, ◌^◌, OnOk, length, map, min};
 ghost use Rattle.mad_term.specs.Trace.{TookWith};
 ghost use Rattle.mad_style.specs.StyledChars.{char_style};
 ghost use Rattle.mad_term.specs.Styles.{IsStyle};
-ghost use Rattle.mad_hits.specs.Drawn.{AreHitsShown, AreLinesMarked, IsHitShown, IsLineMarked};
+ghost use Rattle.mad_hits.specs.Drawn.{AreHitsShown, IsHitShown};
 ghost use Rattle.mad_hits.specs.Hits.{marked_of};
 ghost use Rattle.mad_hits.specs.Parts.{AreRowsMarked, IsRowMarked};
 
-use crate::hits::{Hit, columns_of, hits_in};
+use crate::hits::{Hit, columns_of};
 use crate::parts::row_hits;
 use mad_draw::{Rows, draw_rows};
 use mad_fit::Area;
@@ -18,50 +18,6 @@ use mad_rows::RowSkin;
 use mad_style::StyledChar;
 use mad_term::{Error, Out};
 use std::alloc::{AllocError, Global};
-
-/// Draws the hits of what is sought over lines that were drawn in the rows of an area. The first one is in its first row, and each has as many
-/// columns as its rows are laid out at. Nothing is flushed.
-///
-/// # Errors
-///
-/// A fault of the device, or out of memory. What went out by then is a beginning of the whole.
-pub fn draw_hits<O: Out>(
-    alloc: Global,
-    out: &mut O,
-    skin: &RowSkin,
-    lines: &[FmtLine],
-    width: u16,
-    height: u16,
-    sought: &str,
-) -> Result<(), Error>
-    ensures { OnOk result (TookWith (O.seen out.old) (O.seen out.new) (AreLinesMarked skin.now width sought.now 0 (take height lines.now))) }
-{
-    let shown = &lines[..usize::from(height).min(lines.len())];
-    let mut y: u16 = 0;
-    for line in shown {
-        draw_line_hits(alloc, out, skin, line, width, y, sought)?;
-        y = y.saturating_add(1);
-    }
-    Ok(())
-}
-
-// Draws those of one line.
-fn draw_line_hits<O: Out>(
-    alloc: Global,
-    out: &mut O,
-    skin: &RowSkin,
-    line: &FmtLine,
-    width: u16,
-    y: u16,
-    sought: &str,
-) -> Result<(), Error>
-    requires { y + 1 < 2 ^ 16 }
-    ensures { OnOk result (TookWith (O.seen out.old) (O.seen out.new) (IsLineMarked skin.now width sought.now y line.now)) }
-{
-    let hits = hits_in(alloc, skin, line, usize::from(width), sought)?;
-    draw_each(alloc, out, hits.as_slice(), width, y)?;
-    Ok(())
-}
 
 /// Draws the hits of what is sought over rows of a text that were drawn in an area, those from the row `top` on, as many as its height. Each row
 /// has as many columns as they are laid out at. Nothing is flushed.

@@ -15,6 +15,6 @@ mod parts;
 mod places;
 mod styled;
 
-pub use drawing::{draw_hits, draw_row_hits};
+pub use drawing::draw_row_hits;
 pub use hits::{Hit, hits_in};
 pub use parts::row_hits;

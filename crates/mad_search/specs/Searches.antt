@@ -82,10 +82,3 @@ abbrev pub IsPreviousRowIn : List ℕ → List FmtLine → List ℕ → ℕ → 
 IsPreviousRowIn sought lines starts end None = IsNowhere sought lines starts
 IsPreviousRowIn sought lines starts end (Some row) =
     (0 < length sought) × (IsLastBefore sought lines starts end row ⊎ (NoneBetween sought lines starts 0 end × IsLastBefore sought lines starts (length lines) row))
-
--- both of rows of which each stands for itself
-abbrev pub IsNextRow : List ℕ → List FmtLine → ℕ → Option ℕ → Type 0
-IsNextRow sought lines = IsNextRowIn sought lines []
-
-abbrev pub IsPreviousRow : List ℕ → List FmtLine → ℕ → Option ℕ → Type 0
-IsPreviousRow sought lines = IsPreviousRowIn sought lines []

@@ -18,4 +18,4 @@ pub use headers::{next_header, previous_header};
 pub use kept::row_in_parts;
 pub use letters::{has_capital, small};
 pub use paged::{Layout, PagedText};
-pub use search::{next_row, next_row_in, previous_row, previous_row_in, row_text, text_after};
+pub use search::{next_row_in, previous_row_in, row_text, text_after};

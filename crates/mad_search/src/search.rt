@@ -3,46 +3,12 @@
 ghost use Rattle.std.specs.Prelude.{◌≡◌, ◌++◌, ◌⊎◌, IfOk, OnOk, IsTrue, ◌↔◌, MatchOption, string_bytes, length, ◌<◌, ◌≤◌};
 ghost use Rattle.std.specs.Str.Iter.{HasSubslice};
 ghost use Rattle.mad_search.specs.Breaks.{goes_over, rows_after};
-ghost use Rattle.mad_search.specs.Searches.{composite_text, compared_line, line_text, cells_text, row_text, text_after, GoesOn, HasText, IsFirstFrom, IsLastBefore, IsNextRow, IsNextRowIn, IsPreviousRow, IsPreviousRowIn, NoneBetween, NoneFrom};
+ghost use Rattle.mad_search.specs.Searches.{composite_text, compared_line, line_text, cells_text, row_text, text_after, GoesOn, HasText, IsFirstFrom, IsLastBefore, IsNextRowIn, IsPreviousRowIn, NoneBetween, NoneFrom};
 
 use crate::breaks::{begins_from, ends_at, rows_after};
 use crate::letters::compared;
 use mad_format::{FmtComposite, FmtLine};
 use std::alloc::{AllocError, Global};
-
-/// The row that has what is sought and comes next from the one of this index on, around the end of the text. None, where no row has it, or
-/// nothing is sought. Each row stands for itself.
-///
-/// # Errors
-///
-/// Out of memory is the only error.
-pub fn next_row(
-    alloc: Global,
-    lines: &[FmtLine],
-    sought: &str,
-    from: usize,
-) -> Result<Option<usize>, AllocError>
-    ensures { IfOk result (IsNextRow sought.now lines.now from) }
-{
-    next_row_in(alloc, lines, &[], sought, from)
-}
-
-/// The row that has what is sought and comes next before the one of this index, around the start of the text. None, where no row has it,
-/// or nothing is sought. Each row stands for itself.
-///
-/// # Errors
-///
-/// Out of memory is the only error.
-pub fn previous_row(
-    alloc: Global,
-    lines: &[FmtLine],
-    sought: &str,
-    end: usize,
-) -> Result<Option<usize>, AllocError>
-    ensures { IfOk result (IsPreviousRow sought.now lines.now end) }
-{
-    previous_row_in(alloc, lines, &[], sought, end)
-}
 
 /// The row in which what is sought begins, and which comes next from the one of this index on, around the end of the text. None, where it begins
 /// in no row, or nothing is sought.
