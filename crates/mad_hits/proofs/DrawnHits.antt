@@ -1,12 +1,10 @@
 -- Hits that are drawn in turn.
 use Rattle.std.proofs.Common.{◌≡◌, ℕ, ◌+◌, ◌-◌, ◌^◌, ◌<◌, ◌≤◌, min, List, [], ◌∷◌, ◌++◌, map, take, length, get_or, refl, ap, sym, ◌∙◌, subst, arith, append_assoc}
-use Rattle.std.proofs.lemmas.List.{append-nil, length-take-le, map_more, take_all, take_more}
+use Rattle.std.proofs.lemmas.List.{append-nil, map_more}
 use Rattle.std.specs.List.{AllByRecursion}
 use Rattle.mad_draw.specs.Pieces.{AreKnown, char_piece}
 use Rattle.mad_style.specs.declared.styled_chars.StyledChar.{StyledChar}
 use Rattle.mad_term.specs.Styles.{IsStyle}
-use Rattle.mad_format.specs.declared.line.FmtLine.{FmtLine}
-use Rattle.mad_rows.specs.declared.row_skin.RowSkin.{RowSkin}
 use Rattle.mad_draw.specs.DrawnRows.{AreRowsShown, FillArea}
 use Rattle.mad_fit.specs.TextColumns.{columns}
 use Rattle.mad_fit.specs.declared.area.Area.{Area}
@@ -15,7 +13,7 @@ use Rattle.mad_term.specs.Trace.{Trace, TookWith, after}
 use Rattle.mad_wrap.specs.WrapLines.{capped}
 use Rattle.mad_hits.proofs.TookLemmas.{known, took_so}
 use Rattle.mad_hits.specs.Hits.{Marked, marked_of}
-use Rattle.mad_hits.specs.Drawn.{AreHitsShown, AreLinesMarked, IsHitShown, IsLineMarked, hit_area, hit_row, marked_columns}
+use Rattle.mad_hits.specs.Drawn.{AreHitsShown, IsHitShown, hit_area, hit_row, marked_columns}
 use Rattle.mad_hits.specs.declared.hits.Hit.{Hit}
 
 -- the colors of a character are known
@@ -61,29 +59,3 @@ pub hit_more : (width y : ℕ) (hits : List Hit) (i : ℕ) (d : Hit) (a b : List
     → AreHitsShown width y (map marked_of (take (i + 1) hits)) (a ++ b)
 hit_more width y hits i d a b inside so here =
     subst (λ (m : List Marked). AreHitsShown width y m (a ++ b)) (sym (map_more marked_of hits i d inside)) (hits_more width y (map marked_of (take i hits)) (marked_of (get_or hits i d)) a b so here)
-
--- a line more
-lines_more : (skin : RowSkin) (width : ℕ) (sought : List ℕ) (y n : ℕ) (lines : List FmtLine) (line : FmtLine) (a b : List ℕ) → n ≡ y + length lines
-    → AreLinesMarked skin width sought y lines a → IsLineMarked skin width sought n line b → AreLinesMarked skin width sought y (lines ++ line ∷ []) (a ++ b)
-lines_more skin width sought y n [] line a b at none here =
-    let same : n ≡ y = omega (arith, at) in
-    (b, [], ap (λ (l : List ℕ). l ++ b) none ∙ sym (append-nil b), subst (λ (k : ℕ). IsLineMarked skin width sought k line b) same here, refl)
-lines_more skin width sought y n (l ∷ lines) line a b at (first, others, are, marked, rest) here = (
-  first,
-  others ++ b,
-  ap (λ (s : List ℕ). s ++ b) are ∙ append_assoc first others b,
-  marked,
-  lines_more skin width sought (y + 1) n lines line others b (omega (arith, at)) rest here,
-)
-
-pub line_more : (skin : RowSkin) (width : ℕ) (sought : List ℕ) (lines : List FmtLine) (y : ℕ) (d : FmtLine) (a b : List ℕ) → y < length lines
-    → AreLinesMarked skin width sought 0 (take y lines) a → IsLineMarked skin width sought y (get_or lines y d) b → AreLinesMarked skin width sought 0 (take (y + 1) lines) (a ++ b)
-line_more skin width sought lines y d a b inside so here =
-    let long : length (take y lines) ≡ y = length-take-le y lines (omega (arith, inside)) in
-    subst (λ (ls : List FmtLine). AreLinesMarked skin width sought 0 ls (a ++ b)) (sym (take_more lines y d inside))
-    (lines_more skin width sought 0 y (take y lines) (get_or lines y d) a b (omega (arith, long)) so here)
-
--- no line more
-pub line_past : (skin : RowSkin) (width : ℕ) (sought : List ℕ) (lines : List FmtLine) (y : ℕ) (a : List ℕ) → length lines ≤ y → AreLinesMarked skin width sought 0 (take y lines) a → AreLinesMarked skin width sought 0 (take (y + 1) lines) a
-line_past skin width sought lines y a past so =
-    subst (λ (ls : List FmtLine). AreLinesMarked skin width sought 0 ls a) (take_all y lines past ∙ sym (take_all (y + 1) lines (omega (arith, past)))) so

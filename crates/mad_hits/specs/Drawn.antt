@@ -5,10 +5,7 @@ use Rattle.mad_fit.specs.declared.area.Area.{Area}
 use Rattle.mad_style.specs.StyledChars.{char_alone}
 use Rattle.mad_draw.specs.DrawnRows.{AreRowsShown, FillArea}
 use Rattle.mad_draw.specs.Pieces.{RowPiece, char_piece}
-use Rattle.mad_format.specs.declared.line.FmtLine.{FmtLine}
-use Rattle.mad_rows.specs.declared.row_skin.RowSkin.{RowSkin}
-use Rattle.mad_hits.specs.Hits.{Marked, AreHits, marked_of}
-use Rattle.mad_hits.specs.declared.hits.Hit.{Hit}
+use Rattle.mad_hits.specs.Hits.{Marked}
 
 -- the columns that a hit takes
 abbrev pub marked_columns : Marked → ℕ
@@ -32,15 +29,3 @@ abbrev pub AreHitsShown : ℕ → ℕ → List Marked → List ℕ → Type 0
 AreHitsShown width y [] bytes = bytes ≡ []
 AreHitsShown width y (hit ∷ hits) bytes =
     (first : List ℕ) × (others : List ℕ) × (bytes ≡ first ++ others) × IsHitShown width y hit first × AreHitsShown width y hits others
-
--- the bytes of the hits of what is sought in a line, in row y, of `width` columns
-pub record IsLineMarked (skin : RowSkin) (width : ℕ) (sought : List ℕ) (y : ℕ) (line : FmtLine) (bytes : List ℕ) : Type 0 where
-  pub hits : List Hit
-  pub are : AreHits skin width sought line hits
-  pub shown : AreHitsShown width y (map marked_of hits) bytes
-
--- the bytes of those in lines, from row y on
-abbrev pub AreLinesMarked : RowSkin → ℕ → List ℕ → ℕ → List FmtLine → List ℕ → Type 0
-AreLinesMarked skin width sought y [] bytes = bytes ≡ []
-AreLinesMarked skin width sought y (line ∷ lines) bytes =
-    (first : List ℕ) × (others : List ℕ) × (bytes ≡ first ++ others) × IsLineMarked skin width sought y line first × AreLinesMarked skin width sought (y + 1) lines others

@@ -1,4 +1,6 @@
 pub mod Drawn
 pub mod Hits
 pub mod Matches
+pub mod Overs
+pub mod Parts
 pub mod Styled

@@ -150,8 +150,8 @@ fn push_marked(
     Ok(())
 }
 
-// The hit that begins at an index of a text, which begins in that column.
-fn hit_at(
+/// The hit that begins at an index of a text, which begins in that column, of so many characters.
+pub(crate) fn hit_at(
     alloc: Global,
     text: &[StyledChar],
     column: usize,

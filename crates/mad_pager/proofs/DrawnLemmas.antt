@@ -1,6 +1,7 @@
 -- What is shown of what was drawn in turn, and what goes out of it.
-use Rattle.std.proofs.Common.{◌≡◌, ℕ, ◌-◌, ◌<◌, ◌^◌, ◌≤◌, ◌||◌, ◌&&◌, ◌==◌, eq-eqb, nat_lt, Bool, true, false, List, [], ◌∷◌, ◌++◌, Option, Some, None, Result, Err, refl, ap, sym, ◌∙◌, subst, arith, take, drop, length, min}
-use Rattle.std.proofs.lemmas.List.{append-nil, drop_min, take_rest}
+use Rattle.std.proofs.Common.{◌≡◌, ℕ, ◌-◌, ◌<◌, ◌^◌, ◌≤◌, ◌||◌, ◌&&◌, ◌==◌, eq-eqb, nat_lt, Bool, true, false, List, [], ◌∷◌, ◌++◌, Option, Some, None, Result, Err, refl, ap, sym, ◌∙◌, subst, arith, take, length, min}
+use Rattle.std.proofs.lemmas.List.{append-nil}
+use Rattle.std.specs.List.{range_with_len}
 use Rattle.std.specs.Result.{IsErrAnd}
 use Rattle.std.specs.Prelude.{MatchResult}
 use Rattle.std.proofs.lemmas.Result.{err_from_is_err_and}
@@ -37,7 +38,7 @@ use Rattle.mad_layout.specs.Shown.{area_row}
 use Rattle.mad_layout.specs.declared.skin.MadSkin.{MadSkin}
 use Rattle.mad_rows.specs.RowStyles.{line_rules}
 use Rattle.mad_rows.specs.declared.row_skin.RowSkin.{RowSkin}
-use Rattle.mad_hits.specs.Drawn.{AreLinesMarked}
+use Rattle.mad_hits.specs.Parts.{AreRowsMarked}
 use Rattle.std.proofs.lemmas.Bool.{ltb-false}
 use Rattle.std.proofs.lemmas.Bool.Decides.{nat_tests}
 use Rattle.mad_pager.specs.Screens.{reversed_skin, is_small, area_of, bar_of, paged_skin, text_pane, text_rows, field_pane, prompt_pane, prompt_row, status_pane, status_words, AreHitsDrawn, ArePanesDrawn, IsFieldShown, IsLineIn, IsStatusLine, KeepsTextPremises, AreLinesShown, IsFieldRow, IsLastRow, IsStatus, IsDrawing, IsPicture, IsTypingShown, IsStatusShown, IsFieldInRow, IsShowing, IsShown, IsUnshown, question}
@@ -212,14 +213,14 @@ unshown_exit skin name asks s old new r e is h =
     let p = err_from_is_err_and r is in
     subst (λ (t : Result Unit Error). MatchResult t (λ _. IsShown skin name asks s old new) (λ d. IsUnshown skin name asks s old d new)) (sym (p.1 ∙ ap Err p.2)) h
 
--- the hits of the lines on the screen, along what is equal
-pub hits_along : (skin dress : RowSkin) (width columns height rows end top : ℕ) (text sought : List ℕ) (shown lines : List FmtLine) (old new : Trace) → dress ≡ skin → width ≡ columns → height ≡ rows → text ≡ sought
-    → shown ≡ lines → end ≡ min top (length shown) → TookWith old new (AreLinesMarked dress width text 0 (take height (take (length shown - end) (drop end shown)))) → TookWith old new (AreLinesMarked skin columns sought 0 (take rows (drop top lines)))
-hits_along skin dress width columns height rows end top text sought shown lines old new a b d e f at h =
-    let whole : List FmtLine = take (length shown - end) (drop end shown) in
-    let from : whole ≡ drop top lines = take_rest shown end ∙ (ap (λ (n : ℕ). drop n shown) at ∙ (drop_min top shown ∙ ap (λ (ls : List FmtLine). drop top ls) f)) in
-    let all : take height whole ≡ take rows (drop top lines) = ap (λ (n : ℕ). take n whole) d ∙ ap (λ (ls : List FmtLine). take rows ls) from in
-    subst (λ (k : RowSkin). TookWith old new (AreLinesMarked k columns sought 0 (take rows (drop top lines)))) a
-    (subst (λ (n : ℕ). TookWith old new (AreLinesMarked dress n sought 0 (take rows (drop top lines)))) b
-    (subst (λ (s : List ℕ). TookWith old new (AreLinesMarked dress width s 0 (take rows (drop top lines)))) e
-    (subst (λ (ls : List FmtLine). TookWith old new (AreLinesMarked dress width text 0 ls)) all h)))
+-- the hits of the rows on the screen, along what is equal
+pub hits_along : (skin dress : RowSkin) (width columns height rows top : ℕ) (text sought : List ℕ) (shown lines : List FmtLine) (given starts : List ℕ) (old new : Trace) → dress ≡ skin → width ≡ columns → height ≡ rows → text ≡ sought
+    → shown ≡ lines → given ≡ starts → TookWith old new (AreRowsMarked dress width text shown given 0 (range_with_len top (min height (length shown - top))))
+    → TookWith old new (AreRowsMarked skin columns sought lines starts 0 (range_with_len top (min rows (length lines - top))))
+hits_along skin dress width columns height rows top text sought shown lines given starts old new a b d e f i h =
+    let of : RowSkin → ℕ → ℕ → List ℕ → List FmtLine → List ℕ → Type 0 = λ k n r s ls ts. TookWith old new (AreRowsMarked k n s ls ts 0 (range_with_len top (min r (length ls - top)))) in
+    subst (λ (k : RowSkin). of k columns rows sought lines starts) a
+    (subst (λ (n : ℕ). of dress n rows sought lines starts) b
+    (subst (λ (r : ℕ). of dress width r sought lines starts) d
+    (subst (λ (s : List ℕ). of dress width height s lines starts) e
+    (subst (λ (ls : List FmtLine). of dress width height text ls starts) f (subst (λ (ts : List ℕ). of dress width height text shown ts) i h)))))

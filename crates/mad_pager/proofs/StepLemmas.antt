@@ -21,7 +21,7 @@ use Rattle.mad_page.specs.declared.commands.Ask.{Ask}
 use Rattle.mad_page.specs.declared.commands.Ask.TheVariants.{Next}
 use Rattle.mad_page.specs.declared.page.Page.{Page}
 use Rattle.mad_search.specs.KeptRows.{ArePartStarts}
-use Rattle.mad_search.specs.Searches.{IsNextRow, IsPreviousRow}
+use Rattle.mad_search.specs.Searches.{IsNextRowIn, IsPreviousRowIn}
 use Rattle.mad_pager.specs.Screens.{sought_words}
 use Rattle.mad_pager.specs.Sessions.{State, AreStartsFor, IsAsked, IsKeyStep, IsLaidAnew, IsLaidFor, IsMovedTo, IsResized}
 use Rattle.mad_pager.specs.declared.sizes.ScreenSize.{ScreenSize}
@@ -35,13 +35,13 @@ asked_step key s page ask new same is h =
 pub sought_step : (s new : State) (bytes text : List ℕ) → bytes ≡ text → IsAsked Next (record s { is_typing = false; sought = bytes; found = None }) new → IsAsked Next (record s { is_typing = false; sought = text; found = None }) new
 sought_step s new bytes text e h = subst (λ (b : List ℕ). IsAsked Next (record s { is_typing = false; sought = b; found = None }) new) e h
 
-pub same_next : (a b : List ℕ) (l m : List FmtLine) (from to : ℕ) (row : Option ℕ) → a ≡ b → l ≡ m → from ≡ to → IsNextRow a l from row → IsNextRow b m to row
-same_next a b l m from to row e k f h =
-    subst (λ (n : ℕ). IsNextRow b m n row) f (subst (λ (x : List FmtLine). IsNextRow b x from row) k (subst (λ (x : List ℕ). IsNextRow x l from row) e h))
+pub same_next : (a b : List ℕ) (l m : List FmtLine) (t u : List ℕ) (from to : ℕ) (row : Option ℕ) → a ≡ b → l ≡ m → t ≡ u → from ≡ to → IsNextRowIn a l t from row → IsNextRowIn b m u to row
+same_next a b l m t u from to row e k i f h =
+    subst (λ (n : ℕ). IsNextRowIn b m u n row) f (subst (λ (y : List ℕ). IsNextRowIn b m y from row) i (subst (λ (x : List FmtLine). IsNextRowIn b x t from row) k (subst (λ (x : List ℕ). IsNextRowIn x l t from row) e h)))
 
-pub same_previous : (a b : List ℕ) (l m : List FmtLine) (end to : ℕ) (row : Option ℕ) → a ≡ b → l ≡ m → end ≡ to → IsPreviousRow a l end row → IsPreviousRow b m to row
-same_previous a b l m end to row e k f h =
-    subst (λ (n : ℕ). IsPreviousRow b m n row) f (subst (λ (x : List FmtLine). IsPreviousRow b x end row) k (subst (λ (x : List ℕ). IsPreviousRow x l end row) e h))
+pub same_previous : (a b : List ℕ) (l m : List FmtLine) (t u : List ℕ) (end to : ℕ) (row : Option ℕ) → a ≡ b → l ≡ m → t ≡ u → end ≡ to → IsPreviousRowIn a l t end row → IsPreviousRowIn b m u to row
+same_previous a b l m t u end to row e k i f h =
+    subst (λ (n : ℕ). IsPreviousRowIn b m u n row) f (subst (λ (y : List ℕ). IsPreviousRowIn b m y end row) i (subst (λ (x : List FmtLine). IsPreviousRowIn b x t end row) k (subst (λ (x : List ℕ). IsPreviousRowIn x l t end row) e h)))
 
 -- a text laid out at the width of a screen is so for the screen
 pub laid_at : (skin : MadSkin) (text : List LineContent) (columns width : ℕ) (lines : List FmtLine) → width ≡ columns - 1 → IsLayoutAt (line_rules (row_skin skin)) (Some width) text lines → IsLaidFor skin text columns lines

@@ -1,6 +1,6 @@
 -- What the screen shows of a session.
-use Rattle.std.specs.Prelude.{◌≡◌, ℕ, ◌+◌, ◌-◌, ◌<◌, ◌≤◌, ◌++◌, nat_lt, ◌||◌, Bool, true, false, List, [], ◌∷◌, length, take, drop, codes, decimal, Option, Some, None, IfSome, if◌then◌else◌}
-use Rattle.std.specs.List.{flat_map}
+use Rattle.std.specs.Prelude.{◌≡◌, ℕ, ◌+◌, ◌-◌, ◌<◌, ◌≤◌, ◌++◌, nat_lt, ◌||◌, Bool, true, false, List, [], ◌∷◌, length, min, take, drop, codes, decimal, Option, Some, None, IfSome, if◌then◌else◌}
+use Rattle.std.specs.List.{flat_map, range_with_len}
 use Rattle.std.specs.Str.{chars}
 use Rattle.mad_md.specs.Flagged.{flagged, flagged_of, unflagged}
 use Rattle.mad_md.specs.Lines.{LineContent}
@@ -16,7 +16,7 @@ use Rattle.mad_format.specs.declared.line.FmtLine.TheVariants.{Normal}
 use Rattle.mad_wrap.specs.WrapLines.{capped}
 use Rattle.mad_blocks.specs.Layouts.{IsLayoutAt}
 use Rattle.mad_blocks.specs.TextParts.{lines_in_parts}
-use Rattle.mad_hits.specs.Drawn.{AreLinesMarked}
+use Rattle.mad_hits.specs.Parts.{AreRowsMarked}
 use Rattle.mad_layout.specs.Premises.{KeepsPremises, AreTyped}
 use Rattle.mad_rows.specs.RowStyles.{line_rules, with_links}
 use Rattle.mad_page.specs.Pages.{percent}
@@ -194,7 +194,7 @@ pub record ArePanesDrawn (skin : MadSkin) (name : List ℕ) (s : State) (bytes :
 
 -- these bytes mark what is sought in the lines that are on the screen: the columns of the text are all but the bar's
 abbrev pub AreHitsDrawn : MadSkin → State → List ℕ → Type 0
-AreHitsDrawn skin s bytes = AreLinesMarked (paged_skin skin) (s.page.columns - 1) s.sought 0 (take (s.page.rows - 1) (drop s.page.top s.lines)) bytes
+AreHitsDrawn skin s bytes = AreRowsMarked (paged_skin skin) (s.page.columns - 1) s.sought s.lines s.starts 0 (range_with_len s.page.top (min (s.page.rows - 1) (length s.lines - s.page.top))) bytes
 
 -- These bytes show a session: first the text and the last row, and then, over the text, what is sought. Each byte of a hit is written in the cells of
 -- the hit alone.

@@ -24,7 +24,7 @@ use Rattle.mad_page.specs.declared.commands.Ask.TheVariants.{Search, Next, Previ
 use Rattle.mad_page.specs.declared.page.Page.{Page}
 use Rattle.mad_search.specs.Headers.{next_header, previous_header}
 use Rattle.mad_search.specs.KeptRows.{ArePartStarts, row_in_parts}
-use Rattle.mad_search.specs.Searches.{IsNextRow, IsPreviousRow}
+use Rattle.mad_search.specs.Searches.{IsNextRowIn, IsPreviousRowIn}
 use Rattle.mad_pager.specs.declared.session.Session.{Session}
 use Rattle.mad_pager.specs.declared.session.Overlay.{Overlay}
 use Rattle.mad_pager.specs.declared.session.Overlay.TheVariants as overlay
@@ -138,8 +138,8 @@ forgotten s = record s { sought = []; found = None; is_missing = false }
 -- What is asked for is done.
 abbrev pub IsAsked : Ask → State → State → Type 0
 IsAsked Search s new = new ≡ record s { field = new_field (field_row s.page.columns s.page.rows); is_typing = true }
-IsAsked Next s new = (row : Option ℕ) × IsNextRow s.sought s.lines (search_start s) row × (new ≡ at_found row s)
-IsAsked Previous s new = (row : Option ℕ) × IsPreviousRow s.sought s.lines (search_end s) row × (new ≡ at_found row s)
+IsAsked Next s new = (row : Option ℕ) × IsNextRowIn s.sought s.lines s.starts (search_start s) row × (new ≡ at_found row s)
+IsAsked Previous s new = (row : Option ℕ) × IsPreviousRowIn s.sought s.lines s.starts (search_end s) row × (new ≡ at_found row s)
 IsAsked NextHeader s new = new ≡ at_header (next_header s.lines s.starts s.page.top) s
 IsAsked PreviousHeader s new = new ≡ at_header (previous_header s.lines s.starts s.page.top) s
 IsAsked Forget s new = new ≡ forgotten s

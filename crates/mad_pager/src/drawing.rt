@@ -10,7 +10,7 @@ use crate::picture::Picture;
 use crate::places::{field_row, prompt_cell, text_area};
 use crate::session::Session;
 use mad_draw::{Rows, draw_rows};
-use mad_hits::draw_hits;
+use mad_hits::draw_row_hits;
 use mad_layout::draw_text_beside;
 use mad_style::StyledChar;
 use mad_term::{Error, Out, put_all};
@@ -90,13 +90,13 @@ impl Session<'_> {
     fn draw_hits<O: Out>(&self, alloc: Global, out: &mut O) -> Result<(), Error>
         ensures { OnOk result (TookWith (O.seen out.old) (O.seen out.new) (AreHitsDrawn self.now.text.skin.now (state_of self.now))) }
     {
-        let lines = self.text.lines.as_slice();
-        let shown = &lines[self.page.top.min(lines.len())..];
-        draw_hits(
+        draw_row_hits(
             alloc,
             out,
             &self.text.skin.row_skin().with_links(),
-            shown,
+            self.text.lines.as_slice(),
+            self.starts.as_slice(),
+            self.page.top,
             self.page.columns.saturating_sub(1),
             self.page.body_rows(),
             self.sought.as_str(),

@@ -2,12 +2,12 @@
 
 ghost use Rattle.std.specs.Prelude.{◌≡◌, IfOk, OnOk, Option, string_bytes};
 ghost use Rattle.mad_page.specs.declared.commands.Ask.TheVariants.{Next, Previous};
-ghost use Rattle.mad_search.specs.Searches.{IsNextRow, IsPreviousRow};
+ghost use Rattle.mad_search.specs.Searches.{IsNextRowIn, IsPreviousRowIn};
 ghost use Rattle.mad_pager.specs.Sessions.{at_found, at_header, forgotten, search_end, search_start, state_of, HasSameText, IsAsked};
 ghost use Rattle.mad_search.specs.Headers.{next_header, previous_header};
 
 use crate::session::Session;
-use mad_search::{next_header, next_row, previous_header, previous_row};
+use mad_search::{next_header, next_row_in, previous_header, previous_row_in};
 use std::alloc::{AllocError, Global};
 
 impl Session<'_> {
@@ -48,12 +48,13 @@ impl Session<'_> {
 
     // The next row that has what is sought: after the one found last, where that is on the screen, and else from the top on.
     fn row_after(&self, alloc: Global) -> Result<Option<usize>, AllocError>
-        ensures { IfOk result (IsNextRow (string_bytes self.now.sought) self.now.text.lines.items (search_start (state_of self.now))) }
+        ensures { IfOk result (IsNextRowIn (string_bytes self.now.sought) self.now.text.lines.items self.now.starts.items (search_start (state_of self.now))) }
     {
         let from = self.search_start();
-        let row = next_row(
+        let row = next_row_in(
             alloc,
             self.text.lines.as_slice(),
+            self.starts.as_slice(),
             self.sought.as_str(),
             from,
         )?;
@@ -62,10 +63,16 @@ impl Session<'_> {
 
     // The row before that has it: before the one found last, where that is on the screen, and else before the top.
     fn row_before(&self, alloc: Global) -> Result<Option<usize>, AllocError>
-        ensures { IfOk result (IsPreviousRow (string_bytes self.now.sought) self.now.text.lines.items (search_end (state_of self.now))) }
+        ensures { IfOk result (IsPreviousRowIn (string_bytes self.now.sought) self.now.text.lines.items self.now.starts.items (search_end (state_of self.now))) }
     {
         let end = self.search_end();
-        let row = previous_row(alloc, self.text.lines.as_slice(), self.sought.as_str(), end)?;
+        let row = previous_row_in(
+            alloc,
+            self.text.lines.as_slice(),
+            self.starts.as_slice(),
+            self.sought.as_str(),
+            end,
+        )?;
         Ok(row)
     }
 

@@ -1,5 +1,5 @@
 -- Which rows begin a header.
-use Rattle.std.specs.Prelude.{ℕ, ◌&&◌, nat_lt, Bool, true, false, List, find, reverse, Option, Some, None, slice_get}
+use Rattle.std.specs.Prelude.{ℕ, ◌&&◌, nat_lt, Bool, true, false, List, find, reverse, Option, Some, slice_get}
 use Rattle.mad_style.specs.declared.kinds.CompositeKind.{CompositeKind}
 use Rattle.mad_style.specs.declared.kinds.CompositeKind.TheVariants.{Header}
 use Rattle.mad_format.specs.declared.line.FmtLine.{FmtLine}

@@ -1,3 +1,4 @@
+pub mod Breaks
 pub mod Capitals
 pub mod Headers
 pub mod KeptRows

@@ -1,7 +1,7 @@
-use Rattle.std.proofs.Common.{ℕ, List, ◌∷◌, [], ◌++◌, Some, ap, ◌∙◌}
+use Rattle.std.proofs.Common.{ℕ, ◌∷◌, [], ◌++◌, Some, ap, ◌∙◌}
 use Rattle.mad_blocks.specs.PartCursors.{lines_left}
 use Rattle.mad_blocks.proofs.PartCursorLemmas.{laid_on}
-use Rattle.mad_search.proofs.KeptLemmas.{no_start, starts_more, starts_whole}
+use Rattle.mad_search.proofs.KeptLemmas.{starts_more, starts_whole}
 use Rattle.mad_search.proofs.paged.lay_parts.Goals as goal
 
 pub parts-preserved : goal.parts-preserved

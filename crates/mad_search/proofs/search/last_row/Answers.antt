@@ -3,7 +3,7 @@ use Rattle.mad_search.proofs.SearchLemmas.{none_yet, none_before}
 use Rattle.mad_search.proofs.search.last_row.Goals as goal
 
 pub rows-init : goal.rows-init
-rows-init c = record { inside = omega arith; before = omega arith; none = none_yet _ _ _ }
+rows-init c = record { inside = omega arith; before = omega arith; none = none_yet _ _ _ _ }
 
 pub returns-then-has : goal.returns-then-has
 returns-then-has c = record { within = omega arith; has = c.in_ok-has.ensures.0 c.if-has.true; none_after = λ r low high. c.rows.invariant.none r (omega arith) high }
@@ -12,7 +12,7 @@ pub rows-preserved : goal.rows-preserved
 rows-preserved c = record {
   inside = omega arith;
   before = omega arith;
-  none = none_before _ _ _ _ _ (omega arith) c.rows.invariant.none (λ h. let e : false ≡ true = sym c.if-has.false ∙ c.in_ok-has.ensures.1 h in absurd (cc));
+  none = none_before _ _ _ _ _ _ (omega arith) c.rows.invariant.none (λ h. let e : false ≡ true = sym c.if-has.false ∙ c.in_ok-has.ensures.1 h in absurd (cc));
 }
 
 pub returns : goal.returns

@@ -8,6 +8,6 @@ use Rattle.mad_pager.proofs.session.Session.draw_hits.Goals as goal
 pub returns : goal.returns
 returns g c =
     let s = state_of c.args.self.now in
-    hits_along (paged_skin c.args.self.now.text.skin.now) c.with_links.result c.saturating_sub.result (s.page.columns - 1) c.body_rows.result (s.page.rows - 1) c.min.result s.page.top c.as_str.result.now s.sought
-    c.as_slice-lines.result.now s.lines (g.O.Out.seen c.args.out.now) (g.O.Out.seen c.draw_hits.new.out) (c.with_links.ensures ∙ ap with_links c.row_skin.ensures) c.saturating_sub.ensures c.body_rows.ensures c.as_str.ensures.value
-    c.as_slice-lines.ensures.value c.min.ensures c.in_ok-draw_hits.ensures
+    hits_along (paged_skin c.args.self.now.text.skin.now) c.with_links.result c.saturating_sub.result (s.page.columns - 1) c.body_rows.result (s.page.rows - 1) s.page.top c.as_str.result.now s.sought
+    c.as_slice.result.now s.lines c.as_slice-2.result.now s.starts (g.O.Out.seen c.args.out.now) (g.O.Out.seen c.draw_row_hits.new.out) (c.with_links.ensures ∙ ap with_links c.row_skin.ensures) c.saturating_sub.ensures c.body_rows.ensures c.as_str.ensures.value
+    c.as_slice.ensures.value c.as_slice-2.ensures.value c.in_ok-draw_row_hits.ensures

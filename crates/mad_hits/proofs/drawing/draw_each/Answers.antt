@@ -4,11 +4,11 @@ use Rattle.mad_hits.specs.Hits.{marked_of}
 use Rattle.mad_hits.specs.declared.hits.Hit.{Hit}
 use Rattle.mad_hits.proofs.DrawnHits.{hit_more}
 use Rattle.mad_hits.proofs.TookLemmas.{took_in_turn}
-use Rattle.mad_hits.proofs.drawing.draw_line_hits.Goals as goal
+use Rattle.mad_hits.proofs.drawing.draw_each.Goals as goal
 
 pub loop-hit-preserved : goal.loop-hit-preserved
 loop-hit-preserved g c =
-    let hits = c.deref-hit-items.result.now in
+    let hits = c.args.hits.now in
     let i = c.loop-hit.hit-index in
     took_in_turn (g.O.Out.seen c.args.out.now) (g.O.Out.seen c.loop-hit.out) (g.O.Out.seen c.draw_hit.new.out) (AreHitsShown c.args.width c.args.y (map marked_of (take i hits)))
     (IsHitShown c.args.width c.args.y (marked_of c.hit-item.result)) (AreHitsShown c.args.width c.args.y (map marked_of (take (i + 1) hits)))

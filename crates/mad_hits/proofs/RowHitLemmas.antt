@@ -1,0 +1,130 @@
+-- The hits of rows, row by row, and where what is sought goes over a break.
+use Rattle.std.proofs.Common.{◌≡◌, ◌≢◌, ℕ, zero, suc, ◌+◌, ◌<◌, ◌≤◌, ◌==◌, Bool, true, false, ◌&&◌, List, [], ◌∷◌, ◌++◌, cond, drop, length, get_or, map, below_more, refl, ap, sym, ◌∙◌, subst, inl, inr, arith, append_assoc}
+use Rattle.std.specs.Prelude.{chars, slice_index}
+use Rattle.std.specs.List.{filter, range_with_len}
+use Rattle.std.proofs.lemmas.Bool.Decides.{nat_tests}
+use Rattle.std.proofs.lemmas.Bool.{cases_lt}
+use Rattle.std.proofs.lemmas.List.{append-nil, get_or_past, map-id}
+use Rattle.std.proofs.lemmas.List.Elements.{filter-append}
+use Rattle.std.proofs.lemmas.List.FromFn.{length-range_with_len, map-range_with_len_more}
+use Rattle.mad_term.specs.Trace.{Trace, TookWith}
+use Rattle.mad_format.specs.declared.line.FmtLine.{FmtLine}
+use Rattle.mad_rows.specs.declared.row_skin.RowSkin.{RowSkin}
+use Rattle.mad_search.specs.Breaks.{goes_over}
+use Rattle.mad_search.specs.Searches.{text_after}
+use Rattle.mad_hits.specs.Drawn.{AreHitsShown}
+use Rattle.mad_hits.specs.Hits.{Marked, marked_of}
+use Rattle.mad_hits.specs.Overs.{overs, overs_above, overs_below, overs_between}
+use Rattle.mad_hits.specs.Parts.{AreRowHits, AreRowsMarked, IsRowMarked}
+use Rattle.mad_hits.specs.declared.hits.Hit.{Hit}
+use Rattle.mad_hits.proofs.TookLemmas.{took_so}
+
+-- ---- numbers in a row
+
+range_more : (a n j : ℕ) → a + n ≡ j → range_with_len a (n + 1) ≡ range_with_len a n ++ j ∷ []
+range_more a n j e =
+    sym (map-id (range_with_len a (n + 1))) ∙ (map-range_with_len_more (λ (k : ℕ). k) a n j e ∙ ap (λ (l : List ℕ). l ++ j ∷ []) (map-id (range_with_len a n)))
+
+filter_last : (p : ℕ → Bool) (xs : List ℕ) (x : ℕ) → filter p (xs ++ x ∷ []) ≡ filter p xs ++ cond (p x) (x ∷ []) []
+filter_last p xs x = filter-append p xs (x ∷ [])
+
+-- the indices so far
+pub record OversSoFar (letters before after : List ℕ) (at : ℕ) (found : List ℕ) : Type 0 where
+  pub are : found ≡ filter (goes_over letters before after) (range_with_len 0 at)
+
+pub no_over : (letters before after found : List ℕ) → found ≡ [] → OversSoFar letters before after 0 found
+no_over letters before after found none = record { are = none }
+
+-- an index is put where they go over there
+pub over_put : (b : Bool) (at : ℕ) (old new : List ℕ) → b ≡ true → new ≡ old ++ at ∷ [] → new ≡ old ++ cond b (at ∷ []) []
+over_put b at old new so put = put ∙ sym (ap (λ (x : Bool). old ++ cond x (at ∷ []) []) so)
+
+pub over_left : (b : Bool) (at : ℕ) (old : List ℕ) → b ≡ false → old ≡ old ++ cond b (at ∷ []) []
+over_left b at old so = sym (ap (λ (x : Bool). old ++ cond x (at ∷ []) []) so ∙ append-nil old)
+
+-- one index more
+pub over_next : (letters before after found new : List ℕ) (at next : ℕ) → OversSoFar letters before after at found → new ≡ found ++ cond (goes_over letters before after at) (at ∷ []) [] → next ≡ at + 1
+    → OversSoFar letters before after next new
+over_next letters before after found new at next so put on =
+    let p = goes_over letters before after in
+    record {
+      are =
+          put
+          ∙ (ap (λ (l : List ℕ). l ++ cond (p at) (at ∷ []) []) so.are
+          ∙ sym (ap (λ (n : ℕ). filter p (range_with_len 0 n)) on ∙ (ap (filter p) (range_more 0 at at (omega arith)) ∙ filter_last p (range_with_len 0 at) at)));
+    }
+
+pub overs_whole : (letters before after found : List ℕ) (at : ℕ) → at ≤ length letters → length letters ≤ at → OversSoFar letters before after at found → found ≡ overs letters before after
+overs_whole letters before after found at low high so =
+    let whole : at ≡ length letters = omega (arith, low, high) in so.are ∙ ap (λ (n : ℕ). filter (goes_over letters before after) (range_with_len 0 n)) whole
+
+-- ---- no blank
+
+none_filtered : (p : ℕ → Bool) (xs : List ℕ) → ((x : ℕ) → p x ≡ false) → filter p xs ≡ []
+none_filtered p [] none = refl
+none_filtered p (x ∷ xs) none = ap (λ (b : Bool). cond b (x ∷ filter p xs) (filter p xs)) (none x) ∙ none_filtered p xs none
+
+no_blank_at : (a b c : Bool) → a ≡ false → ((a && b) && c) ≡ false
+no_blank_at a b c e = ap (λ (x : Bool). (x && b) && c) e
+
+-- none of the first characters is a blank
+pub record NoBlank (letters : List ℕ) (n : ℕ) : Type 0 where
+  pub none : (k : ℕ) → k < n → get_or letters k 0 ≢ 32
+
+pub no_blank : (letters : List ℕ) → NoBlank letters 0
+no_blank letters = record { none = λ k inside. absurd (omega (arith, inside)) }
+
+pub blank_less : (letters : List ℕ) (i c : ℕ) → NoBlank letters i → c ≡ get_or letters i 0 → c ≢ 32 → NoBlank letters (i + 1)
+blank_less letters i c so is other = record { none = below_more (λ (k : ℕ). get_or letters k 0 ≢ 32) i so.none (λ e. other (is ∙ e)) }
+
+pub blank_none : (letters : List ℕ) (i : ℕ) → length letters ≤ i → NoBlank letters i → (at : ℕ) → slice_index letters at ≢ 32
+blank_none letters i past so at =
+    elim (cases_lt at i) [
+      | inl inside ↦ so.none at inside
+      | inr over ↦ λ e. let none : get_or letters at 0 ≡ 0 = get_or_past letters at 0 (omega (arith, past, over)) in absurd (omega (arith, e, none))
+    ]
+
+-- without a blank nothing goes over a break
+pub none_over : (letters before after : List ℕ) → ((at : ℕ) → slice_index letters at ≢ 32) → overs letters before after ≡ []
+none_over letters before after none =
+    none_filtered (goes_over letters before after) (range_with_len 0 (length letters))
+    (λ at. no_blank_at (slice_index letters at == 32) _ _ (let other = none at in grind (arith, nat_tests, other)))
+
+pub none_between : (sought letters : List ℕ) (above below : List FmtLine) → letters ≡ chars sought → ((at : ℕ) → slice_index letters at ≢ 32) → overs_between sought above below ≡ []
+none_between sought letters above below spelt none =
+    ap (λ (l : List ℕ). overs l (drop 1 (chars (text_after sought above))) (chars (text_after sought below))) (sym spelt)
+    ∙ none_over letters (drop 1 (chars (text_after sought above))) (chars (text_after sought below)) none
+
+-- the break above a row is that below the row before it
+pub above_is : (sought : List ℕ) (lines : List FmtLine) (starts : List ℕ) (row before : ℕ) → before + 1 ≡ row → overs_above sought lines starts row ≡ overs_below sought lines starts before
+above_is sought lines starts zero before e = absurd (omega (arith, e))
+above_is sought lines starts (suc r) before e = let same : r ≡ before = omega (arith, e) in ap (overs_below sought lines starts) same
+
+-- ---- rows that are marked
+
+pub row_marked : (skin : RowSkin) (width : ℕ) (sought : List ℕ) (lines : List FmtLine) (starts : List ℕ) (y row : ℕ) (hits given : List Hit) (old new : Trace) → given ≡ hits
+    → AreRowHits skin width sought lines starts row (map marked_of hits) → TookWith old new (AreHitsShown width y (map marked_of given)) → TookWith old new (IsRowMarked skin width sought lines starts y row)
+row_marked skin width sought lines starts y row hits given old new same are shown =
+    took_so old new (AreHitsShown width y (map marked_of given)) (IsRowMarked skin width sought lines starts y row)
+    (λ text h. record { hits = map marked_of hits; are = are; shown = subst (λ (l : List Hit). AreHitsShown width y (map marked_of l) text) same h }) shown
+
+rows_more : (skin : RowSkin) (width : ℕ) (sought : List ℕ) (lines : List FmtLine) (starts : List ℕ) (y n : ℕ) (rows : List ℕ) (row : ℕ) (a b : List ℕ) → n ≡ y + length rows
+    → AreRowsMarked skin width sought lines starts y rows a → IsRowMarked skin width sought lines starts n row b → AreRowsMarked skin width sought lines starts y (rows ++ row ∷ []) (a ++ b)
+rows_more skin width sought lines starts y n [] row a b at none here =
+    let same : n ≡ y = omega (arith, at) in
+    (b, [], ap (λ (l : List ℕ). l ++ b) none ∙ sym (append-nil b), subst (λ (k : ℕ). IsRowMarked skin width sought lines starts k row b) same here, refl)
+rows_more skin width sought lines starts y n (r ∷ rows) row a b at (first, others, are, marked, rest) here = (
+  first,
+  others ++ b,
+  ap (λ (s : List ℕ). s ++ b) are ∙ append_assoc first others b,
+  marked,
+  rows_more skin width sought lines starts (y + 1) n rows row others b (omega (arith, at)) rest here,
+)
+
+-- a row more
+pub row_more : (skin : RowSkin) (width : ℕ) (sought : List ℕ) (lines : List FmtLine) (starts : List ℕ) (top y row : ℕ) (a b : List ℕ) → row ≡ top + y
+    → AreRowsMarked skin width sought lines starts 0 (range_with_len top y) a → IsRowMarked skin width sought lines starts y row b → AreRowsMarked skin width sought lines starts 0 (range_with_len top (y + 1)) (a ++ b)
+row_more skin width sought lines starts top y row a b at so here =
+    let long : length (range_with_len top y) ≡ y = length-range_with_len top y in
+    subst (λ (rows : List ℕ). AreRowsMarked skin width sought lines starts 0 rows (a ++ b)) (sym (range_more top y (top + y) refl))
+    (rows_more skin width sought lines starts 0 y (range_with_len top y) (top + y) a b (omega (arith, long)) so (subst (λ (r : ℕ). IsRowMarked skin width sought lines starts y r b) at here))
