@@ -1,0 +1,22 @@
+use Rattle.std.proofs.Common.{◌≡◌, ◌++◌, ◌≤◌, ◌<◌, ◌+◌, ◌-◌, ◌⊎◌, inl, inr, ℕ, false, List, length, drop, sym, ◌∙◌, ap, arith, rules, subst}
+use Rattle.std.specs.Char.{encode_utf8, len_utf8}
+use Rattle.std.specs.Str.Iter.{char_indices_offset, char_indices_rest}
+use Rattle.std.proofs.lemmas.Str.{IsUtf8-drop, length-encode, len_utf8_bounds}
+use Rattle.std.proofs.lemmas.List.{length-append, length-drop}
+use Rattle.std.proofs.StrCases.{chars_of_empty}
+use Rattle.mad_md.specs.Flagged.{flags_of}
+use Rattle.mad_fit.proofs.TokenLemmas.{front_start, token_is, stops_at}
+use Rattle.mad_wrap.proofs.WideLemmas.{one_more}
+use Rattle.mad_wrap.proofs.wide_tokens.wide_token_at.Goals as goal
+
+pub loop-index-init : goal.loop-index-init
+loop-index-init c =
+    let p = c.args.compound in
+    let bs = p.src.now in
+    let same = c.into_iter-index-iterator.ensures.into_iter_gives in
+    let none : char_indices_offset c.into_iter-index-iterator.result ≡ 0 = ap char_indices_offset same ∙ c.char_indices.ensures.offset in
+    let rest : drop c.args.start bs ≡ char_indices_rest c.into_iter-index-iterator.result = sym c.range_from.ensures.value ∙ sym c.char_indices.ensures.rest ∙ sym (ap char_indices_rest same) in
+    record {
+      front = rw none (front_start c.args.max (flags_of p) (drop c.args.start bs) false (IsUtf8-drop bs c.args.start (search rules) c.requires.border));
+      position = rw none rest;
+    }
