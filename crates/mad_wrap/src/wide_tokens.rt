@@ -33,18 +33,27 @@ fn wide_token_at<'s>(compound: Compound<'s>, start: usize, max: usize) -> Token<
     requires border { IsCharBoundary compound.src.now start }
     ensures { IsTokenAt max compound.entry start result }
 {
-    let end = compound.src.len();
+    let end = bytes_in(compound.src);
     let mut blank = false;
     let mut width = 0;
     for (index, c) in compound.src[start..].char_indices() {
         let (c_blank, columns) = measured(compound, c);
-        if index > 0 && !takes_in(blank, width, c_blank, columns, max) {
+        let fits = takes_in(blank, width, c_blank, columns, max);
+        if index > 0 && !fits {
             return token_between(compound, start, start + index, width, blank);
         }
         blank = c_blank;
         width += columns;
     }
     token_between(compound, start, end, width, blank)
+}
+
+// The bytes of a text.
+fn bytes_in(text: &str) -> usize
+    ensures value { result ≡ length text.now }
+    ensures fits { length text.now < 2 ^ 64 }
+{
+    text.len()
 }
 
 // Whether a character of the compound is blank, and its columns.

@@ -20,3 +20,22 @@ loop-index-init c =
       front = rw none (front_start c.args.max (flags_of p) (drop c.args.start bs) false (IsUtf8-drop bs c.args.start (search rules) c.requires.border));
       position = rw none rest;
     }
+
+pub takes_in-requires : goal.takes_in-requires
+takes_in-requires c =
+    let held = c.loop-index.invariant in
+    let bs = c.args.compound.src.now in
+    let n = char_indices_offset c.loop-index.index-iterator in
+    let parts = held.position ∙ c.in-Some.ensures.steps.1 in
+    omega (arith, c.measured-c_blank.ensures.bytes, held.front.bound, held.front.within, c.bytes_in-end.ensures.fits, length-drop c.args.start bs, length-drop n (drop c.args.start bs), length-encode c.in-Some.c, (simp length-append at (ap length parts)))
+
+pub returns : goal.returns
+returns c =
+    let held = c.loop-index.invariant in
+    let bs = c.args.compound.src.now in
+    let inside : c.args.start ≤ length bs = omega (arith, c.requires.inside) in
+    let n = char_indices_offset c.loop-index.index-iterator in
+    let none : length (drop n (drop c.args.start bs)) ≡ 0 = ap length held.position ∙ c.in-None.ensures.steps.0 in
+    let all : c.bytes_in-end.result - c.args.start ≡ n =
+    omega (arith, none, held.front.within, c.requires.inside, c.bytes_in-end.ensures.value, length-drop n (drop c.args.start bs), length-drop c.args.start bs) in
+    token_is _ _ _ _ _ _ c.token_between-2.result inside c.requires.border (omega (arith, c.requires.inside, c.bytes_in-end.ensures.value)) (rw all held.front) (rw (all, chars_of_empty _ none) tt) c.token_between-2.ensures
