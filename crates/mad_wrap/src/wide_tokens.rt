@@ -38,8 +38,7 @@ fn wide_token_at<'s>(compound: Compound<'s>, start: usize, max: usize) -> Token<
     let mut width = 0;
     for (index, c) in compound.src[start..].char_indices() {
         let (c_blank, columns) = measured(compound, c);
-        let fits = takes_in(blank, width, c_blank, columns, max);
-        if index > 0 && !fits {
+        if !goes_on(index, blank, width, c_blank, columns, max) {
             return token_between(compound, start, start + index, width, blank);
         }
         blank = c_blank;
@@ -69,13 +68,20 @@ fn measured(compound: Compound, c: char) -> (bool, usize)
     }
 }
 
-// Whether a token can take in a character of this blankness and width.
-fn takes_in(blank: bool, width: usize, c_blank: bool, columns: usize, max: usize) -> bool
+// Whether a token that has these bytes so far, of this blankness and width, goes on with a character.
+fn goes_on(
+    bytes: usize,
+    blank: bool,
+    width: usize,
+    c_blank: bool,
+    columns: usize,
+    max: usize,
+) -> bool
     requires { width + columns < 2 ^ 64 }
-    ensures takes { IsTrue result → (c_blank ≡ blank) × (width + columns ≤ max) }
-    ensures stops { result ≡ false → (c_blank ≢ blank) ⊎ (max < width + columns) }
+    ensures takes { IsTrue result → (bytes ≡ 0) ⊎ ((c_blank ≡ blank) × (width + columns ≤ max)) }
+    ensures stops { result ≡ false → (0 < bytes) × ((c_blank ≢ blank) ⊎ (max < width + columns)) }
 {
-    c_blank == blank && width + columns <= max
+    bytes == 0 || (c_blank == blank && width + columns <= max)
 }
 
 fn token_between<'s>(

@@ -21,8 +21,8 @@ loop-index-init c =
       position = rw none rest;
     }
 
-pub takes_in-requires : goal.takes_in-requires
-takes_in-requires c =
+pub goes_on-requires : goal.goes_on-requires
+goes_on-requires c =
     let held = c.loop-index.invariant in
     let bs = c.args.compound.src.now in
     let n = char_indices_offset c.loop-index.index-iterator in
@@ -39,3 +39,26 @@ returns c =
     let all : c.bytes_in-end.result - c.args.start ≡ n =
     omega (arith, none, held.front.within, c.requires.inside, c.bytes_in-end.ensures.value, length-drop n (drop c.args.start bs), length-drop c.args.start bs) in
     token_is _ _ _ _ _ _ c.token_between-2.result inside c.requires.border (omega (arith, c.requires.inside, c.bytes_in-end.ensures.value)) (rw all held.front) (rw (all, chars_of_empty _ none) tt) c.token_between-2.ensures
+
+pub returns-then-not-goes_on : goal.returns-then-not-goes_on
+returns-then-not-goes_on c =
+    let held = c.loop-index.invariant in
+    let inside : c.args.start ≤ length c.args.compound.src.now = omega (arith, c.requires.inside) in
+    let n = char_indices_offset c.loop-index.index-iterator in
+    let size : c.args.start + n - c.args.start ≡ n = omega arith in
+    let stop = c.goes_on.ensures.stops c.if-not-goes_on.true in
+    let parts = held.position ∙ c.in-Some.ensures.steps.1 in
+    let stops = stops_at _ _ _ _ _ _ _ held.front.rest parts (rw (sym c.measured-c_blank.ensures.blank, sym c.measured-c_blank.ensures.columns) stop.1) in
+    token_is _ _ _ _ _ _ c.token_between.result inside c.requires.border (omega (arith, stop.0, c.in-Some.ensures.steps.0)) (rw size held.front) (rw size stops) (rw (sym c.in-Some.ensures.steps.0) c.token_between.ensures)
+
+pub loop-index-preserved : goal.loop-index-preserved
+loop-index-preserved c =
+    let held = c.loop-index.invariant in
+    let bs = c.args.compound.src.now in
+    let n = char_indices_offset c.loop-index.index-iterator in
+    let new = char_indices_offset c.next.new.self in
+    let moved : new ≡ n + length (encode_utf8 c.in-Some.c) = omega (arith, c.in-Some.ensures.steps.2) in
+    let taken = rw c.in-Some.ensures.steps.0 at (c.goes_on.ensures.takes (search rules)) in
+    let more = one_more c.args.max (flags_of c.args.compound) (drop c.args.start bs) (char_indices_rest c.next.new.self) n new c.in-Some.c c.loop-index.width c.measured-c_blank.result.1 _ _ held.front
+        (held.position ∙ c.in-Some.ensures.steps.1) moved c.measured-c_blank.ensures.columns c.measured-c_blank.ensures.bytes c.measured-c_blank.ensures.blank taken in
+    record { front = more.front; position = more.position }
