@@ -1,10 +1,11 @@
-use Rattle.std.proofs.Common.{◌≡◌, ◌++◌, ◌≤◌, ◌<◌, ◌+◌, ◌-◌, ◌⊎◌, inl, inr, ℕ, false, List, length, drop, sym, ◌∙◌, ap, arith, rules, subst}
-use Rattle.std.specs.Char.{encode_utf8, len_utf8}
+use Rattle.std.proofs.Common.{◌≡◌, ◌≢◌, ◌≤◌, ◌<◌, ◌+◌, ◌-◌, ◌⊎◌, ℕ, false, length, drop, sym, ◌∙◌, ap, arith, rules}
+use Rattle.std.specs.Char.{encode_utf8}
 use Rattle.std.specs.Str.Iter.{char_indices_offset, char_indices_rest}
-use Rattle.std.proofs.lemmas.Str.{IsUtf8-drop, length-encode, len_utf8_bounds}
+use Rattle.std.proofs.lemmas.Str.{IsUtf8-drop, length-encode}
 use Rattle.std.proofs.lemmas.List.{length-append, length-drop}
 use Rattle.std.proofs.StrCases.{chars_of_empty}
-use Rattle.mad_md.specs.Flagged.{flags_of}
+use Rattle.mad_columns.specs.Columns.{char_columns}
+use Rattle.mad_md.specs.Flagged.{flags_of, is_blank}
 use Rattle.mad_fit.proofs.TokenLemmas.{front_start, token_is, stops_at}
 use Rattle.mad_wrap.proofs.WideLemmas.{one_more}
 use Rattle.mad_wrap.proofs.wide_tokens.wide_token_at.Goals as goal
@@ -14,8 +15,8 @@ loop-index-init c =
     let p = c.args.compound in
     let bs = p.src.now in
     let same = c.into_iter-index-iterator.ensures.into_iter_gives in
-    let none : char_indices_offset c.into_iter-index-iterator.result ≡ 0 = ap char_indices_offset same ∙ c.char_indices.ensures.offset in
-    let rest : drop c.args.start bs ≡ char_indices_rest c.into_iter-index-iterator.result = sym c.range_from.ensures.value ∙ sym c.char_indices.ensures.rest ∙ sym (ap char_indices_rest same) in
+    let none : char_indices_offset c.into_iter-index-iterator.result ≡ 0 = ap char_indices_offset same ∙ c.char_indices-index-items.ensures.offset in
+    let rest : drop c.args.start bs ≡ char_indices_rest c.into_iter-index-iterator.result = sym c.range_from.ensures.value ∙ sym c.char_indices-index-items.ensures.rest ∙ sym (ap char_indices_rest same) in
     record {
       front = rw none (front_start c.args.max (flags_of p) (drop c.args.start bs) false (IsUtf8-drop bs c.args.start (search rules) c.requires.border));
       position = rw none rest;
@@ -48,7 +49,9 @@ returns-then-not-goes_on c =
     let size : c.args.start + n - c.args.start ≡ n = omega arith in
     let stop = c.goes_on.ensures.stops c.if-not-goes_on.true in
     let parts = held.position ∙ c.in-Some.ensures.steps.1 in
-    let stops = stops_at _ _ _ _ _ _ _ held.front.rest parts (rw (sym c.measured-c_blank.ensures.blank, sym c.measured-c_blank.ensures.columns) stop.1) in
+    let why : (is_blank (record { char = c.in-Some.c; flags = flags_of c.args.compound }) ≢ c.loop-index.blank) ⊎ (c.args.max < c.loop-index.width + char_columns c.in-Some.c) =
+    rw (sym c.measured-c_blank.ensures.blank, sym c.measured-c_blank.ensures.columns) stop.1 in
+    let stops = stops_at c.args.max (flags_of c.args.compound) (drop n (drop c.args.start c.args.compound.src.now)) (char_indices_rest c.next.new.self) c.in-Some.c c.loop-index.width c.loop-index.blank held.front.rest parts why in
     token_is _ _ _ _ _ _ c.token_between.result inside c.requires.border (omega (arith, stop.0, c.in-Some.ensures.steps.0)) (rw size held.front) (rw size stops) (rw (sym c.in-Some.ensures.steps.0) c.token_between.ensures)
 
 pub loop-index-preserved : goal.loop-index-preserved
