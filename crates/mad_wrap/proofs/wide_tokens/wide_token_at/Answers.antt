@@ -63,5 +63,5 @@ loop-index-preserved c =
     let moved : new ≡ n + length (encode_utf8 c.in-Some.c) = omega (arith, c.in-Some.ensures.steps.2) in
     let taken = rw c.in-Some.ensures.steps.0 at (c.goes_on.ensures.takes (search rules)) in
     let more = one_more c.args.max (flags_of c.args.compound) (drop c.args.start bs) (char_indices_rest c.next.new.self) n new c.in-Some.c c.loop-index.width c.measured-c_blank.result.1 _ _ held.front
-        (held.position ∙ c.in-Some.ensures.steps.1) moved c.measured-c_blank.ensures.columns c.measured-c_blank.ensures.bytes c.measured-c_blank.ensures.blank taken in
+    (held.position ∙ c.in-Some.ensures.steps.1) moved c.measured-c_blank.ensures.columns c.measured-c_blank.ensures.bytes c.measured-c_blank.ensures.blank taken in
     record { front = more.front; position = more.position }
