@@ -52,7 +52,7 @@ returns-then-not-goes_on c =
     let why : (is_blank (record { char = c.in-Some.c; flags = flags_of c.args.compound }) ≢ c.loop-index.blank) ⊎ (c.args.max < c.loop-index.width + char_columns c.in-Some.c) =
     rw (sym c.measured-c_blank.ensures.blank, sym c.measured-c_blank.ensures.columns) stop.1 in
     let stops = stops_at c.args.max (flags_of c.args.compound) (drop n (drop c.args.start c.args.compound.src.now)) (char_indices_rest c.next.new.self) c.in-Some.c c.loop-index.width c.loop-index.blank held.front.rest parts why in
-    token_is _ _ _ _ _ _ c.token_between.result inside c.requires.border (omega (arith, stop.0, c.in-Some.ensures.steps.0)) (rw size held.front) (rw size stops) (rw (sym c.in-Some.ensures.steps.0) c.token_between.ensures)
+    token_is c.args.max c.args.start (c.args.start + n) c.loop-index.width c.loop-index.blank c.args.compound c.token_between.result inside c.requires.border (omega (arith, stop.0, c.in-Some.ensures.steps.0)) (rw size held.front) (rw size stops) (rw (sym c.in-Some.ensures.steps.0) c.token_between.ensures)
 
 pub loop-index-preserved : goal.loop-index-preserved
 loop-index-preserved c =
