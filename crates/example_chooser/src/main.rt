@@ -4,20 +4,17 @@
 //!
 //! 1. [`cities`]: the rows of the list, its filter and its order.
 //! 2. [`chooser`]: the list, what is typed, and what a key does.
+//! 3. [`terminal`]: the terminal.
 #![tactic(auto)]
 
 mod chooser;
 mod cities;
+mod terminal;
 
 use chooser::{Chooser, Turn};
 use termimad::keys::Keys;
-use termimad::{
-    ClearType, Error, Event, Frame, MadSkin, Source, Stream, TestTerminal, queue_clear,
-};
-
-const COLUMNS: u16 = 16;
-
-const ROWS: u16 = 6;
+use termimad::{Error, Event, MadSkin, Source, Stream};
+use terminal::Terminal;
 
 // How many bytes one fill is asked for.
 const BLOCK: usize = 64;
@@ -25,8 +22,7 @@ const BLOCK: usize = 64;
 fn main(rt: HostRuntime) -> Result<(), Error> {
     let skin = MadSkin::no_style();
     let mut chooser = Chooser::new(rt.alloc(), &skin)?;
-    let mut frame = Frame::new(rt.alloc(), COLUMNS, ROWS)?;
-    let mut terminal = TestTerminal::new(rt.alloc(), COLUMNS, ROWS);
+    let mut terminal = Terminal::new(rt.alloc())?;
     let mut input = Stream::new(rt.reader());
     let mut keys = Keys::new();
     let mut block = [0; BLOCK];
@@ -34,12 +30,12 @@ fn main(rt: HostRuntime) -> Result<(), Error> {
         let count = input.fill(&mut block)?;
         for b in &block[..count] {
             let event = keys.byte(*b);
-            if !goes_on(&rt, &mut chooser, &mut frame, &mut terminal, event)? {
+            if !goes_on(&rt, &mut chooser, &mut terminal, event)? {
                 return Ok(());
             }
         }
         let event = if count < BLOCK { keys.pause() } else { None };
-        if !goes_on(&rt, &mut chooser, &mut frame, &mut terminal, event)? || count == 0 {
+        if !goes_on(&rt, &mut chooser, &mut terminal, event)? || count == 0 {
             return Ok(());
         }
     }
@@ -50,8 +46,7 @@ fn main(rt: HostRuntime) -> Result<(), Error> {
 fn goes_on(
     rt: &HostRuntime,
     chooser: &mut Chooser,
-    frame: &mut Frame,
-    terminal: &mut TestTerminal,
+    terminal: &mut Terminal,
     event: Option<Event>,
 ) -> Result<bool, Error> {
     let Some(Event::Key(key)) = event else {
@@ -59,12 +54,8 @@ fn goes_on(
     };
     match chooser.apply(key)? {
         Turn::Goes => {
-            let before = terminal.taken().len();
-            queue_clear(frame, ClearType::All)?;
-            chooser.draw(rt.alloc(), frame)?;
-            frame.present(rt.alloc(), terminal)?;
-            let sent = terminal.taken().len().saturating_sub(before);
-            println!(rt; "{sent} bytes\n{}", terminal.shown(rt.alloc())?)?;
+            let sent = terminal.show(rt.alloc(), chooser)?;
+            println!(rt; "{sent} bytes\n{}", terminal.screen())?;
         }
         Turn::Chosen => println!(rt; "{}", chooser.chosen())?,
         Turn::Left => {}

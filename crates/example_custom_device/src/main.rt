@@ -6,8 +6,7 @@ ghost use Rattle.termimad.specs.Areas.{IsWithinLimits};
 ghost use Rattle.termimad.specs.InArea.{ShowsText};
 ghost use Rattle.termimad.specs.RowSkins.{row_skin};
 ghost use Rattle.termimad.specs.Skins.{no_style_skin};
-ghost use Rattle.mad_frames.specs.Gathered.{untouched};
-ghost use Rattle.example_custom_device.specs.Page.{page_trace};
+ghost use Rattle.example_custom_device.specs.Page.{page_trace, empty_page};
 
 mod page;
 
@@ -30,7 +29,7 @@ fn main(rt: HostRuntime) -> Result<(), Error> {
 fn page_with(alloc: Global, text: &str, area: &Area) -> Result<Page, Error>
     requires limits { IsWithinLimits area.now }
     requires columns { 4 ≤ area.now.width }
-    ensures { IfOk result (λ page. ShowsText (row_skin no_style_skin) text.now area.now untouched (page_trace page)) }
+    ensures { IfOk result (λ page. ShowsText (row_skin no_style_skin) text.now area.now empty_page (page_trace page)) }
 {
     let mut page = Page::new(alloc);
     MadSkin::no_style().write_in_area_on(alloc, &mut page, text, area)?;

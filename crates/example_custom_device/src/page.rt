@@ -15,12 +15,11 @@ pub struct Page {
 
 impl Page {
     ghost use Rattle.std.specs.Prelude.{◌≡◌};
-    ghost use Rattle.mad_frames.specs.Gathered.{untouched};
-    ghost use Rattle.example_custom_device.specs.Page.{page_trace};
+    ghost use Rattle.example_custom_device.specs.Page.{page_trace, empty_page};
 
     /// A page on which nothing is written yet.
     pub fn new(alloc: Global) -> Self
-        ensures { page_trace result ≡ untouched }
+        ensures { page_trace result ≡ empty_page }
     {
         Page {
             bytes: Vec::new(alloc),
