@@ -1,6 +1,6 @@
 -- What all chunks hold, when one of them changes.
 use Rattle.std.proofs.Common.{◌≡◌, ◌<◌, ◌≤◌, ◌+◌, ◌-◌, ℕ, suc, zero, List, [], ◌∷◌, ◌++◌, length, get_or, take, drop, arith, refl, sym, ap, ◌∙◌, subst, append_assoc, add-one, Option, Some, None}
-use Rattle.std.specs.Prelude.{slice_get}
+use Rattle.std.specs.Prelude.{slice_get, Result, Ok, Err, OnOk, OnErr, IsOk, is_ok, if◌then◌else◌}
 use Rattle.std.specs.Global.{Vec}
 use Rattle.std.specs.List.{flat_map, insert}
 use Rattle.std.proofs.Math.ListN.{set}
@@ -8,11 +8,12 @@ use Rattle.std.proofs.Math.Seq.{drop-cons, take-suc}
 use Rattle.std.proofs.lemmas.Grind.{flat_map-append}
 use Rattle.std.proofs.lemmas.List.{append-nil, drop-set, drop-set-lt, length-append, take-append-drop, take-set, take_all, drop_all, take_more_set, nil_from_length}
 use Rattle.std.proofs.lemmas.List.Edits.{insert-append_left, insert-append_right, insert_end}
+use Rattle.std.proofs.lemmas.Bool.{false≢true}
 use Rattle.std.proofs.lemmas.Option.{none-some}
 use Rattle.mad_list_rows.specs.Chunks.{all_of, last_of}
 
 module _ {X : Type 0} where
-  held : Vec X → List X
+  abbrev held : Vec X → List X
   held = λ chunk. chunk.items
 
   -- around one chunk
@@ -135,3 +136,41 @@ module _ {X : Type 0} where
   last_above cs k d h none =
       let nothing : (get_or cs k d).items ≡ [] = nil_from_length _ none in
       ap (λ (ys : List X). last_of ys) (all_more cs k d h ∙ ap (λ (ys : List X). all_of (take k cs) ++ ys) nothing ∙ append-nil (all_of (take k cs)))
+
+  -- ---- as calls say it
+
+  -- what a call made where it went well, and where it didn't
+  pub done : {A E : Type 0} (r : Result A E) (new ys zs : List X) → new ≡ (if is_ok r then ys else zs) → IsOk r → new ≡ ys
+  done (Ok a) new ys zs e h = e
+  done (Err x) new ys zs e h = absurd (false≢true h)
+
+  pub put_result : {A E : Type 0} (r : Result A E) (cs : List (Vec X)) (k at : ℕ) (x : X) (old new : Vec X) → k < length cs → old ≡ get_or cs k old → at ≤ length old.items → new.items ≡ (if is_ok r then insert old.items at x else old.items) → OnOk r (all_of (set cs k new) ≡ insert (all_of cs) (length (all_of (take k cs)) + at) x)
+  put_result (Ok a) cs k at x old new h is within put =
+      put_in cs k at x old new h (subst (λ (c : Vec X). at ≤ length c.items) is within) (put ∙ ap (λ (c : Vec X). insert c.items at x) is)
+  put_result (Err e) cs k at x old new h is within put = tt
+
+  pub kept_result : {A E : Type 0} (r : Result A E) (cs : List (Vec X)) (k : ℕ) (ys : List X) (old new : Vec X) → k < length cs → old ≡ get_or cs k old → new.items ≡ (if is_ok r then ys else old.items) → OnErr r (all_of (set cs k new) ≡ all_of cs)
+  kept_result (Ok a) cs k ys old new h is put = tt
+  kept_result (Err e) cs k ys old new h is put = set_same cs k old new h (put ∙ ap (λ (c : Vec X). c.items) is)
+
+  pub push_result : {A E : Type 0} (r : Result A E) (cs : List (Vec X)) (k : ℕ) (x : X) (old new : Vec X) → k + 1 ≡ length cs → old ≡ get_or cs k old → new.items ≡ (if is_ok r then old.items ++ x ∷ [] else old.items) → OnOk r (all_of (set cs k new) ≡ all_of cs ++ x ∷ [])
+  push_result (Ok a) cs k x old new last is put =
+      put_last cs k x old new last (put ∙ ap (λ (c : Vec X). c.items ++ x ∷ []) is)
+  push_result (Err e) cs k x old new last is put = tt
+
+  -- by the chunk that was there
+  pub set_kept : (cs : List (Vec X)) (k : ℕ) (old new : Vec X) → k < length cs → old ≡ get_or cs k old → new.items ≡ old.items → all_of (set cs k new) ≡ all_of cs
+  set_kept cs k old new h is put = set_same cs k old new h (put ∙ ap (λ (c : Vec X). c.items) is)
+
+  pub put_there : (cs : List (Vec X)) (k at : ℕ) (x : X) (old new : Vec X) → k < length cs → old ≡ get_or cs k old → at ≤ length old.items → new.items ≡ insert old.items at x → all_of (set cs k new) ≡ insert (all_of cs) (length (all_of (take k cs)) + at) x
+  put_there cs k at x old new h is within put =
+      put_in cs k at x old new h (subst (λ (c : Vec X). at ≤ length c.items) is within) (put ∙ ap (λ (c : Vec X). insert c.items at x) is)
+
+  pub cut_there : (cs : List (Vec X)) (k half : ℕ) (old a b : Vec X) → k < length cs → old ≡ get_or cs k old → a.items ≡ take half old.items → b.items ≡ drop half old.items → all_of (insert (set cs k a) (k + 1) b) ≡ all_of cs
+  cut_there cs k half old a b h is front_is back_is =
+      cut_in_two cs k half old a b h (front_is ∙ ap (λ (c : Vec X). take half c.items) is) (back_is ∙ ap (λ (c : Vec X). drop half c.items) is)
+
+  -- what is so whatever the result is
+  pub always_err : {A E : Type 0} (r : Result A E) (P : Type 0) → P → OnErr r P
+  always_err (Ok a) P p = tt
+  always_err (Err e) P p = p

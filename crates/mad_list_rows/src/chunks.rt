@@ -65,9 +65,9 @@ fn cut_chunk<X: Drop>(chunks: &mut Vec<Vec<X>>, chunk: usize)
     requires { chunk < length chunks.old.items }
     ensures { all_of chunks.new.items ≡ all_of chunks.old.items }
 {
-    if chunks.try_reserve(1).is_err() {
+    let Ok(()) = chunks.try_reserve(1) else {
         return;
-    }
+    };
     let half = chunks[chunk].len() / 2;
     if let Ok(back) = chunks[chunk].split_off(half) {
         let _put = chunks.insert(chunk + 1, back);
