@@ -12,6 +12,11 @@ use Rattle.std.proofs.lemmas.Bool.{false≢true}
 use Rattle.std.proofs.lemmas.Option.{none-some}
 use Rattle.mad_list_rows.specs.Chunks.{all_of, last_of}
 
+-- what is so whatever the result is
+pub always_err : {A E : Type 0} (r : Result A E) (P : Type 0) → P → OnErr r P
+always_err (Ok a) P p = tt
+always_err (Err e) P p = p
+
 module _ {X : Type 0} where
   abbrev held : Vec X → List X
   held = λ chunk. chunk.items
@@ -169,8 +174,3 @@ module _ {X : Type 0} where
   pub cut_there : (cs : List (Vec X)) (k half : ℕ) (old a b : Vec X) → k < length cs → old ≡ get_or cs k old → a.items ≡ take half old.items → b.items ≡ drop half old.items → all_of (insert (set cs k a) (k + 1) b) ≡ all_of cs
   cut_there cs k half old a b h is front_is back_is =
       cut_in_two cs k half old a b h (front_is ∙ ap (λ (c : Vec X). take half c.items) is) (back_is ∙ ap (λ (c : Vec X). drop half c.items) is)
-
-  -- what is so whatever the result is
-  pub always_err : {A E : Type 0} (r : Result A E) (P : Type 0) → P → OnErr r P
-  always_err (Ok a) P p = tt
-  always_err (Err e) P p = p
