@@ -8,8 +8,8 @@ abbrev pub invariant-loop-low : goal.invariant-loop-low
 invariant-loop-low g l =
     (l.low ≤ l.high) × (l.high < length l.chunks)
     × ((lt : g.row.T.Denot → g.row.T.Denot → Bool) → Orders g.O.RowOrder.compares l.order lt → IsSortedBy (by_content lt) (all_of l.chunks)
-        → All (λ row. lt l.content row.content ≡ false) (all_of (take l.low l.chunks))
-        × All (λ row. lt l.content row.content ≡ true) (all_of (drop (l.high + 1) l.chunks)))
+    → All (λ row. lt l.content row.content ≡ false) (all_of (take l.low l.chunks))
+    × All (λ row. lt l.content row.content ≡ true) (all_of (drop (l.high + 1) l.chunks)))
 
 abbrev pub decreases-loop-low : goal.decreases-loop-low
 decreases-loop-low g l = l.high - l.low
