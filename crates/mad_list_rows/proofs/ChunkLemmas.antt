@@ -6,7 +6,7 @@ use Rattle.std.specs.List.{flat_map, insert}
 use Rattle.std.proofs.Math.ListN.{set}
 use Rattle.std.proofs.Math.Seq.{drop-cons, take-suc}
 use Rattle.std.proofs.lemmas.Grind.{flat_map-append}
-use Rattle.std.proofs.lemmas.List.{append-nil, drop-set, drop-set-lt, length-append, take-append-drop, take-set, take_all, drop_all, take_more_set, nil_from_length}
+use Rattle.std.proofs.lemmas.List.{append-nil, drop-drop, drop-set, drop-set-lt, get_or-drop, length-append, take-append-drop, take-set, take_all, drop_all, take_more_set, nil_from_length}
 use Rattle.std.proofs.lemmas.List.Edits.{insert-append_left, insert-append_right, insert_end}
 use Rattle.std.proofs.lemmas.Bool.{false≢true}
 use Rattle.std.proofs.lemmas.Option.{none-some}
@@ -174,3 +174,29 @@ module _ {X : Type 0} where
   pub cut_there : (cs : List (Vec X)) (k half : ℕ) (old a b : Vec X) → k < length cs → old ≡ get_or cs k old → a.items ≡ take half old.items → b.items ≡ drop half old.items → all_of (insert (set cs k a) (k + 1) b) ≡ all_of cs
   cut_there cs k half old a b h is front_is back_is =
       cut_in_two cs k half old a b h (front_is ∙ ap (λ (c : Vec X). take half c.items) is) (back_is ∙ ap (λ (c : Vec X). drop half c.items) is)
+
+  -- a chunk's elements are among all
+  pub part_within : (cs : List (Vec X)) (k : ℕ) (d : Vec X) → k < length cs → length (all_of (take k cs)) + length (get_or cs k d).items ≤ length (all_of cs)
+  part_within cs k d h =
+      let rest : List X = all_of (drop (k + 1) cs) in
+      let here : List X = (get_or cs k d).items in
+      let whole : length (all_of cs) ≡ length (all_of (take k cs) ++ (here ++ rest)) = ap (λ (ys : List X). length ys) (split_all cs k d h) in
+      omega (arith, whole, length-append (all_of (take k cs)) (here ++ rest), length-append here rest)
+
+  -- ---- chunks that change one after the other
+
+  -- those that are still to come
+  pub rest_same : (xs ys : List (Vec X)) (k : ℕ) (c : Vec X) → drop k ys ≡ drop k xs → drop (k + 1) (set ys k c) ≡ drop (k + 1) xs
+  rest_same xs ys k c same =
+      drop-set-lt (k + 1) ys k c (omega arith) ∙ sym (drop-drop 1 k ys) ∙ ap (λ (zs : List (Vec X)). drop 1 zs) same ∙ drop-drop 1 k xs
+
+  -- the next of them
+  pub next_same : (xs ys : List (Vec X)) (k : ℕ) (d : Vec X) → drop k ys ≡ drop k xs → get_or ys k d ≡ get_or xs k d
+  next_same xs ys k d same =
+      let here : k + 0 ≡ k = omega arith in
+      sym (get_or-drop k ys 0 d ∙ ap (λ (n : ℕ). get_or ys n d) here) ∙ ap (λ (zs : List (Vec X)). get_or zs 0 d) same ∙ get_or-drop k xs 0 d ∙ ap (λ (n : ℕ). get_or xs n d) here
+
+  -- up to and with a chunk that was changed
+  pub all_changed : (ys : List (Vec X)) (k : ℕ) (c : Vec X) → k < length ys → all_of (take (k + 1) (set ys k c)) ≡ all_of (take k ys) ++ c.items
+  all_changed ys k c h =
+      ap (λ (zs : List (Vec X)). all_of zs) (take_more_set ys k c h) ∙ flat_map-append held (take k ys) (c ∷ []) ∙ ap (λ (zs : List X). all_of (take k ys) ++ zs) (append-nil c.items)

@@ -1,22 +1,17 @@
 -- The place of an element in a sorted list that is kept in parts.
-use Rattle.std.proofs.Common.{◌≡◌, ◌<◌, ◌≤◌, ◌+◌, ◌-◌, ℕ, suc, zero, List, [], ◌∷◌, ◌++◌, length, get_or, take, drop, Bool, true, false, arith, refl, sym, ap, ◌∙◌, subst, Option, Some, None}
+use Rattle.std.proofs.Common.{◌≡◌, ◌<◌, ◌≤◌, ◌+◌, ◌-◌, ℕ, suc, zero, List, [], ◌∷◌, ◌++◌, length, get_or, take, drop, Bool, true, false, arith, refl, sym, ap, ◌∙◌, subst, Option, Some, ⊎_elim}
 use Rattle.std.specs.Cmp.{IsStrictWeakOrder}
 use Rattle.std.specs.List.{All, AllWithin}
 use Rattle.std.specs.List.Sorted.{IsPartitionPoint, IsSortedBy}
 use Rattle.std.specs.Option.{option_map_or}
 use Rattle.std.proofs.Math.ListN.{get_or-append}
-use Rattle.std.proofs.lemmas.Bool.{false≢true, true_from_ne_false}
-use Rattle.std.proofs.lemmas.List.{length-append}
+use Rattle.std.proofs.lemmas.Bool.{cases_lt, false≢true, true_from_ne_false}
+use Rattle.std.proofs.lemmas.List.{get_or-append-add, get_or-append_right, length-append}
 use Rattle.std.proofs.lemmas.List.Sorted.{sorted_far}
 use Rattle.std.proofs.lemmas.Option.{slice_get-get_or}
 use Rattle.mad_list_rows.specs.Chunks.{last_of}
 
 module _ {X : Type 0} (lt : X → X → Bool) (o : IsStrictWeakOrder lt) where
-  -- an element of the second part
-  get_or-after : (xs ys : List X) (k : ℕ) (d : X) → get_or (xs ++ ys) (length xs + k) d ≡ get_or ys k d
-  get_or-after [] ys k d = refl
-  get_or-after (x ∷ xs) ys k d = get_or-after xs ys k d
-
   -- the last of a list that has some
   last_is : (xs : List X) (d : X) → 0 < length xs → last_of xs ≡ Some (get_or xs (length xs - 1) d)
   last_is xs d some = slice_get-get_or xs (length xs - 1) d (omega (arith, some))
@@ -30,7 +25,7 @@ module _ {X : Type 0} (lt : X → X → Bool) (o : IsStrictWeakOrder lt) where
       let sum : length (xs ++ ys) ≡ length xs + length ys = length-append xs ys in
       let lasts : lt x (get_or xs last d) ≡ true = sym (ap (λ (r : Option X). option_map_or (lt x) r false) (last_is xs d (omega arith))) ∙ before in
       let far : lt (get_or (xs ++ ys) (length xs + k) d) (get_or (xs ++ ys) last d) ≡ false = sorted_far lt o (xs ++ ys) up last (length xs + k) d (omega arith) (omega (arith, sum, h)) in
-      let here : lt (get_or ys k d) (get_or xs last d) ≡ false = subst (λ (w : X). lt (get_or ys k d) w ≡ false) (get_or-append xs ys d last (omega arith)) (subst (λ (w : X). lt w (get_or (xs ++ ys) last d) ≡ false) (get_or-after xs ys k d) far) in
+      let here : lt (get_or ys k d) (get_or xs last d) ≡ false = subst (λ (w : X). lt (get_or ys k d) w ≡ false) (get_or-append xs ys d last (omega arith)) (subst (λ (w : X). lt w (get_or (xs ++ ys) last d) ≡ false) (get_or-append-add xs ys k d) far) in
       true_from_ne_false (lt x (get_or ys k d)) (λ e. false≢true (sym (o.chain x (get_or ys k d) (get_or xs last d) e here) ∙ lasts))
 
   -- where x doesn't come before a list's last, it comes before none of it
@@ -44,3 +39,41 @@ module _ {X : Type 0} (lt : X → X → Bool) (o : IsStrictWeakOrder lt) where
       let far : lt (get_or (xs ++ ys) last d) (get_or (xs ++ ys) k d) ≡ false = sorted_far lt o (xs ++ ys) up k last d (omega (arith, h)) (omega (arith, sum)) in
       let here : lt (get_or xs last d) (get_or xs k d) ≡ false = subst (λ (w : X). lt w (get_or xs k d) ≡ false) (get_or-append xs ys d last (omega arith)) (subst (λ (w : X). lt (get_or (xs ++ ys) last d) w ≡ false) (get_or-append xs ys d k h) far) in
       o.chain x (get_or xs last d) (get_or xs k d) lasts here
+
+module _ {X : Type 0} (lt : X → X → Bool) where
+  -- a part of sorted elements is sorted
+  sorted_front : (xs ys : List X) → IsSortedBy lt (xs ++ ys) → IsSortedBy lt xs
+  sorted_front xs ys up = λ k d low high.
+      subst (λ (w : X). lt w (get_or xs k d) ≡ false) (get_or-append xs ys d (k + 1) high)
+      (subst (λ (w : X). lt (get_or (xs ++ ys) (k + 1) d) w ≡ false) (get_or-append xs ys d k (omega arith)) (up k d low (omega (arith, length-append xs ys))))
+
+  sorted_back : (xs ys : List X) → IsSortedBy lt (xs ++ ys) → IsSortedBy lt ys
+  sorted_back xs ys up = λ k d low high.
+      let n : ℕ = length xs in
+      let next : n + k + 1 ≡ n + (k + 1) = omega arith in
+      let second : get_or (xs ++ ys) (n + k + 1) d ≡ get_or ys (k + 1) d = ap (λ (i : ℕ). get_or (xs ++ ys) i d) next ∙ get_or-append-add xs ys (k + 1) d in
+      subst (λ (w : X). lt w (get_or ys k d) ≡ false) second
+      (subst (λ (w : X). lt (get_or (xs ++ ys) (n + k + 1) d) w ≡ false) (get_or-append-add xs ys k d) (up (n + k) d (omega arith) (omega (arith, length-append xs ys))))
+
+  pub sorted_between : (front here rest : List X) → IsSortedBy lt (front ++ (here ++ rest)) → IsSortedBy lt here
+  sorted_between front here rest up = sorted_front here rest (sorted_back front (here ++ rest) up)
+
+-- in the middle one of three parts, where no element of the first comes after it, and all of the last do
+module _ {X : Type 0} (P Q : X → Type 0) where
+  pub place_between : (front here rest : List X) (at : ℕ) → at ≤ length here → All P front → IsPartitionPoint P Q here at → All Q rest → IsPartitionPoint P Q (front ++ (here ++ rest)) (length front + at)
+  place_between front here rest at within before place after =
+      let n : ℕ = length front in
+      let all : List X = front ++ (here ++ rest) in
+      (λ k d low high.
+      ⊎_elim
+      (λ (first : k < n). subst P (sym (get_or-append front (here ++ rest) d k first)) (before k d first))
+      (λ (later : n ≤ k).
+      subst P (sym (get_or-append_right front (here ++ rest) n k d refl later ∙ get_or-append here rest d (k - n) (omega arith))) (place.0 (k - n) d (omega arith) (omega arith)))
+      (cases_lt k n),
+      λ k d low high.
+      let there : get_or all k d ≡ get_or (here ++ rest) (k - n) d = get_or-append_right front (here ++ rest) n k d refl (omega arith) in
+      let long : length all ≡ n + (length here + length rest) = length-append front (here ++ rest) ∙ ap (λ (m : ℕ). n + m) (length-append here rest) in
+      ⊎_elim
+      (λ (middle : k - n < length here). subst Q (sym (there ∙ get_or-append here rest d (k - n) middle)) (place.1 (k - n) d (omega arith) middle))
+      (λ (last : length here ≤ k - n). subst Q (sym (there ∙ get_or-append_right here rest (length here) (k - n) d refl last)) (after (k - n - length here) d (omega arith)))
+      (cases_lt (k - n) (length here)))
