@@ -122,3 +122,8 @@ place_by_opposite t xs i h =
 pub by_result : {A E X : Type 0} (r : Result A E) (P : List X → Type 0) (new ys zs : List X) → new ≡ (if is_ok r then ys else zs) → P ys → OnOk r (P new)
 by_result (Ok a) P new ys zs e h = subst P (sym e) h
 by_result (Err x) P new ys zs e h = tt
+
+-- what follows from what a call that went well ensures
+pub on_ok : {A E : Type 0} (r : Result A E) (P Q : Type 0) → (P → Q) → OnOk r P → OnOk r Q
+on_ok (Ok a) P Q f p = f p
+on_ok (Err e) P Q f p = tt

@@ -1,6 +1,7 @@
 -- The place of an element in a sorted list that is kept in parts.
 use Rattle.std.proofs.Common.{◌≡◌, ◌<◌, ◌≤◌, ◌+◌, ◌-◌, ℕ, suc, zero, List, [], ◌∷◌, ◌++◌, length, get_or, take, drop, Bool, true, false, arith, refl, sym, ap, ◌∙◌, subst, Option, Some, ⊎_elim}
 use Rattle.std.specs.Cmp.{IsStrictWeakOrder}
+use Rattle.std.specs.Global.{Vec}
 use Rattle.std.specs.List.{All, AllWithin}
 use Rattle.std.specs.List.Sorted.{IsPartitionPoint, IsSortedBy}
 use Rattle.std.specs.Option.{option_map_or}
@@ -9,7 +10,11 @@ use Rattle.std.proofs.lemmas.Bool.{cases_lt, false≢true, true_from_ne_false}
 use Rattle.std.proofs.lemmas.List.{get_or-append-add, get_or-append_right, length-append}
 use Rattle.std.proofs.lemmas.List.Sorted.{sorted_far}
 use Rattle.std.proofs.lemmas.Option.{slice_get-get_or}
-use Rattle.mad_list_rows.specs.Chunks.{last_of}
+use Rattle.mad_list_rows.specs.declared.list_rows.ListRow.{ListRow}
+use Rattle.mad_list_rows.specs.Answers.{by_content}
+use Rattle.mad_list_rows.specs.Chunks.{all_of, last_of}
+use Rattle.mad_list_rows.specs.Places.{IsPlaceOf}
+use Rattle.mad_list_rows.proofs.ChunkLemmas.{split_all}
 
 module _ {X : Type 0} (lt : X → X → Bool) (o : IsStrictWeakOrder lt) where
   -- the last of a list that has some
@@ -77,3 +82,16 @@ module _ {X : Type 0} (P Q : X → Type 0) where
       (λ (middle : k - n < length here). subst Q (sym (there ∙ get_or-append here rest d (k - n) middle)) (place.1 (k - n) d (omega arith) middle))
       (λ (last : length here ≤ k - n). subst Q (sym (there ∙ get_or-append_right here rest (length here) (k - n) d refl last)) (after (k - n - length here) d (omega arith)))
       (cases_lt (k - n) (length here)))
+
+module _ {T : Type 0} (lt : T → T → Bool) where
+  -- the rows of a chunk are sorted where those of all are
+  pub chunk_sorted : (cs : List (Vec (ListRow T))) (k : ℕ) (d : Vec (ListRow T)) → k < length cs → IsSortedBy (by_content lt) (all_of cs) → IsSortedBy (by_content lt) (get_or cs k d).items
+  chunk_sorted cs k d h up =
+      sorted_between (by_content lt) (all_of (take k cs)) (get_or cs k d).items (all_of (drop (k + 1) cs)) (subst (λ (ys : List (ListRow T)). IsSortedBy (by_content lt) ys) (split_all cs k d h) up)
+
+  -- a place in a chunk, among the rows of all
+  pub place_in_all : (cs : List (Vec (ListRow T))) (k at : ℕ) (d : Vec (ListRow T)) (content : T) → k < length cs → at ≤ length (get_or cs k d).items → All (λ row. lt content row.content ≡ false) (all_of (take k cs)) → IsPlaceOf lt (get_or cs k d).items content at → All (λ row. lt content row.content ≡ true) (all_of (drop (k + 1) cs)) → IsPlaceOf lt (all_of cs) content (length (all_of (take k cs)) + at)
+  place_in_all cs k at d content h within before place after =
+      let front : List (ListRow T) = all_of (take k cs) in
+      subst (λ (ys : List (ListRow T)). IsPlaceOf lt ys content (length front + at)) (sym (split_all cs k d h))
+      (place_between (λ (row : ListRow T). lt content row.content ≡ false) (λ (row : ListRow T). lt content row.content ≡ true) front (get_or cs k d).items (all_of (drop (k + 1) cs)) at within before place after)
