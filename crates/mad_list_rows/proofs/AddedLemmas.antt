@@ -1,7 +1,7 @@
 -- What a list keeps when a row was put in.
 use Rattle.std.proofs.Common.{◌≡◌, ◌<◌, ◌≤◌, ◌+◌, ◌-◌, ◌^◌, ℕ, suc, List, [], ◌∷◌, ◌++◌, length, get_or, map, Bool, true, false, cond, Option, Some, None, Ordering, arith, refl, sym, ap, ◌∙◌, subst}
 use Rattle.std.specs.Prelude.{IfSome, is_none, ◌&&◌, if◌then◌else◌}
-use Rattle.std.specs.List.{All, sum_by}
+use Rattle.std.specs.List.{sum_by}
 use Rattle.std.specs.List.Sorted.{IsPermutation, IsSortedBy}
 use Rattle.std.proofs.lemmas.List.{get_or-map, length-append, length-map}
 use Rattle.std.proofs.Math.ListN.{get_or-map as get_or-map-with}
@@ -9,7 +9,7 @@ use Rattle.std.proofs.lemmas.List.Elements.{All-append, All-cons, All-nil}
 use Rattle.std.proofs.lemmas.List.Sorted.{All-permutation, IsPermutation-refl, length_permutation, sum_by-IsPermutation}
 use Rattle.std.proofs.lemmas.List.Sums.{sum_by-append}
 use Rattle.mad_list_rows.specs.declared.list_rows.ListRow.{ListRow}
-use Rattle.mad_list_rows.specs.Answers.{AreAnswered, IsAnswered, IsWithRow, by_content, Orders}
+use Rattle.mad_list_rows.specs.Answers.{AreAnswered, IsAnswered, IsWithRow, by_content}
 use Rattle.mad_list_rows.specs.Adding.{IsAdded}
 use Rattle.mad_list_rows.specs.Caches.{AreKept, AreSorted}
 use Rattle.mad_list_rows.specs.Scrolling.{bottom_scroll, scrolled_to, shows_bottom}

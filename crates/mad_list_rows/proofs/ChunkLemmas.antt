@@ -1,13 +1,13 @@
 -- What all chunks hold, when one of them changes.
-use Rattle.std.proofs.Common.{◌≡◌, ◌<◌, ◌≤◌, ◌+◌, ◌-◌, ℕ, suc, zero, List, [], ◌∷◌, ◌++◌, length, get_or, take, drop, arith, refl, sym, ap, ◌∙◌, subst, append_assoc, add-one, Option, Some, None}
+use Rattle.std.proofs.Common.{◌≡◌, ◌<◌, ◌≤◌, ◌+◌, ◌-◌, ℕ, suc, zero, List, [], ◌∷◌, ◌++◌, length, get_or, take, drop, arith, refl, sym, ap, ◌∙◌, subst, append_assoc, add-one, Some}
 use Rattle.std.specs.Prelude.{slice_get, Result, Ok, Err, OnOk, OnErr, IsOk, is_ok, if◌then◌else◌}
 use Rattle.std.specs.Global.{Vec}
-use Rattle.std.specs.List.{flat_map, insert}
+use Rattle.std.specs.List.{insert}
 use Rattle.std.proofs.Math.ListN.{set}
 use Rattle.std.proofs.Math.Seq.{drop-cons, take-suc}
 use Rattle.std.proofs.lemmas.Grind.{flat_map-append}
-use Rattle.std.proofs.lemmas.List.{append-nil, drop-drop, drop-set, drop-set-lt, get_or-drop, length-append, take-append-drop, take-set, take_all, drop_all, take_more_set, nil_from_length}
-use Rattle.std.proofs.lemmas.List.Edits.{insert-append_left, insert-append_right, insert_end}
+use Rattle.std.proofs.lemmas.List.{append-nil, drop-drop, drop-set, drop-set-lt, get_or-drop, length-append, take-append-drop, take-set, drop_all, take_more_set, nil_from_length}
+use Rattle.std.proofs.lemmas.List.Edits.{insert-append_left, insert-append_right}
 use Rattle.std.proofs.lemmas.Bool.{false≢true}
 use Rattle.std.proofs.lemmas.Option.{none-some}
 use Rattle.mad_list_rows.specs.Chunks.{all_of, last_of}

@@ -1,10 +1,9 @@
 -- The last shown row of a list that is kept in parts.
-use Rattle.std.proofs.Common.{◌≡◌, ◌<◌, ◌≤◌, ◌+◌, ◌-◌, ℕ, suc, zero, List, [], ◌∷◌, ◌++◌, length, get_or, take, drop, Bool, true, false, cond, arith, refl, sym, ap, ◌∙◌, Option, Some, None, ⊎_elim}
+use Rattle.std.proofs.Common.{◌≡◌, ◌<◌, ◌≤◌, ◌+◌, ◌-◌, ℕ, suc, zero, List, ◌++◌, length, get_or, take, drop, Bool, true, false, cond, arith, refl, sym, ap, ◌∙◌, Option, Some, ⊎_elim}
 use Rattle.std.specs.Prelude.{min, option_map}
 use Rattle.std.specs.Global.{Vec}
 use Rattle.std.specs.Option.{option_map_or, option_or}
 use Rattle.std.proofs.lemmas.Bool.{cases_lt}
-use Rattle.std.proofs.lemmas.List.{length-append}
 use Rattle.mad_list_rows.specs.declared.list_rows.ListRow.{ListRow}
 use Rattle.mad_list_rows.specs.Chunks.{all_of}
 use Rattle.mad_list_rows.specs.Selecting.{last_before, shown_at}

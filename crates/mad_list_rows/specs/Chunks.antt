@@ -1,5 +1,5 @@
 -- Rows that are kept in chunks.
-use Rattle.std.specs.Prelude.{ℕ, List, Option, length, ◌-◌, slice_get}
+use Rattle.std.specs.Prelude.{List, Option, length, ◌-◌, slice_get}
 use Rattle.std.specs.Global.{Vec}
 use Rattle.std.specs.List.{flat_map}
 

@@ -1,7 +1,7 @@
-use Rattle.std.proofs.Common.{◌≡◌, ◌∙◌, ◌<◌, ◌≤◌, List, length, arith, rules, refl, sym, subst, ap, take, slice_get}
+use Rattle.std.proofs.Common.{◌∙◌, ◌<◌, ◌≤◌, List, length, arith, rules, refl, sym, subst, ap, slice_get}
 use Rattle.std.specs.Global.{Vec}
 use Rattle.std.proofs.lemmas.List.{take_all}
-use Rattle.std.proofs.lemmas.Option.{slice_get_past, slice_get-get_or, slice_get_read}
+use Rattle.std.proofs.lemmas.Option.{slice_get_past, slice_get_read}
 use Rattle.mad_list_rows.specs.Chunks.{all_of}
 use Rattle.mad_list_rows.proofs.ChunkLemmas.{element_in}
 use Rattle.mad_list_rows.proofs.chunks.element_at.Goals as goal

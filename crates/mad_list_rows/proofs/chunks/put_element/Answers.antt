@@ -1,4 +1,4 @@
-use Rattle.std.proofs.Common.{◌≡◌, ◌∙◌, ◌≤◌, length, sym, subst, ap}
+use Rattle.std.proofs.Common.{◌∙◌, ◌≤◌, length, sym, subst, ap}
 use Rattle.std.specs.Global.{Vec}
 use Rattle.mad_list_rows.specs.Chunks.{all_of}
 use Rattle.mad_list_rows.proofs.ChunkLemmas.{always_err, put_there, set_kept}

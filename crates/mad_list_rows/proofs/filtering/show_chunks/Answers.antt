@@ -1,4 +1,4 @@
-use Rattle.std.proofs.Common.{◌<◌, length, arith}
+use Rattle.std.proofs.Common.{arith}
 use Rattle.mad_list_rows.proofs.FilterLemmas.{show_chunk}
 use Rattle.mad_list_rows.proofs.filtering.show_chunks.Goals as goal
 

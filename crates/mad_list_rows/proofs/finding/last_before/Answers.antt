@@ -1,4 +1,4 @@
-use Rattle.std.proofs.Common.{◌≡◌, ◌<◌, ◌≤◌, ◌+◌, ◌-◌, ◌∙◌, ℕ, List, Option, length, get_or, arith, sym, ap}
+use Rattle.std.proofs.Common.{◌≡◌, ◌+◌, ◌-◌, ◌∙◌, ℕ, List, Option, length, get_or, arith, sym, ap}
 use Rattle.std.specs.Prelude.{min, option_map}
 use Rattle.std.specs.Global.{Vec}
 use Rattle.std.specs.Option.{option_or}
@@ -7,7 +7,6 @@ use Rattle.mad_list_rows.specs.Chunks.{all_of}
 use Rattle.mad_list_rows.specs.Selecting.{last_before}
 use Rattle.mad_list_rows.proofs.ChunkLemmas.{part_within}
 use Rattle.mad_list_rows.proofs.LastLemmas.{front_length, last_in_chunk}
-use Rattle.mad_list_rows.proofs.finding.last_before.Given.{Over}
 use Rattle.mad_list_rows.proofs.finding.last_before.Goals as goal
 
 pub returns-in-Some-clause-value : goal.returns-in-Some-clause-value

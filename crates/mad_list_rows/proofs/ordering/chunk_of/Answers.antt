@@ -1,7 +1,7 @@
-use Rattle.std.proofs.Common.{◌≡◌, ◌<◌, ◌≤◌, ◌+◌, ◌-◌, ◌/◌, ℕ, Bool, List, All, length, take, drop, true, false, arith, sym, subst}
+use Rattle.std.proofs.Common.{◌+◌, ◌-◌, ◌/◌, ℕ, List, take, drop, true, arith, sym, subst}
 use Rattle.std.specs.List.Sorted.{IsSortedBy}
 use Rattle.mad_list_rows.specs.declared.list_rows.ListRow.{ListRow}
-use Rattle.mad_list_rows.specs.Answers.{Orders, by_content}
+use Rattle.mad_list_rows.specs.Answers.{by_content}
 use Rattle.mad_list_rows.specs.Chunks.{all_of}
 use Rattle.mad_list_rows.proofs.ChunkLemmas.{halve_all}
 use Rattle.mad_list_rows.proofs.OrderLemmas.{weak_by_content}

@@ -1,11 +1,10 @@
-use Rattle.std.proofs.Common.{◌≡◌, ◌<◌, ◌≤◌, ◌++◌, ◌∷◌, ◌+◌, ◌∙◌, ℕ, [], Bool, List, All, true, false, length, get_or, take, drop, arith, subst, sym, ap}
+use Rattle.std.proofs.Common.{◌≡◌, ◌<◌, ◌≤◌, ◌++◌, ◌∷◌, ◌+◌, ◌∙◌, [], Bool, List, All, true, false, length, get_or, take, drop, arith, subst, sym, ap}
 use Rattle.std.specs.Global.{Vec}
 use Rattle.std.specs.List.{insert}
 use Rattle.std.specs.List.Sorted.{IsPermutation, IsSortedBy}
 use Rattle.std.proofs.lemmas.List.Sorted.{IsPermutation-insert, IsPermutation-to_front, IsPermutation-trans}
 use Rattle.mad_list_rows.specs.declared.list_rows.ListRow.{ListRow}
-use Rattle.mad_list_rows.specs.Answers.{IsStablySorted, IsWithRow, Orders, by_content}
-use Rattle.mad_list_rows.specs.Caches.{AreSorted}
+use Rattle.mad_list_rows.specs.Answers.{IsStablySorted, Orders, by_content}
 use Rattle.mad_list_rows.specs.Chunks.{all_of}
 use Rattle.mad_list_rows.specs.Places.{IsPlaceOf}
 use Rattle.mad_list_rows.proofs.ChunkLemmas.{part_within}

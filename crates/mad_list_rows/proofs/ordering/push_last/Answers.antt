@@ -1,4 +1,4 @@
-use Rattle.std.proofs.Common.{◌≡◌, ◌<◌, ◌+◌, ◌-◌, length, arith, rules}
+use Rattle.std.proofs.Common.{◌≡◌, ◌<◌, ◌+◌, ◌-◌, length, arith}
 use Rattle.mad_list_rows.proofs.ChunkLemmas.{push_result, kept_result}
 use Rattle.mad_list_rows.proofs.ordering.push_last.Goals as goal
 
