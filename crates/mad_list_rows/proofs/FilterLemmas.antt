@@ -56,10 +56,10 @@ pub show_chunk : {T : Type 0} (xs ys : List (Vec (ListRow T))) (i : ℕ) (d new 
 show_chunk {T} xs ys i d new h k put front rest =
     let here : (get_or ys i d).items ≡ (get_or xs i d).items = ap (λ (v : Vec (ListRow T)). v.items) (next_same xs ys i d rest) in (
       all_changed ys i new h
-      ∙ ap (λ (zs : List (ListRow T)). zs ++ new.items) front
-      ∙ ap (λ (zs : List (ListRow T)). map shown_row (all_of (take i xs)) ++ zs) (put ∙ ap (λ (zs : List (ListRow T)). map shown_row zs) here)
-      ∙ sym (map-append shown_row (all_of (take i xs)) (get_or xs i d).items)
-      ∙ ap (λ (zs : List (ListRow T)). map shown_row zs) (sym (all_more xs i d k)),
+          ∙ ap (λ (zs : List (ListRow T)). zs ++ new.items) front
+          ∙ ap (λ (zs : List (ListRow T)). map shown_row (all_of (take i xs)) ++ zs) (put ∙ ap (λ (zs : List (ListRow T)). map shown_row zs) here)
+          ∙ sym (map-append shown_row (all_of (take i xs)) (get_or xs i d).items)
+          ∙ ap (λ (zs : List (ListRow T)). map shown_row zs) (sym (all_more xs i d k)),
       rest_same xs ys i new rest,
     )
 

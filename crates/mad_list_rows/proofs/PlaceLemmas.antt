@@ -68,20 +68,21 @@ module _ {X : Type 0} (P Q : X → Type 0) where
   pub place_between : (front here rest : List X) (at : ℕ) → at ≤ length here → All P front → IsPartitionPoint P Q here at → All Q rest → IsPartitionPoint P Q (front ++ (here ++ rest)) (length front + at)
   place_between front here rest at within before place after =
       let n : ℕ = length front in
-      let all : List X = front ++ (here ++ rest) in
-      (λ k d low high.
-      ⊎_elim
-      (λ (first : k < n). subst P (sym (get_or-append front (here ++ rest) d k first)) (before k d first))
-      (λ (later : n ≤ k).
-      subst P (sym (get_or-append_right front (here ++ rest) n k d refl later ∙ get_or-append here rest d (k - n) (omega arith))) (place.0 (k - n) d (omega arith) (omega arith)))
-      (cases_lt k n),
-      λ k d low high.
-      let there : get_or all k d ≡ get_or (here ++ rest) (k - n) d = get_or-append_right front (here ++ rest) n k d refl (omega arith) in
-      let long : length all ≡ n + (length here + length rest) = length-append front (here ++ rest) ∙ ap (λ (m : ℕ). n + m) (length-append here rest) in
-      ⊎_elim
-      (λ (middle : k - n < length here). subst Q (sym (there ∙ get_or-append here rest d (k - n) middle)) (place.1 (k - n) d (omega arith) middle))
-      (λ (last : length here ≤ k - n). subst Q (sym (there ∙ get_or-append_right here rest (length here) (k - n) d refl last)) (after (k - n - length here) d (omega arith)))
-      (cases_lt (k - n) (length here)))
+      let all : List X = front ++ (here ++ rest) in (
+        λ k d low high.
+            ⊎_elim
+            (λ (first : k < n). subst P (sym (get_or-append front (here ++ rest) d k first)) (before k d first))
+            (λ (later : n ≤ k).
+            subst P (sym (get_or-append_right front (here ++ rest) n k d refl later ∙ get_or-append here rest d (k - n) (omega arith))) (place.0 (k - n) d (omega arith) (omega arith)))
+            (cases_lt k n),
+        λ k d low high.
+            let there : get_or all k d ≡ get_or (here ++ rest) (k - n) d = get_or-append_right front (here ++ rest) n k d refl (omega arith) in
+            let long : length all ≡ n + (length here + length rest) = length-append front (here ++ rest) ∙ ap (λ (m : ℕ). n + m) (length-append here rest) in
+            ⊎_elim
+            (λ (middle : k - n < length here). subst Q (sym (there ∙ get_or-append here rest d (k - n) middle)) (place.1 (k - n) d (omega arith) middle))
+            (λ (last : length here ≤ k - n). subst Q (sym (there ∙ get_or-append_right here rest (length here) (k - n) d refl last)) (after (k - n - length here) d (omega arith)))
+            (cases_lt (k - n) (length here)),
+      )
 
 module _ {T : Type 0} (lt : T → T → Bool) where
   -- the rows of a chunk are sorted where those of all are

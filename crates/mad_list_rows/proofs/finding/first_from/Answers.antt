@@ -34,6 +34,7 @@ pub loop-chunk-preserved : goal.loop-chunk-preserved
 loop-chunk-preserved g c =
     let cs = c.args.chunks.now in
     let more = length_more cs c.loop-chunk.chunk-index c.chunk-item.result (omega (arith, c.loop-chunk-test.true)) in
-    let here = ap (λ (v : Vec (ListRow g.row.T.Denot)). length v.items) c.chunk-item.is in
-    (omega (arith, more, here, c.loop-chunk.invariant.0, c.chunk-item.result.ok.0, c.len-start.ensures),
-      none_found cs c.loop-chunk.chunk-index c.args.from c.loop-chunk.start c.saturating_sub.result c.chunk-item.result c.as_slice.result.now (omega arith) c.chunk-item.is c.as_slice.ensures.value c.loop-chunk.invariant.0 c.saturating_sub.ensures c.loop-chunk.invariant.1 (sym c.in_default.ensures.value))
+    let here = ap (λ (v : Vec (ListRow g.row.T.Denot)). length v.items) c.chunk-item.is in (
+      omega (arith, more, here, c.loop-chunk.invariant.0, c.chunk-item.result.ok.0, c.len-start.ensures),
+      none_found cs c.loop-chunk.chunk-index c.args.from c.loop-chunk.start c.saturating_sub.result c.chunk-item.result c.as_slice.result.now (omega arith) c.chunk-item.is c.as_slice.ensures.value c.loop-chunk.invariant.0 c.saturating_sub.ensures c.loop-chunk.invariant.1 (sym c.in_default.ensures.value),
+    )

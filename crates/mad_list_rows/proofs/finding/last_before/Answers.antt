@@ -37,7 +37,7 @@ loop-left-preserved g c =
     let before : ℕ = c.loop-left.start - length rows in (
       omega (arith, front),
       ap (λ (o : Option ℕ). option_or (option_map (λ j. before + j) o) (last_before (all_of cs) (min c.args.to before))) c.in_default.ensures.value
-      ∙ sym (last_in_chunk cs c.loop-left.left c.loop-left.start c.args.to c.min.result c.index-chunks-left.result rows c.loop-left-test.true i.2 c.index-chunks-left.is c.as_slice-chunk.ensures.value i.0 count)
-      ∙ i.1,
+          ∙ sym (last_in_chunk cs c.loop-left.left c.loop-left.start c.args.to c.min.result c.index-chunks-left.result rows c.loop-left-test.true i.2 c.index-chunks-left.is c.as_slice-chunk.ensures.value i.0 count)
+          ∙ i.1,
       omega (arith, i.2),
     )

@@ -15,9 +15,9 @@ loop-low-preserved-then-comes_before_last g c =
       omega arith,
       omega arith,
       λ lt o up.
-      let row : ListRow g.row.T.Denot = record { content = c.args.content.now; shown = true } in
-      let halves = subst (λ (ys : List (ListRow g.row.T.Denot)). IsSortedBy (by_content lt) ys) (halve_all cs (middle + 1)) up in
-      ((c.loop-low.invariant.2 lt o up).0, all_after (by_content lt) (weak_by_content lt o.weak) (all_of (take (middle + 1) cs)) (all_of (drop (middle + 1) cs)) row halves (sym (c.if-comes_before_last.ensures lt o))),
+          let row : ListRow g.row.T.Denot = record { content = c.args.content.now; shown = true } in
+          let halves = subst (λ (ys : List (ListRow g.row.T.Denot)). IsSortedBy (by_content lt) ys) (halve_all cs (middle + 1)) up in
+          ((c.loop-low.invariant.2 lt o up).0, all_after (by_content lt) (weak_by_content lt o.weak) (all_of (take (middle + 1) cs)) (all_of (drop (middle + 1) cs)) row halves (sym (c.if-comes_before_last.ensures lt o))),
     )
 
 pub loop-low-preserved : goal.loop-low-preserved
@@ -27,7 +27,7 @@ loop-low-preserved g c =
       omega arith,
       omega arith,
       λ lt o up.
-      let row : ListRow g.row.T.Denot = record { content = c.args.content.now; shown = true } in
-      let halves = subst (λ (ys : List (ListRow g.row.T.Denot)). IsSortedBy (by_content lt) ys) (halve_all cs (middle + 1)) up in
-      (none_after (by_content lt) (weak_by_content lt o.weak) (all_of (take (middle + 1) cs)) (all_of (drop (middle + 1) cs)) row halves (sym (c.if-comes_before_last.ensures lt o)), (c.loop-low.invariant.2 lt o up).1),
+          let row : ListRow g.row.T.Denot = record { content = c.args.content.now; shown = true } in
+          let halves = subst (λ (ys : List (ListRow g.row.T.Denot)). IsSortedBy (by_content lt) ys) (halve_all cs (middle + 1)) up in
+          (none_after (by_content lt) (weak_by_content lt o.weak) (all_of (take (middle + 1) cs)) (all_of (drop (middle + 1) cs)) row halves (sym (c.if-comes_before_last.ensures lt o)), (c.loop-low.invariant.2 lt o up).1),
     )
