@@ -6,7 +6,7 @@ use Rattle.std.specs.List.{insert}
 use Rattle.std.proofs.Math.ListN.{set}
 use Rattle.std.proofs.Math.Seq.{drop-cons, take-suc}
 use Rattle.std.proofs.lemmas.Grind.{flat_map-append}
-use Rattle.std.proofs.lemmas.List.{append-nil, drop-drop, drop-set, drop-set-lt, get_or-drop, length-append, take-append-drop, take-set, drop_all, take_more_set, nil_from_length}
+use Rattle.std.proofs.lemmas.List.{append-nil, drop-drop, drop-set, drop-set-lt, get_or-drop, length-append, take-append-drop, take-set, drop_all, take_more_set}
 use Rattle.std.proofs.lemmas.List.Edits.{insert-append_left, insert-append_right}
 use Rattle.std.proofs.lemmas.Bool.{false≢true}
 use Rattle.std.proofs.lemmas.Option.{none-some}
@@ -91,11 +91,6 @@ module _ {X : Type 0} where
       let whole : all_of cs ≡ front ++ here = split_all cs k d h ∙ ap (λ (zs : List X). front ++ (here ++ zs)) none ∙ ap (λ (zs : List X). front ++ zs) (append-nil here) in
       split_set cs k c h ∙ ap (λ (zs : List X). front ++ (c.items ++ zs)) none ∙ ap (λ (zs : List X). front ++ zs) (append-nil c.items) ∙ ap (λ (zs : List X). front ++ zs) put ∙ sym (append_assoc front here (x ∷ [])) ∙ ap (λ (zs : List X). zs ++ x ∷ []) (sym whole)
 
-  -- one chunk alone holds all
-  pub one_alone : (cs : List (Vec X)) (d : Vec X) → length cs ≡ 1 → all_of cs ≡ (get_or cs 0 d).items
-  one_alone cs d one =
-      split_all cs 0 d (omega (arith, one)) ∙ ap (λ (zs : List (Vec X)). (get_or cs 0 d).items ++ all_of zs) (drop_all 1 cs (omega (arith, one))) ∙ append-nil (get_or cs 0 d).items
-
   -- ---- an element by its index
 
   -- after others
@@ -136,23 +131,12 @@ module _ {X : Type 0} where
       let here : List X = (get_or cs k d).items in
       ap (λ (ys : List X). last_of ys) (all_more cs k d h) ∙ last-append (all_of (take k cs)) here (some_last here x is) ∙ is
 
-  -- that of the chunks before, where the chunk has none
-  pub last_above : (cs : List (Vec X)) (k : ℕ) (d : Vec X) → k < length cs → length (get_or cs k d).items ≡ 0 → last_of (all_of (take (k + 1) cs)) ≡ last_of (all_of (take k cs))
-  last_above cs k d h none =
-      let nothing : (get_or cs k d).items ≡ [] = nil_from_length _ none in
-      ap (λ (ys : List X). last_of ys) (all_more cs k d h ∙ ap (λ (ys : List X). all_of (take k cs) ++ ys) nothing ∙ append-nil (all_of (take k cs)))
-
   -- ---- as calls say it
 
   -- what a call made where it went well, and where it didn't
   pub done : {A E : Type 0} (r : Result A E) (new ys zs : List X) → new ≡ (if is_ok r then ys else zs) → IsOk r → new ≡ ys
   done (Ok a) new ys zs e h = e
   done (Err x) new ys zs e h = absurd (false≢true h)
-
-  pub put_result : {A E : Type 0} (r : Result A E) (cs : List (Vec X)) (k at : ℕ) (x : X) (old new : Vec X) → k < length cs → old ≡ get_or cs k old → at ≤ length old.items → new.items ≡ (if is_ok r then insert old.items at x else old.items) → OnOk r (all_of (set cs k new) ≡ insert (all_of cs) (length (all_of (take k cs)) + at) x)
-  put_result (Ok a) cs k at x old new h is within put =
-      put_in cs k at x old new h (subst (λ (c : Vec X). at ≤ length c.items) is within) (put ∙ ap (λ (c : Vec X). insert c.items at x) is)
-  put_result (Err e) cs k at x old new h is within put = tt
 
   pub kept_result : {A E : Type 0} (r : Result A E) (cs : List (Vec X)) (k : ℕ) (ys : List X) (old new : Vec X) → k < length cs → old ≡ get_or cs k old → new.items ≡ (if is_ok r then ys else old.items) → OnErr r (all_of (set cs k new) ≡ all_of cs)
   kept_result (Ok a) cs k ys old new h is put = tt
