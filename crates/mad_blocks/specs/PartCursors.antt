@@ -1,5 +1,6 @@
 -- The parts of a text, read and laid out one after another.
-use Rattle.std.specs.Prelude.{◌≡◌, ℕ, ◌≤◌, Bool, true, false, List, [], ◌∷◌, ◌++◌, length, map, Option, None, Some}
+use Rattle.std.specs.Prelude.{◌≡◌, ℕ, ◌≤◌, Bool, true, false, List, [], ◌∷◌, ◌++◌, length, map, Option, None, Some, Vec, Global}
+use Rattle.std.specs.List.{AllByRecursion}
 use Rattle.std.specs.Vec.Iter.{into_iter_items}
 use Rattle.mad_md.specs.Cursor.{unread}
 use Rattle.mad_md.specs.Lines.{LineContent, content_of}
@@ -8,10 +9,12 @@ use Rattle.mad_md.specs.ReadRaw.{unflagged_line}
 use Rattle.mad_md.specs.Scan.{lines_of}
 use Rattle.mad_md.specs.declared.cursor.LineCursor.{LineCursor}
 use Rattle.mad_md.specs.declared.line.Line.{Line}
-use Rattle.mad_blocks.specs.Layouts.{IsLayoutAt}
+use Rattle.mad_blocks.specs.Layouts.{AreRead, IsLayoutAt}
 use Rattle.mad_format.specs.LineRules.{LineRules}
-use Rattle.mad_blocks.specs.TextParts.{text_parts}
+use Rattle.mad_blocks.specs.TextParts.{is_code, text_parts}
+use Rattle.mad_format.specs.declared.composite.FmtComposite.{FmtComposite}
 use Rattle.mad_format.specs.declared.line.FmtLine.{FmtLine}
+use Rattle.mad_format.specs.declared.line.FmtLine.TheVariants.{Normal}
 use Rattle.mad_blocks.specs.declared.part_cursor.PartCursor.{PartCursor}
 use Rattle.mad_blocks.specs.declared.part_cursor.SourceLines.{SourceLines}
 use Rattle.mad_blocks.specs.declared.part_cursor.SourceLines.TheVariants.{Unread, Read}
@@ -72,3 +75,17 @@ pub record IsUnmarkedRead (most : ℕ) (before : List LineContent) (text : List 
   pub line : before ≡ unflagged_line text ∷ after
   pub short : length text ≤ most
   pub unmarked : AreUnmarkedBytes text (length text)
+
+-- The first of the parts that were left is a block of code; its lines were read.
+pub record IsBlockRead (skin : LineRules) (before after : List LineContent) (block : List FmtComposite) : Type 0 where
+  pub first : LineContent
+  pub others : List LineContent
+  pub joins : before ≡ first ∷ (others ++ after)
+  pub is_part : text_parts before ≡ (first ∷ others) ∷ text_parts after
+  pub code : AllByRecursion (λ c. is_code c ≡ true) (first ∷ others)
+  pub reads : AreRead skin (first ∷ others) (map Normal block)
+
+-- so it is, where it was next; else nothing was read
+abbrev pub IsNextBlockRead : LineRules → List LineContent → List LineContent → Option (Vec FmtComposite Global) → Type 0
+IsNextBlockRead skin before after None = after ≡ before
+IsNextBlockRead skin before after (Some block) = IsBlockRead skin before after block.items

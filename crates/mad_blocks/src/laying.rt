@@ -20,8 +20,8 @@ use mad_style::{CompositeKind, LEAST_WIDTH};
 use std::alloc::{AllocError, Global};
 
 /// Puts what becomes of a block of code after the lines that are there: each line gets the block's place, and is wrapped at a width in
-/// columns, if there is one. Only out of memory is an error.
-pub(crate) fn push_block<'s, S: LineSkin>(
+/// columns, if there is one. Their cached lengths have to be right. Only out of memory is an error.
+pub fn push_block<'s, S: LineSkin>(
     alloc: Global,
     lines: &mut Vec<FmtLine<'s>>,
     block: Vec<FmtComposite<'s>>,
@@ -32,7 +32,7 @@ pub(crate) fn push_block<'s, S: LineSkin>(
     ensures { OnOk result ((own : List FmtLine) × (lines.new.items ≡ lines.old.items ++ own) × IsBlockAt (S.rules skin.now) width block.entry.items own) }
 {
     let wrap = wrap_width(width);
-    let columns = block_width(&block, room_of_code(wrap, skin));
+    let columns = block_columns(&block, wrap, skin);
     for composite in block {
         let placed = composite.in_place(code_place(columns));
         push_at(alloc, lines, placed, wrap, skin)?;
@@ -72,11 +72,12 @@ fn room_of_code<S: LineSkin>(width: Option<usize>, skin: &S) -> Option<usize>
     Some(inner)
 }
 
-// The columns of a block of code.
-fn block_width(block: &[FmtComposite], room: Option<usize>) -> usize
-    ensures { result ≡ block_width room block.now }
+/// The columns of a block of code whose lines are wrapped at a width in columns, if there is one: those of its widest line, and at most what
+/// the margins of code leave of the width.
+pub fn block_columns<S: LineSkin>(block: &[FmtComposite], width: Option<usize>, skin: &S) -> usize
+    ensures { result ≡ block_width (code_room (S.rules skin.now) width) block.now }
 {
-    width_within(widest(block), room)
+    width_within(widest(block), room_of_code(width, skin))
 }
 
 /// A width, at most the room, if there is a limit.

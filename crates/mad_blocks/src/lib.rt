@@ -24,7 +24,7 @@ pub mod table_rows;
 pub mod texts;
 
 pub use code_blocks::{CodeBlock, find_blocks, justify_blocks};
-pub use laying::{push_read_at, wrap_width};
+pub use laying::{block_columns, push_block, push_read_at, wrap_width};
 pub use part_cursor::PartCursor;
 pub use table_layout::{Table, fix_all_tables};
 pub use table_rows::lay_row;

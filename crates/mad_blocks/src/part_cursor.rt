@@ -5,7 +5,7 @@ ghost use Rattle.mad_md.specs.Lines.{content_of, contents, normal, styled_runs};
 ghost use Rattle.mad_md.specs.Reading.{IsRead, resumed_text, unread_text};
 ghost use Rattle.mad_md.specs.Scan.{lines_of};
 ghost use Rattle.mad_format.specs.FmtLines.{IsLineRead};
-ghost use Rattle.mad_blocks.specs.PartCursors.{lines_left, HasUnmarkedNext, IsNextLine, IsNextWhere, LaidPart, LaysPart, IsUnmarkedRead};
+ghost use Rattle.mad_blocks.specs.PartCursors.{lines_left, HasUnmarkedNext, IsNextLine, IsBlockRead, IsNextBlockRead, IsNextWhere, LaidPart, LaysPart, IsUnmarkedRead};
 ghost use Rattle.mad_blocks.specs.TextParts.{is_code, is_table, is_text};
 ghost use Rattle.mad_format.specs.declared.line.FmtLine.{FmtLine};
 
@@ -117,6 +117,21 @@ impl<'s> PartCursor<'s> {
         }
     }
 
+    /// Reads the next part, where it is a block of code: its lines, measured, and not yet laid out. Another part stays. Only out of memory is an
+    /// error.
+    pub fn next_block<S: LineSkin>(
+        &mut self,
+        alloc: Global,
+        skin: &S,
+    ) -> Result<Option<Vec<FmtComposite<'s>>>, AllocError>
+        ensures { IfOk result (λ next. IsNextBlockRead (S.rules skin.now) (lines_left self.old) (lines_left self.new) next) }
+    {
+        match self.next_code(alloc)? {
+            Some(first) => Ok(Some(self.read_block(alloc, first, skin)?)),
+            None => Ok(None),
+        }
+    }
+
     // Lays out the part that begins with a line that was read.
     fn lay_part<S: LineSkin>(
         &mut self,
@@ -165,12 +180,26 @@ impl<'s> PartCursor<'s> {
         requires { is_code (normal (styled_runs first)) ≡ true }
         ensures { OnOk result (LaidPart (S.rules skin.now) width (normal (styled_runs first.entry) ∷ lines_left self.old) lines.old.items (lines_left self.new) lines.new.items) }
     {
+        let block = self.read_block(alloc, first, skin)?;
+        push_block(alloc, lines, block, width, skin)
+    }
+
+    // Reads the lines of a block of code, whose first line was read.
+    fn read_block<S: LineSkin>(
+        &mut self,
+        alloc: Global,
+        first: Composite<'s>,
+        skin: &S,
+    ) -> Result<Vec<FmtComposite<'s>>, AllocError>
+        requires { is_code (normal (styled_runs first)) ≡ true }
+        ensures { IfOk result (λ block. IsBlockRead (S.rules skin.now) (normal (styled_runs first.entry) ∷ lines_left self.old) (lines_left self.new) block.items) }
+    {
         let mut block = Vec::new(alloc);
         block.push(FmtComposite::from(first, skin))?;
         while let Some(composite) = self.next_code(alloc)? {
             block.push(FmtComposite::from(composite, skin))?;
         }
-        push_block(alloc, lines, block, width, skin)
+        Ok(block)
     }
 
     // Lays out a table, whose first line was read.

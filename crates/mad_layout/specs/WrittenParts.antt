@@ -6,7 +6,7 @@ use Rattle.mad_term.specs.Draws.{Draws, Refused}
 use Rattle.mad_term.specs.Trace.{Trace, after}
 use Rattle.mad_term.specs.declared.errors.Error.{Error}
 use Rattle.mad_blocks.specs.TextParts.{text_parts}
-use Rattle.mad_blocks.specs.LayoutParts.{wrap_width, IsLineAt}
+use Rattle.mad_blocks.specs.LayoutParts.{wrap_width, IsBlockAt, IsLineAt}
 use Rattle.mad_blocks.specs.Layouts.{IsLayoutAt}
 use Rattle.mad_blocks.specs.PartCursors.{LaidPart}
 use Rattle.mad_format.specs.CompositeWraps.{IsCompositeWrap}
@@ -46,6 +46,12 @@ pub record TakesRead (skin : RowSkin) (width : Option ℕ) (said : StyledRuns) (
 abbrev pub TakesReadOrNone : RowSkin → Option ℕ → StyledRuns → List ℕ → Bool → List ℕ → Type 0
 TakesReadOrNone skin width said old true new = TakesRead skin width said old new []
 TakesReadOrNone skin width said old false new = new ≡ old
+
+-- What a block of code becomes is in the rows that are kept, or in the lines that wait to follow them.
+pub record TakesBlock (skin : RowSkin) (width : Option ℕ) (block : List FmtComposite) (old new : List ℕ) (lines : List FmtLine) : Type 0 where
+  pub own : List FmtLine
+  pub becomes : IsBlockAt (line_rules skin) width block own
+  pub rows : new ++ text_bytes skin width lines ≡ old ++ text_bytes skin width own
 
 -- So is the first of the parts that were left.
 pub record TakenPart (skin : RowSkin) (width : Option ℕ) (before : List LineContent) (old : List ℕ) (later : List LineContent) (new : List ℕ) (lines : List FmtLine) : Type 0 where

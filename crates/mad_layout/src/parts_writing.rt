@@ -7,17 +7,21 @@ ghost use Rattle.mad_md.specs.Scan.{lines_of};
 ghost use Rattle.mad_blocks.specs.PartCursors.{lines_left};
 ghost use Rattle.mad_layout.specs.UnmarkedRows.{IsUnmarkedWidth, HandsOnUnmarked};
 ghost use Rattle.mad_blocks.specs.Layouts.{IsLayoutAt};
+ghost use Rattle.std.specs.List.{AllByRecursion};
+ghost use Rattle.mad_format.specs.Wraps.{IsMeasured};
 ghost use Rattle.mad_format.specs.declared.line.FmtLine.{FmtLine};
 ghost use Rattle.mad_rows.specs.RowStyles.{line_rules};
 ghost use Rattle.mad_rows.specs.Rows.{text_bytes};
-ghost use Rattle.mad_layout.specs.WrittenParts.{HandsOn, TakesPart, TakesRead, TakesReadOrNone, WritesParts, WritesPartsOf};
+ghost use Rattle.mad_layout.specs.WrittenParts.{HandsOn, TakesBlock, TakesPart, TakesRead, TakesReadOrNone, WritesParts, WritesPartsOf};
 ghost use Rattle.mad_layout.specs.RowSkins.{row_skin};
 
 use crate::skin::MadSkin;
-use mad_blocks::{PartCursor, push_read_at, wrap_width};
-use mad_format::FmtLine;
+use mad_blocks::{PartCursor, block_columns, push_block, push_read_at, wrap_width};
+use mad_format::{FmtComposite, FmtLine};
 use mad_md::Composite;
-use mad_rows::{RowSkin, StyleCommands, append_line, append_lines, append_read, is_aligned_left};
+use mad_rows::{
+    RowSkin, StyleCommands, append_block, append_line, append_lines, append_read, is_aligned_left,
+};
 use mad_term::{Error, Out, put_all};
 use std::alloc::{AllocError, Global};
 
@@ -144,7 +148,53 @@ fn take_next<'s>(
             take_read(alloc, rows, lines, composite, width, skin, commands)?;
             Ok(true)
         }
+        None => take_unread(alloc, rows, lines, parts, width, skin, commands),
+    }
+}
+
+// Takes the next part, which isn't a text: the rows of a block of code are put after those that are kept, or the part is laid out in lines.
+fn take_unread<'s>(
+    alloc: Global,
+    rows: &mut String,
+    lines: &mut Vec<FmtLine<'s>>,
+    parts: &mut PartCursor<'s>,
+    width: Option<usize>,
+    skin: &RowSkin,
+    commands: &mut StyleCommands,
+) -> Result<bool, AllocError>
+    requires { lines.old.items ≡ [] }
+    ensures { IfOk result (λ found. TakesPart skin.now width (lines_left parts.old) (string_bytes rows.old) found (lines_left parts.new) (string_bytes rows.new) lines.new.items) }
+{
+    match parts.next_block(alloc, skin)? {
+        Some(block) => {
+            take_block(alloc, rows, lines, block, width, skin, commands)?;
+            Ok(true)
+        }
         None => parts.lay_next(alloc, lines, width, skin),
+    }
+}
+
+// Puts the rows of a block of code after those that are kept, or what becomes of it after lines.
+fn take_block<'s>(
+    alloc: Global,
+    rows: &mut String,
+    lines: &mut Vec<FmtLine<'s>>,
+    block: Vec<FmtComposite<'s>>,
+    width: Option<usize>,
+    skin: &RowSkin,
+    commands: &mut StyleCommands,
+) -> Result<(), AllocError>
+    requires none { lines.old.items ≡ [] }
+    requires measured { AllByRecursion (IsMeasured (line_rules skin.now)) block.items }
+    ensures { OnOk result (TakesBlock skin.now width block.entry.items (string_bytes rows.old) (string_bytes rows.new) lines.new.items) }
+{
+    let wrap = wrap_width(width);
+    match wrap {
+        Some(most) => {
+            let columns = block_columns(&block, wrap, skin);
+            append_block(alloc, rows, block, columns, most, skin, commands)
+        }
+        None => push_block(alloc, lines, block, width, skin),
     }
 }
 

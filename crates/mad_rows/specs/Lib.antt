@@ -1,3 +1,5 @@
+pub mod PlacedRows
 pub mod ReadRows
+pub mod RowBreaks
 pub mod Rows
 pub mod RowStyles

@@ -1,6 +1,6 @@
 -- Rows of composites that were read, written without a layout in between.
 use Rattle.std.specs.Str.{bytes_eq}
-use Rattle.std.specs.Prelude.{◌≡◌, ℕ, Bool, true, false, List, [], ◌∷◌, ◌++◌, Some}
+use Rattle.std.specs.Prelude.{◌≡◌, ℕ, Bool, true, false, List, [], ◌∷◌, ◌++◌, Option, Some}
 use Rattle.mad_md.specs.Flagged.{Run, flags_of, run_of}
 use Rattle.mad_md.specs.Lines.{StyledRuns}
 use Rattle.mad_md.specs.declared.compound.Compound.{Compound}
@@ -52,13 +52,18 @@ IsPlainIn skin style p = (text : List ℕ) → run_bytes skin style (record { fl
 abbrev pub IsBetween : RowSkin → LineStyle → List ℕ → List ℕ → Compound → Type 0
 IsBetween skin style open_bytes close_bytes p = bytes_eq p.src.now ellipsis_bytes ≡ false → run_bytes skin style (run_of p) ≡ open_bytes ++ (p.src.now ++ close_bytes)
 
--- After the bytes that were there come the rows of the compounds' tokens by first fit: what is in front of the first, the rows, a newline.
-pub record WritesWrap (front : CompositeFront) (r : Room) (ps : List Compound) (old new : List ℕ) : Type 0 where
+-- what is between the rows of a composite that is wrapped: the rest of a row by the columns that are left on it, a newline, what is in front of the later rows
+abbrev pub between_rows : (Option ℕ → List ℕ) → List ℕ → Option ℕ → List ℕ
+between_rows fill later left = fill left ++ (10 ∷ later)
+
+-- After the bytes that were there come the rows of the compounds' tokens by first fit: what is in front of the first, the rows, each filled up so, a newline.
+pub record WritesWrap (front : CompositeFront) (fill : Option ℕ → List ℕ) (r : Room) (ps : List Compound) (old new : List ℕ) : Type 0 where
   pub tokens : List Token
   pub cut : AreTokensOf (token_limit r) ps tokens
   pub out : List ℕ
-  pub rows : AreRows (token_bytes front.skin.now front.style.now) (front_bytes (later_front front)) r tokens out
-  pub bytes : new ≡ old ++ (front_bytes front ++ (out ++ 10 ∷ []))
+  pub left : Option ℕ
+  pub rows : AreRows (token_bytes front.skin.now front.style.now) (between_rows fill (front_bytes (later_front front))) r tokens out left
+  pub bytes : new ≡ old ++ (front_bytes front ++ (out ++ (fill left ++ 10 ∷ [])))
 
 -- After the bytes that were there come the rows of the lines that a composite becomes which says this.
 abbrev pub PutsRead : RowSkin → ℕ → StyledRuns → List ℕ → List ℕ → Type 0

@@ -111,10 +111,10 @@ impl fmt::Display for CompositeFront<'_> {
 /// What is after a composite's compounds in its row: blanks in its place, and outside of it.
 #[derive(Clone, Copy)]
 pub(crate) struct CompositeEnd<'a> {
-    skin: &'a RowSkin,
-    style: &'a LineStyle,
-    inner: usize,
-    outer: usize,
+    pub skin: &'a RowSkin,
+    pub style: &'a LineStyle,
+    pub inner: usize,
+    pub outer: usize,
 }
 
 impl CompositeEnd<'_> {

@@ -7,12 +7,14 @@
 //! 3. [`composites`], [`tables`], [`lines`]: a composite, a line of a table, and any line or row as displayed values.
 //! 4. [`style_commands`]: the commands of a style, made once.
 //! 5. [`row_writing`]: lines and rows put after a string.
-//! 6. [`read_rows`]: rows of composites that were read, without a layout in between.
+//! 6. [`read_rows`], [`placed_rows`]: rows of composites that were read, and of those with a place, without a layout in between.
 #![tactic(auto)]
 
 pub mod composites;
 pub mod lines;
+pub mod placed_rows;
 pub mod read_rows;
+mod row_breaks;
 pub mod row_skin;
 pub mod row_writing;
 pub mod rows;
@@ -21,6 +23,7 @@ pub mod tables;
 
 pub use composites::{FreeComposite, PlacedComposite};
 pub use lines::{PlacedLine, PlacedLines, PlacedRow};
+pub use placed_rows::append_block;
 pub use read_rows::{append_read, is_aligned_left};
 pub use row_skin::{
     FlagStyles, HeaderStyles, OrderedItemStyles, RowSkin, item_style_at, style_of_compound,

@@ -11,6 +11,7 @@ ghost use Rattle.mad_fit.specs.Completions.{left_completion};
 ghost use Rattle.mad_fit.specs.TokenPositions.{bytes_of};
 ghost use Rattle.mad_fit.specs.declared.tokens.Token.{Token};
 ghost use Rattle.mad_wrap.specs.Writings.{IsWrittenBare, WritesBefore, WritesUpTo, put_bytes};
+ghost use Rattle.mad_rows.specs.RowBreaks.{break_bytes, fill_bytes};
 ghost use Rattle.mad_wrap.specs.declared.first_fit.FirstFit.{FirstFit};
 ghost use Rattle.mad_style.specs.declared.kinds.CompositeKind.TheVariants.{ListItem};
 ghost use Rattle.mad_term.specs.Styles.{IsUnstyled};
@@ -22,6 +23,7 @@ ghost use Rattle.mad_rows.specs.ReadRows.{HasPlainMarks, front_bytes, IsBetween,
 use crate::composites::{CompositeFront, PlacedCompound, Prefix};
 use crate::row_skin::{RowSkin, is_bare, is_ellipsis};
 use crate::row_writing::append_compounds;
+use crate::row_breaks::{Fill, RowBreak, append_break, append_fill};
 use crate::style_commands::{StyleCommands, append_three};
 use mad_fit::{plain_end, token_at};
 use mad_format::{follow_up, margins_and_rest, room_of};
@@ -75,7 +77,7 @@ pub fn append_read(
     if !are_short(compounds) || is_cut_clean(compounds, room) {
         return Ok(false);
     }
-    append_wrap(alloc, rows, front, compounds, room)?;
+    append_wrap(alloc, rows, front, compounds, room, Fill::none())?;
     Ok(true)
 }
 
@@ -93,8 +95,8 @@ fn append_whole(
     rows.push_str("\n")
 }
 
-// What is in front of a row's text.
-fn append_front(rows: &mut String, front: CompositeFront) -> Result<(), AllocError>
+/// What is in front of a row's text.
+pub(crate) fn append_front(rows: &mut String, front: CompositeFront) -> Result<(), AllocError>
     ensures { OnOk result (string_bytes rows.new ≡ string_bytes rows.old ++ front_bytes front.entry) }
 {
     if front.outer == 0 && front.inner == 0 {
@@ -155,15 +157,16 @@ fn append_plain_spaces(
     Ok(())
 }
 
-// Lines that are wrapped.
-fn append_wrap(
+/// Lines that are wrapped, each filled up so.
+pub(crate) fn append_wrap(
     alloc: Global,
     rows: &mut String,
     front: CompositeFront,
     compounds: &[Compound],
     room: Room,
+    fill: Fill,
 ) -> Result<(), AllocError>
-    ensures { OnOk result (WritesWrap front.entry room compounds.now (string_bytes rows.old) (string_bytes rows.new)) }
+    ensures { OnOk result (WritesWrap front.entry (fill_bytes fill.entry) room compounds.now (string_bytes rows.old) (string_bytes rows.new)) }
 {
     let mut later = String::new(alloc);
     append_front(
@@ -176,10 +179,14 @@ fn append_wrap(
     append_front(rows, front)?;
     let fit = FirstFit::new(room);
     let max = room.token_limit();
+    let breaks = RowBreak {
+        fill,
+        later: &later,
+    };
     let style = front.style;
-    append_tokens(alloc, rows, fit, compounds, max, &later, style, front.skin)?;
-    rows.push_str("\n")?;
-    Ok(())
+    let after = append_tokens(alloc, rows, fit, compounds, max, breaks, style, front.skin)?;
+    append_fill(rows, after.columns_left(), fill)?;
+    rows.push_str("\n")
 }
 
 // The tokens of the compounds.
@@ -189,17 +196,17 @@ fn append_tokens(
     fit: FirstFit,
     compounds: &[Compound],
     max: usize,
-    later: &str,
+    breaks: RowBreak,
     style: &LineStyle,
     skin: &RowSkin,
-) -> Result<(), AllocError>
-    ensures { OnOk result ((after : FirstFit) × WritesBefore (token_bytes skin.now style.now) later.now max compounds.now [] fit (string_bytes rows.old) after (string_bytes rows.new)) }
+) -> Result<FirstFit, AllocError>
+    ensures { IfOk result (λ after. WritesBefore (token_bytes skin.now style.now) (break_bytes breaks.entry) max compounds.now [] fit (string_bytes rows.old) after (string_bytes rows.new)) }
 {
     let mut fit = fit;
     for compound in compounds {
-        fit = append_compound(alloc, rows, fit, *compound, max, later, style, skin)?;
+        fit = append_compound(alloc, rows, fit, *compound, max, breaks, style, skin)?;
     }
-    Ok(())
+    Ok(fit)
 }
 
 // The tokens of a compound.
@@ -209,19 +216,19 @@ fn append_compound(
     fit: FirstFit,
     compound: Compound,
     max: usize,
-    later: &str,
+    breaks: RowBreak,
     style: &LineStyle,
     skin: &RowSkin,
 ) -> Result<FirstFit, AllocError>
-    ensures { IfOk result (λ after. WritesUpTo (token_bytes skin.now style.now) later.now max compound.entry (length compound.entry.src.now) fit (string_bytes rows.old) after (string_bytes rows.new)) }
+    ensures { IfOk result (λ after. WritesUpTo (token_bytes skin.now style.now) (break_bytes breaks.entry) max compound.entry (length compound.entry.src.now) fit (string_bytes rows.old) after (string_bytes rows.new)) }
 {
     if is_plain(compound, style, skin) {
-        return append_spans(rows, fit, compound, max, later);
+        return append_spans(rows, fit, compound, max, breaks);
     }
     if is_ellipsis(compound.src) {
-        return append_styled(rows, fit, compound, max, later, style, skin);
+        return append_styled(rows, fit, compound, max, breaks, style, skin);
     }
-    append_marked(alloc, rows, fit, compound, max, later, style, skin)
+    append_marked(alloc, rows, fit, compound, max, breaks, style, skin)
 }
 
 // The tokens of a compound that isn't an ellipsis; its commands are made once.
@@ -231,12 +238,12 @@ fn append_marked(
     fit: FirstFit,
     compound: Compound,
     max: usize,
-    later: &str,
+    breaks: RowBreak,
     style: &LineStyle,
     skin: &RowSkin,
 ) -> Result<FirstFit, AllocError>
     requires { bytes_eq compound.src.now ellipsis_bytes ≡ false }
-    ensures { IfOk result (λ after. WritesUpTo (token_bytes skin.now style.now) later.now max compound.entry (length compound.entry.src.now) fit (string_bytes rows.old) after (string_bytes rows.new)) }
+    ensures { IfOk result (λ after. WritesUpTo (token_bytes skin.now style.now) (break_bytes breaks.entry) max compound.entry (length compound.entry.src.now) fit (string_bytes rows.old) after (string_bytes rows.new)) }
 {
     let own = skin.compound_style(style, &compound).object_style;
     let mut opening = String::new(alloc);
@@ -244,7 +251,7 @@ fn append_marked(
     write!(opening, "{commands}")?;
     let closing = closing_text(own);
     append_between(
-        rows, fit, compound, max, later, &opening, closing, style, skin,
+        rows, fit, compound, max, breaks, &opening, closing, style, skin,
     )
 }
 
@@ -254,22 +261,25 @@ fn append_between(
     fit: FirstFit,
     compound: Compound,
     max: usize,
-    later: &str,
+    breaks: RowBreak,
     opening: &str,
     closing: &str,
     style: &LineStyle,
     skin: &RowSkin,
 ) -> Result<FirstFit, AllocError>
     requires { (part : Compound) → flags_of part ≡ flags_of compound → IsBetween skin.now style.now opening.now closing.now part }
-    ensures { IfOk result (λ after. WritesUpTo (token_bytes skin.now style.now) later.now max compound.entry (length compound.entry.src.now) fit (string_bytes rows.old) after (string_bytes rows.new)) }
+    ensures { IfOk result (λ after. WritesUpTo (token_bytes skin.now style.now) (break_bytes breaks.entry) max compound.entry (length compound.entry.src.now) fit (string_bytes rows.old) after (string_bytes rows.new)) }
 {
     let mut fit = fit;
     let mut at = 0;
     while at < compound.src.len() {
         let token = token_at(compound, at, max);
+        let left = fit.columns_left();
         let put = fit.put(token);
         let part = token.to_compound();
-        append_token(rows, &part, put, later, opening, closing, style, skin)?;
+        append_token(
+            rows, &part, put, left, breaks, opening, closing, style, skin,
+        )?;
         at = token.end_in_compound;
     }
     Ok(fit)
@@ -280,19 +290,20 @@ fn append_token(
     rows: &mut String,
     part: &Compound,
     put: Put,
-    later: &str,
+    left: Option<usize>,
+    breaks: RowBreak,
     opening: &str,
     closing: &str,
     style: &LineStyle,
     skin: &RowSkin,
 ) -> Result<(), AllocError>
     requires { IsBetween skin.now style.now opening.now closing.now part.now }
-    ensures { OnOk result (string_bytes rows.new ≡ string_bytes rows.old ++ put_bytes later.now put (run_bytes skin.now style.now (run_of part.now))) }
+    ensures { OnOk result (string_bytes rows.new ≡ string_bytes rows.old ++ put_bytes (break_bytes breaks.entry) left put (run_bytes skin.now style.now (run_of part.now))) }
 {
     if is_ellipsis(part.src) {
-        append_part(rows, part, put, later, style, skin)
+        append_part(rows, part, put, left, breaks, style, skin)
     } else {
-        append_piece(rows, part.src, put, later, opening, closing)
+        append_piece(rows, part.src, put, left, breaks, opening, closing)
     }
 }
 
@@ -301,17 +312,17 @@ fn append_piece(
     rows: &mut String,
     text: &str,
     put: Put,
-    later: &str,
+    left: Option<usize>,
+    breaks: RowBreak,
     opening: &str,
     closing: &str,
 ) -> Result<(), AllocError>
-    ensures { OnOk result (string_bytes rows.new ≡ string_bytes rows.old ++ put_bytes later.now put (opening.now ++ (text.now ++ closing.now))) }
+    ensures { OnOk result (string_bytes rows.new ≡ string_bytes rows.old ++ put_bytes (break_bytes breaks.entry) left put (opening.now ++ (text.now ++ closing.now))) }
 {
     match put {
         Put::OnLine => append_three(rows, opening, text, closing),
         Put::OnNext => {
-            rows.push_str("\n")?;
-            rows.push_str(later)?;
+            append_break(rows, left, breaks)?;
             append_three(rows, opening, text, closing)
         }
         Put::InGap => Ok(()),
@@ -324,9 +335,9 @@ fn append_spans(
     fit: FirstFit,
     compound: Compound,
     max: usize,
-    later: &str,
+    breaks: RowBreak,
 ) -> Result<FirstFit, AllocError>
-    ensures { IfOk result (λ after. (write : Token → List ℕ) → IsWrittenBare write compound.entry → WritesUpTo write later.now max compound.entry (length compound.entry.src.now) fit (string_bytes rows.old) after (string_bytes rows.new)) }
+    ensures { IfOk result (λ after. (write : Token → List ℕ) → IsWrittenBare write compound.entry → WritesUpTo write (break_bytes breaks.entry) max compound.entry (length compound.entry.src.now) fit (string_bytes rows.old) after (string_bytes rows.new)) }
 {
     let bytes = compound.src.as_bytes();
     let mut fit = fit;
@@ -335,7 +346,13 @@ fn append_spans(
     while at < bytes.len() {
         plain = plain_past(bytes, at, plain);
         let span = next_span(fit, compound, at, plain, max);
-        append_text(rows, &compound.src[at..span.end], span.put, later)?;
+        append_text(
+            rows,
+            &compound.src[at..span.end],
+            span.put,
+            fit.columns_left(),
+            breaks,
+        )?;
         fit = span.after;
         at = span.end;
     }
@@ -358,14 +375,19 @@ fn plain_past(bytes: &[u8], at: usize, plain: usize) -> usize
 }
 
 // A text where it is put.
-fn append_text(rows: &mut String, text: &str, put: Put, later: &str) -> Result<(), AllocError>
-    ensures { OnOk result (string_bytes rows.new ≡ string_bytes rows.old ++ put_bytes later.now put text.now) }
+fn append_text(
+    rows: &mut String,
+    text: &str,
+    put: Put,
+    left: Option<usize>,
+    breaks: RowBreak,
+) -> Result<(), AllocError>
+    ensures { OnOk result (string_bytes rows.new ≡ string_bytes rows.old ++ put_bytes (break_bytes breaks.entry) left put text.now) }
 {
     match put {
         Put::OnLine => rows.push_str(text),
         Put::OnNext => {
-            rows.push_str("\n")?;
-            rows.push_str(later)?;
+            append_break(rows, left, breaks)?;
             rows.push_str(text)
         }
         Put::InGap => Ok(()),
@@ -378,18 +400,19 @@ fn append_styled(
     fit: FirstFit,
     compound: Compound,
     max: usize,
-    later: &str,
+    breaks: RowBreak,
     style: &LineStyle,
     skin: &RowSkin,
 ) -> Result<FirstFit, AllocError>
-    ensures { IfOk result (λ after. WritesUpTo (token_bytes skin.now style.now) later.now max compound.entry (length compound.entry.src.now) fit (string_bytes rows.old) after (string_bytes rows.new)) }
+    ensures { IfOk result (λ after. WritesUpTo (token_bytes skin.now style.now) (break_bytes breaks.entry) max compound.entry (length compound.entry.src.now) fit (string_bytes rows.old) after (string_bytes rows.new)) }
 {
     let mut fit = fit;
     let mut at = 0;
     while at < compound.src.len() {
         let token = token_at(compound, at, max);
+        let left = fit.columns_left();
         let put = fit.put(token);
-        append_part(rows, &token.to_compound(), put, later, style, skin)?;
+        append_part(rows, &token.to_compound(), put, left, breaks, style, skin)?;
         at = token.end_in_compound;
     }
     Ok(fit)
@@ -400,11 +423,12 @@ fn append_part(
     rows: &mut String,
     part: &Compound,
     put: Put,
-    later: &str,
+    left: Option<usize>,
+    breaks: RowBreak,
     style: &LineStyle,
     skin: &RowSkin,
 ) -> Result<(), AllocError>
-    ensures { OnOk result (string_bytes rows.new ≡ string_bytes rows.old ++ put_bytes later.now put (run_bytes skin.now style.now (run_of part.now))) }
+    ensures { OnOk result (string_bytes rows.new ≡ string_bytes rows.old ++ put_bytes (break_bytes breaks.entry) left put (run_bytes skin.now style.now (run_of part.now))) }
 {
     let placed = PlacedCompound {
         skin,
@@ -413,7 +437,10 @@ fn append_part(
     };
     match put {
         Put::OnLine => write!(rows, "{placed}"),
-        Put::OnNext => write!(rows, "\n{later}{placed}"),
+        Put::OnNext => {
+            append_break(rows, left, breaks)?;
+            write!(rows, "{placed}")
+        }
         Put::InGap => Ok(()),
     }
 }
@@ -438,8 +465,8 @@ fn style_in(compound: Compound, style: &LineStyle, skin: &RowSkin) -> CompoundSt
     }
 }
 
-// Whether the compounds have no more bytes than are taken.
-fn are_short(compounds: &[Compound]) -> bool
+/// Whether the compounds have no more bytes than are taken.
+pub(crate) fn are_short(compounds: &[Compound]) -> bool
     ensures { IsTrue result → bytes_of compounds.now < 2 ^ 62 }
 {
     let mut bytes: usize = 0;

@@ -2,11 +2,12 @@
 
 ghost use Rattle.std.specs.Prelude.{◌≡◌, ◌++◌, false, map, slice_get, OnOk, string_bytes};
 ghost use Rattle.std.specs.Option.{option_copied};
-ghost use Rattle.mad_draw.specs.Pieces.{pieces_bytes};
+ghost use Rattle.mad_draw.specs.Pieces.{pieces_bytes, spaces};
 ghost use Rattle.mad_rows.specs.Rows.{compound_piece, composite_pieces, line_bytes, margins_of, text_bytes};
 
-use crate::composites::PlacedComposite;
+use crate::composites::{CompositeEnd, PlacedComposite};
 use crate::lines::{PlacedLine, PlacedRow};
+use crate::read_rows::append_front;
 use crate::row_skin::{RowSkin, is_bare};
 use crate::rows::{know_row, line_blanks, row_blanks};
 use crate::style_commands::StyleCommands;
@@ -77,12 +78,41 @@ fn append_composite(
     ensures { OnOk result (string_bytes rows.new ≡ string_bytes rows.old ++ pieces_bytes (composite_pieces skin.now width (margins_of skin.now width composite.now) false composite.now)) }
 {
     let placed = PlacedComposite::at(skin, composite, width, false);
+    append_placed_composite(rows, &placed, commands)
+}
+
+/// A composite at a place.
+pub(crate) fn append_placed_composite(
+    rows: &mut String,
+    placed: &PlacedComposite,
+    commands: &mut StyleCommands,
+) -> Result<(), AllocError>
+    ensures { OnOk result (string_bytes rows.new ≡ string_bytes rows.old
+        ++ pieces_bytes (composite_pieces placed.now.skin.now placed.now.place.outer placed.now.place.margins placed.now.place.filled placed.now.composite.now)) }
+{
+    let PlacedComposite {
+        skin, composite, ..
+    } = *placed;
     let style = skin.line_style(composite.kind);
     let (front, end) = placed.ends(style);
     rows.reserve(front.columns().saturating_add(end.columns()))?;
-    write!(rows, "{front}")?;
+    append_front(rows, front)?;
     append_compounds(rows, &composite.compounds, style, skin, commands)?;
-    write!(rows, "{end}")
+    append_end(rows, end, commands)
+}
+
+// What is after a row's text.
+fn append_end(
+    rows: &mut String,
+    end: CompositeEnd,
+    commands: &mut StyleCommands,
+) -> Result<(), AllocError>
+    ensures { OnOk result (string_bytes rows.new ≡ string_bytes rows.old
+        ++ pieces_bytes (spaces end.entry.style.now.compound_style end.entry.inner ++ spaces end.entry.skin.now.paragraph.compound_style end.entry.outer)) }
+{
+    commands.append_spaces(rows, end.style.compound_style.object_style, end.inner)?;
+    let beside = end.skin.paragraph.compound_style.object_style;
+    commands.append_spaces(rows, beside, end.outer)
 }
 
 // The compounds of a line of that style.

@@ -1,8 +1,10 @@
 //! The commands of a style, which are made once for all its texts.
 
 ghost use Rattle.std.specs.Prelude.{◌≡◌, ◌++◌, OnOk, string_bytes};
-ghost use Rattle.mad_term.specs.Styles.{IsUnstyled, piece_bytes};
+ghost use Rattle.mad_term.specs.Styles.{IsUnstyled, opening_bytes, piece_bytes};
+ghost use Rattle.mad_rows.specs.RowBreaks.{spaces_bytes};
 
+use crate::row_breaks::append_spaces;
 use mad_term::{ContentStyle, StyleOpening, closing_text};
 use std::alloc::{AllocError, Global};
 use std::marker::Model;
@@ -54,8 +56,37 @@ impl StyleCommands {
         append_three(rows, &self.opening, text, closing_text(style))
     }
 
-    // Makes the commands of a style, where they aren't there.
-    fn know(&mut self, style: ContentStyle) -> Result<(), AllocError>
+    /// Puts spaces in a style after the rows that are there.
+    ///
+    /// # Errors
+    ///
+    /// Out of memory. What the rows then end with is open.
+    pub(crate) fn append_spaces(
+        &mut self,
+        rows: &mut String,
+        style: ContentStyle,
+        count: usize,
+    ) -> Result<(), AllocError>
+        ensures { OnOk result (string_bytes rows.new ≡ string_bytes rows.old ++ spaces_bytes style count) }
+    {
+        if count == 0 {
+            return Ok(());
+        }
+        self.know(style)?;
+        rows.push_str(&self.opening)?;
+        append_spaces(rows, count)?;
+        rows.push_str(closing_text(style))
+    }
+
+    /// The commands that begin a text in this style.
+    pub(crate) fn opening(&self) -> &str
+        ensures { result.now ≡ opening_bytes self.now }
+    {
+        &self.opening
+    }
+
+    /// Makes the commands of a style, where they aren't there.
+    pub(crate) fn know(&mut self, style: ContentStyle) -> Result<(), AllocError>
         ensures { OnOk result (self.new ≡ style) }
     {
         if self.style == style {

@@ -42,6 +42,13 @@ impl FirstFit {
         }
     }
 
+    /// The columns left on the line; none where its tokens don't fit.
+    pub fn columns_left(&self) -> Option<usize>
+        ensures { result ≡ self.now.room_left }
+    {
+        self.room_left
+    }
+
     /// Puts the next token.
     pub fn put(&mut self, token: Token) -> Put
         ensures { Puts self.old token.entry result self.new }
