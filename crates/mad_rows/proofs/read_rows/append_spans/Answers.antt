@@ -1,9 +1,10 @@
-use Rattle.std.proofs.Common.{ℕ, ◌++◌, List, string_bytes, ap, ◌∙◌, subst, arith, rules}
+use Rattle.std.proofs.Common.{ℕ, ◌++◌, List, Option, slice_range, string_bytes, ap, ◌∙◌, subst, arith, rules}
 use Rattle.std.specs.Str.{IsUtf8}
 use Rattle.std.proofs.lemmas.Str.{IsCharBoundary-start}
 use Rattle.mad_fit.specs.Chunks.{ArePlain}
 use Rattle.mad_wrap.specs.Writings.{put_bytes}
 use Rattle.mad_wrap.proofs.WritingLemmas.{up_to_start, span_more}
+use Rattle.mad_rows.specs.RowBreaks.{break_bytes}
 use Rattle.mad_rows.proofs.read_rows.append_spans.Goals as goal
 
 pub loop-at-init : goal.loop-at-init
@@ -14,13 +15,13 @@ loop-at-init c =
       border = IsCharBoundary-start p.src.now utf8;
       plain = subst (λ (bs : List ℕ). ArePlain bs 0 c.plain_end-plain.result) c.as_bytes-bytes.ensures.value c.plain_end-plain.ensures.plain;
       inside = search rules;
-      written = λ write bare. up_to_start write c.args.later.now c.args.max p c.args.fit (string_bytes c.args.rows.now);
+      written = λ write bare. up_to_start write (break_bytes c.args.breaks) c.args.max p c.args.fit (string_bytes c.args.rows.now);
     }
 
 pub loop-at-preserved : goal.loop-at-preserved
 loop-at-preserved c =
     let p = c.args.compound in
-    let later = c.args.later.now in
+    let between = break_bytes c.args.breaks in
     let at = c.loop-at.at in
     let span = c.next_span-span.result in
     let is = c.next_span-span.ensures in
@@ -30,6 +31,6 @@ loop-at-preserved c =
       border = is.border;
       plain = λ k low high. known k (omega (arith, low, is.more)) high;
       inside = search rules;
-      written = λ write bare. span_more write later c.args.max p at c.args.fit (string_bytes c.args.rows.now) c.loop-at.fit (string_bytes c.loop-at.rows) (string_bytes c.append_text.new.rows) span utf8 bare (c.loop-at.invariant.written write bare) is
-          (c.in_ok-append_text.ensures ∙ ap (λ (t : List ℕ). string_bytes c.loop-at.rows ++ put_bytes later span.put t) c.range.ensures.value);
+      written = λ write bare. span_more write between c.args.max p at c.args.fit (string_bytes c.args.rows.now) c.loop-at.fit (string_bytes c.loop-at.rows) (string_bytes c.append_text.new.rows) span utf8 bare (c.loop-at.invariant.written write bare) is
+          (c.in_ok-append_text.ensures ∙ ap (λ (t : List ℕ). string_bytes c.loop-at.rows ++ put_bytes between c.columns_left.result span.put t) c.range.ensures.value ∙ ap (λ (left : Option ℕ). string_bytes c.loop-at.rows ++ put_bytes between left span.put (slice_range p.src.now at span.end)) c.columns_left.ensures);
     }

@@ -3,6 +3,7 @@ use Rattle.std.specs.Str.{IsCharBoundary}
 use Rattle.mad_fit.specs.Chunks.{ArePlain}
 use Rattle.mad_fit.specs.declared.tokens.Token.{Token}
 use Rattle.mad_wrap.specs.Writings.{IsWrittenBare, WritesUpTo}
+use Rattle.mad_rows.specs.RowBreaks.{break_bytes}
 use Rattle.mad_rows.proofs.read_rows.append_spans.Given as goal
 
 abbrev pub invariant-loop-at : goal.invariant-loop-at
@@ -10,7 +11,7 @@ invariant-loop-at l = record {
   border : IsCharBoundary l.compound.src.now l.at;
   plain : ArePlain l.compound.src.now l.at l.plain;
   inside : l.plain ≤ length l.compound.src.now;
-  written : (write : Token → List ℕ) → IsWrittenBare write l.compound → WritesUpTo write l.later l.max l.compound l.at l.fn.fit (string_bytes l.fn.rows) l.fit (string_bytes l.rows);
+  written : (write : Token → List ℕ) → IsWrittenBare write l.compound → WritesUpTo write (break_bytes l.breaks) l.max l.compound l.at l.fn.fit (string_bytes l.fn.rows) l.fit (string_bytes l.rows);
 }
 
 abbrev pub decreases-loop-at : goal.decreases-loop-at
