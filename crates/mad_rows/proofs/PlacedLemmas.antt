@@ -8,26 +8,29 @@ use Rattle.mad_style.specs.declared.compound_styles.CompoundStyle.{CompoundStyle
 use Rattle.mad_style.specs.declared.line_styles.LineStyle.{LineStyle}
 use Rattle.mad_fit.specs.declared.spacing.Spacing.{Spacing}
 use Rattle.mad_fit.specs.TextColumns.{width_of}
+use Rattle.mad_style.specs.declared.kinds.CompositeKind.{CompositeKind}
 use Rattle.mad_wrap.specs.LineRoom.{left_of}
+use Rattle.mad_wrap.specs.Writings.{AreRows}
 use Rattle.mad_wrap.specs.WrapLines.{capped}
 use Rattle.mad_wrap.specs.declared.room.Room.{Room}
 use Rattle.mad_draw.specs.Pieces.{RowPiece, pieces_bytes, spaces}
 use Rattle.mad_draw.proofs.PieceLemmas.{bytes_one}
 use Rattle.mad_format.specs.Indents.{follow_up, room_of}
 use Rattle.mad_format.specs.WrappedLines.{IsWrapped, line_with, style_margins}
+use Rattle.mad_format.specs.PutWraps.{PutsLines}
 use Rattle.mad_format.specs.Wraps.{IsMeasured}
 use Rattle.mad_format.specs.declared.composite.FmtComposite.{FmtComposite}
 use Rattle.mad_format.specs.declared.line.FmtLine.{FmtLine}
 use Rattle.mad_format.proofs.ReadWraps.{pushed_wrap}
 use Rattle.mad_rows.specs.PlacedRows.{PutsWrapped, WrapsInPlace}
-use Rattle.mad_rows.specs.ReadRows.{WritesWrap}
+use Rattle.mad_rows.specs.ReadRows.{WritesWrap, front_bytes, later_front, between_rows, token_bytes}
 use Rattle.mad_rows.specs.RowBreaks.{fill_bytes, spaces_between}
 use Rattle.mad_rows.specs.RowStyles.{line_style, line_rules}
-use Rattle.mad_rows.specs.Rows.{composite_pieces, left_of_place, right_of_place, text_bytes, line_bytes}
+use Rattle.mad_rows.specs.Rows.{composite_pieces, prefix_pieces, left_of_place, right_of_place, text_bytes, line_bytes}
 use Rattle.mad_rows.specs.declared.composites.CompositeFront.{CompositeFront}
 use Rattle.mad_rows.specs.declared.row_breaks.Fill.{Fill}
 use Rattle.mad_rows.specs.declared.row_skin.RowSkin.{RowSkin}
-use Rattle.mad_rows.proofs.ReadLemmas.{AreBeside, composites, are_composites, rows_made, made_wraps}
+use Rattle.mad_rows.proofs.ReadLemmas.{AreBeside, front_text, composites, are_composites, rows_made, made_wraps}
 
 -- a filling of this style
 pub record IsFillOf (style : CompoundStyle) (f : Fill) : Type 0 where
@@ -62,6 +65,13 @@ beside_place width margins style r f range h = record {
   after = λ i total. ap (λ n. pieces_bytes (spaces style.compound_style n)) (rest_is r.width i total range) ∙ filled style.compound_style f (left_of r.width (i + total)) h;
 }
 
+-- what is in front of a row, where nothing is left of it in its place
+fronts_are : (skin : RowSkin) (kind : CompositeKind) (outer : ℕ) (c : CompositeFront) → c.skin.now ≡ skin → c.inner ≡ 0 → c.outer ≡ outer → c.kind ≡ kind → front_bytes c ≡ front_text skin kind outer
+fronts_are skin kind outer c skin_is inner_is outer_is kind_is =
+    ap (λ (s : RowSkin). pieces_bytes (spaces s.paragraph.compound_style c.outer ++ (spaces c.style.now.compound_style c.inner ++ prefix_pieces s c.kind))) skin_is
+    ∙ ap (λ n. pieces_bytes (spaces skin.paragraph.compound_style c.outer ++ (spaces c.style.now.compound_style n ++ prefix_pieces skin c.kind))) inner_is
+    ∙ ap (λ n. pieces_bytes (spaces skin.paragraph.compound_style n ++ prefix_pieces skin c.kind)) outer_is ∙ ap (λ (k : CompositeKind). pieces_bytes (spaces skin.paragraph.compound_style outer ++ prefix_pieces skin k)) kind_is
+
 -- ---- what was put
 
 -- of a composite that fits
@@ -83,11 +93,27 @@ pub placed_wrapped : (skin : RowSkin) (width : ℕ) (line : LineStyle) (source :
     → WrapsInPlace source r → line ≡ line_style skin source.kind → width < 2 ^ 64 → IsFillOf line.compound_style f
     → front.skin.now ≡ skin → front.style.now ≡ line → front.kind ≡ source.kind → front.inner ≡ 0 → front.outer ≡ left_of_place line.align (r.width + margins.0 + margins.1) (Some width) + margins.0
     → WritesWrap front (fill_bytes f) r source.compounds.items old new → PutsWrapped skin width source old new
-placed_wrapped skin width line source margins r front f old new measured margins_are room_is wide known line_is range fill skin_is style_is kind_is inner_is outer_is w =
+placed_wrapped skin width line source margins r front f old new measured margins_are room_is wide known line_is range fill_is skin_is style_is kind_is inner_is outer_is w =
     let place : Option Spacing = Some (record { width = r.width; align = Left }) in
     let outer : ℕ = left_of_place line.align (r.width + margins.0 + margins.1) (Some width) + margins.0 in
     let first : r.first ≡ (room_of (line_rules skin) source.kind (width - margins.0 - margins.1)).first = ap (λ (q : Room). q.first) room_is in
     let across : r.width ≡ width - margins.0 - margins.1 = ap (λ (q : Room). q.width) room_is in
     let wider : r.width < r.first + width_of (flagged_text source.compounds.items) = omega (arith, measured, wide, first, across) in
-    let fronts : CompositeFront → Type 0 = λ c. WritesWrap c (fill_bytes f) r source.compounds.items old new in
-    ?placed
+    let fill : Option ℕ → List ℕ = fill_bytes f in
+    let first_is : front_bytes front ≡ front_text skin source.kind outer = fronts_are skin source.kind outer front skin_is inner_is outer_is kind_is in
+    let later_is : front_bytes (later_front front) ≡ front_text skin (follow_up source.kind) outer =
+    fronts_are skin (follow_up source.kind) outer (later_front front) skin_is inner_is outer_is (ap follow_up kind_is) in
+    let rows = subst (λ (b : List ℕ). AreRows (token_bytes skin line) (between_rows fill b) r w.tokens w.out w.left) later_is
+        (subst (λ (l : LineStyle). AreRows (token_bytes skin l) (between_rows fill (front_bytes (later_front front))) r w.tokens w.out w.left) style_is
+        (subst (λ (s : RowSkin). AreRows (token_bytes s front.style.now) (between_rows fill (front_bytes (later_front front))) r w.tokens w.out w.left) skin_is w.rows)) in
+    let made = rows_made skin width line source.kind source.compounds margins place outer fill r w.tokens w.out w.left line_is (beside_place width margins line r f (omega (arith, across, range)) fill_is) known.short w.cut rows in
+    let wraps = made_wraps r source.compounds.items w.tokens made.lines wider known.loose known.uncut w.cut made.placed in
+    let own : List FmtLine = map (line_with margins) (composites place source.kind (follow_up source.kind) r.first r.other made.lines) in
+    let pushed = pushed_wrap (line_rules skin) width source margins r made.lines [] own margins_are room_is wide wraps.0 wraps.1
+        (subst (λ (sp : Option Spacing). PutsLines r source.kind sp margins made.lines [] own) (sym known.place)
+        (composites place source.kind (follow_up source.kind) r.first r.other made.lines, refl, are_composites place source.kind (follow_up source.kind) r.first r.other made.lines)) in
+    (
+      pushed.0,
+      w.bytes ∙ ap (λ (b : List ℕ). old ++ (b ++ (w.out ++ (fill w.left ++ 10 ∷ [])))) first_is ∙ ap (λ (b : List ℕ). old ++ b) (sym made.text) ∙ ap (λ (ls : List FmtLine). old ++ text_bytes skin (Some width) ls) pushed.1,
+      pushed.2,
+    )
