@@ -8,7 +8,7 @@ use Rattle.mad_format.specs.CompositeWraps.{IsCompositeWrap}
 use Rattle.mad_blocks.specs.Fronts.{IsFrontLayout}
 use Rattle.mad_blocks.specs.Layouts.{AreRead, IsLayoutAt}
 use Rattle.mad_format.specs.FmtLines.{IsLineRead}
-use Rattle.mad_blocks.specs.PartCursors.{NoneNext, LaidPart}
+use Rattle.mad_blocks.specs.PartCursors.{NoneNext, IsBlockRead, LaidPart}
 use Rattle.mad_blocks.specs.LayoutParts.{Part, parts_of, table_width, wrap_width, IsBlockAt, IsLineAt, ArePartsAt}
 use Rattle.mad_blocks.specs.Tables.{IsTableLaidOutBy, columns_count}
 use Rattle.mad_blocks.specs.TextParts.{is_code, is_table, stand_together, in_front, text_parts}
@@ -142,17 +142,38 @@ code_read skin [] [] all h = tt
 code_read skin (c ∷ cs) (l ∷ ls) all h = ((is_as_read skin c (Normal l) h.0).0 ∙ all.0, code_read skin cs ls all.1 h.1)
 code_read skin _ _ all h = absurd h
 
-pub block_part : (skin : LineRules) (width : Option ℕ) (first : LineContent) (before left : List LineContent) (block : List FmtComposite) (lines new own : List FmtLine) → is_code first ≡ true → RunSoFar is_code skin first before left (map Normal block)
-    → NoneNext is_code left → new ≡ lines ++ own → IsBlockAt skin width block own → LaidPart skin width (first ∷ before) lines left new
-block_part skin width first before left block lines new own on h none added becomes =
-    let kinds : AllCode block = code_read skin (first ∷ h.others) block (on, h.told) h.reads in
+-- the lines of a block that were read
+pub block_read : (skin : LineRules) (first : LineContent) (before left : List LineContent) (block : List FmtComposite) → is_code first ≡ true → RunSoFar is_code skin first before left (map Normal block) → NoneNext is_code left
+    → IsBlockRead skin (first ∷ before) left block
+block_read skin first before left block on h none = record {
+  first = first;
+  others = h.others;
+  joins = ap (λ cs. first ∷ cs) h.joins;
+  is_part = ap (λ cs. text_parts (first ∷ cs)) h.joins ∙ apart_parts (first ∷ h.others) left (told_apart is_code first h.others left code_tells on h.told none)
+      ∙ ap (λ (ps : List (List LineContent)). ps ++ text_parts left) (one_part is_code first h.others code_tells on h.told);
+  code = (on, h.told);
+  reads = h.reads;
+}
+
+-- what becomes of them is a part
+pub block_part : (skin : LineRules) (width : Option ℕ) (before left : List LineContent) (block : List FmtComposite) (lines new own : List FmtLine) → IsBlockRead skin before left block
+    → new ≡ lines ++ own → IsBlockAt skin width block own → LaidPart skin width before lines left new
+block_part skin width before left block lines new own h added becomes =
+    let kinds : AllCode block = code_read skin (h.first ∷ h.others) block h.code h.reads in
     let parts : parts_of (map Normal block) ≡ block_parts block = ap parts_of (sym (append-nil (map Normal block))) ∙ block_in_front block [] kinds tt ∙ append-nil (block_parts block) in
-    part_laid skin width first h.others before left lines new own h.joins (one_part is_code first h.others code_tells on h.told) (told_apart is_code first h.others left code_tells on h.told none) added
-    (record {
-      read = map Normal block;
-      reads = h.reads;
-      laid = subst (λ (ps : List Part). ArePartsAt IsCompositeWrap skin (table_width width) (wrap_width width) ps own) (sym parts) (block_laid skin (table_width width) (wrap_width width) block own becomes);
-    })
+    record {
+      first = h.first;
+      others = h.others;
+      joins = h.joins;
+      is_part = h.is_part;
+      own = own;
+      added = added;
+      layout = record {
+        read = map Normal block;
+        reads = h.reads;
+        laid = subst (λ (ps : List Part). ArePartsAt IsCompositeWrap skin (table_width width) (wrap_width width) ps own) (sym parts) (block_laid skin (table_width width) (wrap_width width) block own becomes);
+      };
+    }
 
 pub table_part : (skin : LineRules) (width : Option ℕ) (first : LineContent) (before left : List LineContent) (table lines new own : List FmtLine) → is_table first ≡ true → RunSoFar is_table skin first before left table
     → NoneNext is_table left → new ≡ lines ++ own → IsTableLaidOutBy IsCompositeWrap skin (columns_count table) (table_width width) table own → LaidPart skin width (first ∷ before) lines left new

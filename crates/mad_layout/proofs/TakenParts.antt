@@ -1,5 +1,5 @@
 -- Parts that were taken: rows that are kept, or lines that wait to follow them.
-use Rattle.std.proofs.Common.{◌≡◌, ℕ, Bool, true, false, not, List, [], ◌∷◌, ◌++◌, length, ◌<◌, Option, Some, None, Result, Ok, Err, nat_lt, refl, ap, sym, ◌∙◌, subst, append_assoc, append-nil}
+use Rattle.std.proofs.Common.{◌≡◌, ℕ, Bool, true, false, not, List, [], ◌∷◌, ◌++◌, length, map, ◌<◌, Option, Some, None, Result, Ok, Err, nat_lt, refl, ap, sym, ◌∙◌, subst, append_assoc, append-nil}
 use Rattle.std.proofs.lemmas.Grind.{flat_map-append}
 use Rattle.std.specs.Prelude.{if◌then◌else◌}
 use Rattle.std.specs.Result.{IsErrAnd}
@@ -7,20 +7,21 @@ use Rattle.mad_md.specs.Lines.{LineContent, StyledRuns, normal}
 use Rattle.mad_term.specs.Trace.{Trace}
 use Rattle.mad_term.specs.declared.errors.Error.{Error}
 use Rattle.mad_style.specs.Kinds.{kind_of}
-use Rattle.mad_blocks.specs.LayoutParts.{is_code_kind, wrap_width, IsLineAt}
+use Rattle.mad_blocks.specs.LayoutParts.{is_code_kind, wrap_width, block_width, code_room, justified, placed_code, AreLinesAt, IsBlockAt, IsLineAt}
 use Rattle.mad_blocks.specs.Layouts.{IsLayoutAt}
-use Rattle.mad_blocks.specs.PartCursors.{LaidPart, LaysPart}
+use Rattle.mad_blocks.specs.PartCursors.{IsBlockRead, LaidPart, LaysPart}
 use Rattle.mad_blocks.specs.TextParts.{is_text}
-use Rattle.mad_blocks.proofs.PartCursorLemmas.{LaidSoFar, laid_more, laid_none, laid_shorter, laid_whole, single_laid}
+use Rattle.mad_blocks.proofs.PartCursorLemmas.{LaidSoFar, laid_more, laid_none, laid_shorter, laid_whole, single_laid, block_part}
 use Rattle.mad_format.specs.CompositeWraps.{IsCompositeWrap}
 use Rattle.mad_format.specs.FmtLines.{IsCompositeRead}
 use Rattle.mad_format.specs.declared.composite.FmtComposite.{FmtComposite}
 use Rattle.mad_format.specs.declared.line.FmtLine.{FmtLine}
 use Rattle.mad_format.specs.declared.line.FmtLine.TheVariants.{Normal}
 use Rattle.mad_layout.specs.UnmarkedRows.{HandsOnUnmarked}
-use Rattle.mad_layout.specs.WrittenParts.{TakesRead, TakesReadOrNone, TakenPart, TakesPart, WritesPartsOf}
+use Rattle.mad_layout.specs.WrittenParts.{TakesBlock, TakesRead, TakesReadOrNone, TakenPart, TakesPart, WritesPartsOf}
 use Rattle.mad_layout.proofs.UnmarkedLineLemmas.{written_unmarked, written_unmarked_refused}
 use Rattle.mad_layout.proofs.WrittenLemmas.{WrittenSoFar}
+use Rattle.mad_rows.specs.PlacedRows.{PutsBlock}
 use Rattle.mad_rows.specs.ReadRows.{PutsReadOrNone}
 use Rattle.mad_rows.specs.Rows.{line_bytes, text_bytes}
 use Rattle.mad_rows.specs.RowStyles.{line_rules}
@@ -46,6 +47,36 @@ read_taken skin width w said old true new is (source, read, own, put, becomes) =
   own = own;
   becomes = subst (λ (v : Option ℕ). IsLineAt IsCompositeWrap (line_rules skin) v (Normal source) own) (sym is) becomes;
   rows = append-nil new ∙ put ∙ ap (λ (v : Option ℕ). old ++ text_bytes skin v own) (sym (width_is width w is));
+}
+
+-- rows of what becomes of a block of code
+pub block_taken : (skin : RowSkin) (width wrap : Option ℕ) (w columns : ℕ) (block : List FmtComposite) (own before : List FmtLine) (old new : List ℕ) → wrap ≡ wrap_width width → wrap ≡ Some w → before ≡ [] → columns ≡ block_width (code_room (line_rules skin) wrap) block
+    → PutsBlock skin w columns block old new → TakesBlock skin width block old new before
+block_taken skin width wrap w columns block own before old new wrap_is is none columns_are (rows, put, become) = record {
+  own = rows;
+  becomes =
+      subst (λ (v : Option ℕ). AreLinesAt IsCompositeWrap (line_rules skin) v (map Normal (justified (code_room (line_rules skin) v) block)) rows) wrap_is
+      (subst (λ (n : ℕ). AreLinesAt IsCompositeWrap (line_rules skin) wrap (map Normal (map (placed_code n) block)) rows) columns_are
+      (subst (λ (v : Option ℕ). AreLinesAt IsCompositeWrap (line_rules skin) v (map Normal (map (placed_code columns) block)) rows) (sym is) become));
+  rows = ap (λ (ls : List FmtLine). new ++ text_bytes skin width ls) none ∙ append-nil new ∙ put ∙ ap (λ (v : Option ℕ). old ++ text_bytes skin v rows) (sym (width_is width w (sym wrap_is ∙ is)));
+}
+
+-- lines of it, where there were none
+pub block_laid_in : (skin : RowSkin) (width : Option ℕ) (block : List FmtComposite) (own before after : List FmtLine) (old new : List ℕ) → before ≡ [] → after ≡ before ++ own → IsBlockAt (line_rules skin) width block own → new ≡ old
+    → TakesBlock skin width block old new after
+block_laid_in skin width block own before after old new none pushed becomes same = record {
+  own = own;
+  becomes = becomes;
+  rows = ap (λ (b : List ℕ). b ++ text_bytes skin width after) same ∙ ap (λ (ls : List FmtLine). old ++ text_bytes skin width ls) (pushed ∙ ap (λ (ls : List FmtLine). ls ++ own) none);
+}
+
+-- the part that such a block is
+pub block_takes : (skin : RowSkin) (width : Option ℕ) (before later : List LineContent) (block : List FmtComposite) (old new : List ℕ) (lines : List FmtLine) → IsBlockRead (line_rules skin) before later block → TakesBlock skin width block old new lines
+    → TakenPart skin width before old later new lines
+block_takes skin width before later block old new lines read h = record {
+  own = h.own;
+  part = block_part (line_rules skin) width before later block [] h.own h.own read refl h.becomes;
+  rows = h.rows;
 }
 
 -- lines of it, where there were none
