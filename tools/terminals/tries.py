@@ -177,10 +177,17 @@ def from_pipe(w):
         end(w, what=line)
 
 
+def reading(w):
+    """Waits until the script says that it reads a text, which it does after a second."""
+    return until(lambda: any("Control-C shows" in row for row in w.shown()))
+
+
 @tried
 def from_slow_pipe(w):
-    w.run(f"(echo '# begun'; sleep 2.5; echo; echo later) | {PAGE}")
-    assert until(lambda: any("Control-C shows" in row for row in w.shown()), 3), w.shown()
+    os.mkfifo(w.folder / "more")
+    w.run(f"(echo '# begun'; cat more) | {PAGE}")
+    assert reading(w), w.shown()
+    (w.folder / "more").write_text("\nlater\n")
     assert w.paging()
     assert any("later" in row for row in w.still())
     end(w)
@@ -192,7 +199,7 @@ def from_endless_pipe(w):
     """Control-C also ends the command before the pipe, and the shell then drops the rest of its own line."""
     for line in (f"(echo '# begun'; sleep 1000) | {PAGE}", f"{PAGE} <(echo '# begun'; exec sleep 1000)"):
         w.type(f"clear; {line}\r")
-        time.sleep(1.5)
+        assert reading(w), w.shown()
         w.type("\x03")
         assert w.paging(), w.shown()
         assert "begun" in "".join(w.shown()) and "its beginning" in w.shown()[23], w.shown()
@@ -341,7 +348,7 @@ def stop_in_search(w):
     w.type(" nine")
     assert until(lambda: "seven nine" in w.shown()[23]), w.shown()
     w.type("\x1b")
-    time.sleep(0.3)
+    assert until(lambda: "%" in w.shown()[23]), w.shown()
     quit_stopped(w)
 
 
@@ -395,11 +402,11 @@ def stop_twice_at_once(w):
         begin(w)
         w.type("j\x1a\x1aj" if i % 2 else "\x1a\x1a\x1a")
         assert w.stopped(), (i, w.shown(), w.flags())
-        for _ in range(4):
-            time.sleep(0.2)
-            w.type("clear; fg\r")
-            assert until(lambda: w.flags() == PAGING or "Stopped" in "".join(w.shown()), 3)
-            time.sleep(0.3)
+        for again in range(4):
+            w.still()
+            w.type(f"clear; echo again {again}; fg\r")
+            assert until(lambda: w.flags() == PAGING or f"again {again}" in w.shown() and "Stopped" in "".join(w.shown()))
+            w.still()
             if w.flags() == PAGING:
                 break
         assert w.paging(), (i, w.shown(), w.flags())
@@ -565,7 +572,7 @@ def window_closes(w):
         other = Tmux(80, 24, w.folder)
         if how == "reading":
             other.run(f"sleep 1000 | {PAGE}")
-            time.sleep(1)
+            assert reading(other), other.shown()
         else:
             begin(other)
         if how == "stopped":

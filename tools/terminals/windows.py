@@ -15,6 +15,8 @@ SHELL = ["env", "PS1=ready ", "bash", "--norc", "--noprofile"]
 # Which modes are on: the other screen, the cursor, the mouse in three ways, autowrap.
 FLAGS = "#{alternate_on} #{cursor_flag} #{mouse_any_flag} #{mouse_button_flag} #{mouse_sgr_flag} #{wrap_flag}"
 AT_REST, PAGING = "0 1 0 0 0 1", "1 0 1 1 1 0"
+# What is waited for may take this many times longer than on a machine that does nothing else.
+PATIENCE = 10
 ENVIRONMENT = {**os.environ, "LC_ALL": "C.UTF-8", "HISTFILE": "/dev/null"}
 
 
@@ -32,8 +34,8 @@ def processes():
 
 
 def until(test, seconds=8.0):
-    """Whether a test holds before so many seconds have passed."""
-    end = time.monotonic() + seconds
+    """Whether a test holds before so many seconds have passed, or many more where the machine does other work too."""
+    end = time.monotonic() + seconds * PATIENCE
     while not test():
         if time.monotonic() > end:
             return False
@@ -59,15 +61,18 @@ class Terminal:
         return self.shown()
 
     def still(self):
-        """What is shown once it hasn't changed for a while."""
+        """What is shown once it hasn't changed for a while, in which nothing in the terminal had work to do."""
         before = None
-        for _ in range(100):
-            shown = self.shown()
-            if shown == before:
+        for _ in range(100 * PATIENCE):
+            shown, idle = self.shown(), self.idle()
+            if idle and shown == before:
                 return shown
-            before = shown
+            before = shown if idle else None
             time.sleep(0.2)
-        return before
+        return self.shown()
+
+    def idle(self):
+        return True
 
     def run(self, line):
         """Types a command line that also writes its status, and the terminal's settings before and after it, into files."""
@@ -135,6 +140,10 @@ class Tmux(Terminal):
     def ended(self, seconds=8.0):
         status = super().ended(seconds)
         return status if self.at_rest() else f"the modes differ: {self.flags()}"
+
+    def idle(self):
+        """Whether no process of this window waits for a processor or a disk."""
+        return not any(state[0] in "RD" for _, state, _ in self.children())
 
     def children(self):
         """The processes of this window below its own."""
