@@ -24,6 +24,9 @@ ends_is Goes end h = absurd (cc)
 ends_is AsksSize end h = absurd (cc)
 ends_is (Opens overlay) end h = absurd (cc)
 
+pub none_some : (end : End) → None ≡ Some end → ⊥
+none_some end h = absurd (cc)
+
 -- ---- bytes
 
 -- a byte more is read

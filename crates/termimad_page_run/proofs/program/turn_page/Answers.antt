@@ -1,10 +1,13 @@
-use Rattle.std.proofs.Common.{inl, refl, take, arith}
+use Rattle.std.proofs.Common.{◌≡◌, Some, inl, refl, take, arith}
+use Rattle.mad_pager.specs.declared.session.End.TheVariants.{Quits}
 use Rattle.termimad_page_run.proofs.RunLemmas.{ended_input, block_done}
 use Rattle.termimad_page_run.proofs.program.turn_page.Goals as goal
 
 pub returns-then-count-eq0-clause-ends : goal.returns-then-count-eq0-clause-ends
-returns-then-count-eq0-clause-ends g c = λ is.
-    record { orderly = c.requires; shown = c.in_ok-show.ensures; ends = inl (ended_input _ _ _ _ c.if-count-eq0.true c.in_ok-count.ensures (omega arith)) }
+returns-then-count-eq0-clause-ends g c = λ end is.
+    let given : Some Quits ≡ Some end = is in
+    let quits : end ≡ Quits = cc in
+    record { orderly = c.requires; shown = c.in_ok-show.ensures; ends = inl (quits, ended_input _ _ _ _ c.if-count-eq0.true c.in_ok-count.ensures (omega arith)) }
 
 pub returns-clause-goes : goal.returns-clause-goes
 returns-clause-goes g c = λ goes. (
