@@ -426,7 +426,8 @@ def stop_right_after_continuing(w):
         for _ in range(3):
             time.sleep(i * 0.003)
             w.type("\x1a")
-        if until(lambda: w.flags() == PAGING, 0.7):
+        w.still()
+        if w.flags() == PAGING:
             w.type("\x1a")
         assert until(lambda: w.flags() == AT_REST and all(state[0] == "T" for _, state, _ in w.children())), (i, w.shown(), w.flags(), w.children())
     go_on(w)
