@@ -5,15 +5,10 @@ ghost use Rattle.std.specs.Prelude.{◌≤◌};
 ghost use Rattle.termimad.specs.Areas.{IsWithinLimits};
 
 use std::alloc::Global;
-use std::io::{Error as IoError, ErrorKind};
-use termimad::screen::{NotPlain, Screen};
 use termimad::{
-    Area, BORDER_STYLE_MIDDLE_ROUND_LINE, CompoundStyle, CropWriter, CutOut, Error, Filling,
-    MadSkin, Out, ProgressBar, Rect, queue_move,
+    Area, BORDER_STYLE_MIDDLE_ROUND_LINE, CompoundStyle, CropWriter, Error, Filling, MadSkin, Out,
+    ProgressBar, Rect, TestTerminal, queue_move,
 };
-
-// More bytes than the page and the dialog take.
-const ROOM: usize = 4000;
 
 const PAGE: &str =
     "# Archive\nEach report of the year is kept, with its pictures and its tables. Reports of the years before are \
@@ -24,14 +19,13 @@ const WHAT: &str = "Of **30** pages of *report 31* these are read:";
 fn main(rt: HostRuntime) -> Result<(), Error> {
     let alloc = rt.alloc();
     let skin = MadSkin::no_style();
-    let mut out = CutOut::new(alloc, ROOM, ROOM, false)?;
-    skin.write_in_area_on(alloc, &mut out, PAGE, &Area::new(0, 0, 44, 9))?;
+    let mut terminal = TestTerminal::new(alloc, 44, 9);
+    skin.write_in_area_on(alloc, &mut terminal, PAGE, &Area::new(0, 0, 44, 9))?;
     let area = Area::new(6, 2, 32, 5);
-    draw_frame(alloc, &mut out, &area, " Unpacking ")?;
-    skin.write_in_area_on(alloc, &mut out, WHAT, &Area::new(8, 3, 28, 2))?;
-    draw_bar(alloc, &mut out, &area, ProgressBar::new(17, 30, 28))?;
-    let screen = screen_of(alloc, out.taken())?;
-    print!(rt; "{screen}")?;
+    draw_frame(alloc, &mut terminal, &area, " Unpacking ")?;
+    skin.write_in_area_on(alloc, &mut terminal, WHAT, &Area::new(8, 3, 28, 2))?;
+    draw_bar(alloc, &mut terminal, &area, ProgressBar::new(17, 30, 28))?;
+    print!(rt; "{}", terminal.shown(alloc)?)?;
     Ok(())
 }
 
@@ -59,14 +53,4 @@ fn draw_bar<O: Out>(alloc: Global, out: &mut O, area: &Area, bar: ProgressBar) -
     let mut rest = CropWriter::new(out, usize::from(area.width) - 4);
     rest.queue_unstyled_str(alloc, &bar.to_string(alloc)?)?;
     rest.fill_unstyled(&Filling::from_char(alloc, '·')?)
-}
-
-// What a screen shows that reads the bytes.
-fn screen_of(alloc: Global, bytes: &[u8]) -> Result<Screen, Error> {
-    let mut screen = Screen::new(alloc, 44, 9)?;
-    match screen.read_bytes(bytes) {
-        Ok(()) => Ok(screen),
-        Err(NotPlain::Memory) => Err(Error::Memory),
-        Err(NotPlain::Undefined) => Err(Error::IO(IoError::from(ErrorKind::InvalidData))),
-    }
 }

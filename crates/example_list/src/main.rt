@@ -23,7 +23,7 @@ fn main(rt: HostRuntime) -> Result<(), Error> {
     let alloc = rt.alloc();
     let script = io::read_to_string(alloc, rt.reader())?;
     let length = 1000;
-    let long = Box::new(alloc, move |river: &River| river.length > length)?;
+    let long = Box::new(alloc, move |river: &River| river.length() > length)?;
     let by_name = Box::new(alloc, |a: &River, b: &River| a.name().cmp(b.name()))?;
     run(
         &rt,
@@ -57,7 +57,7 @@ fn run<F: RowFilter<River>, O: RowOrder<River>>(
         match command {
             "picture" => print!(rt; "{}", screen_of(alloc, &mut list)?)?,
             "choose" => match list.get_selection() {
-                Some(river) => println!(rt; "the {}, of {} km", river.name(), river.length)?,
+                Some(river) => println!(rt; "the {}, of {} km", river.name(), river.length())?,
                 None => println!(rt; "none")?,
             },
             "long" => {

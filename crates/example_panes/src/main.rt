@@ -7,16 +7,12 @@ ghost use Rattle.termimad.specs.Areas.{IsWithinLimits};
 ghost use Rattle.termimad.specs.MadViews.{area_of};
 
 use std::alloc::{AllocError, Global};
-use std::io::{Error as IoError, ErrorKind};
-use termimad::screen::{NotPlain, Screen};
-use termimad::{Area, CutOut, Error, MadSkin, MadView, draw_views};
+use termimad::screen::Screen;
+use termimad::{Area, Error, MadSkin, MadView, TestTerminal, draw_views};
 
 const COLUMNS: u16 = 60;
 
 const ROWS: u16 = 6;
-
-// More bytes than a screen of this example takes.
-const ROOM: usize = 3000;
 
 const STOPS: &str = "# Stops\n* Albury\n* **Benalla**\n* Chiltern";
 
@@ -41,14 +37,9 @@ fn screen_of(alloc: Global, scroll: usize) -> Result<Screen, Error> {
     stop.scroll = scroll;
     let trains = view(alloc, 42, 18, TRAINS)?;
     let views = [stops, stop, trains];
-    let mut out = CutOut::new(alloc, ROOM, ROOM, false)?;
-    draw_views(alloc, &mut out, &views)?;
-    let mut screen = Screen::new(alloc, COLUMNS, ROWS)?;
-    match screen.read_bytes(out.taken()) {
-        Ok(()) => Ok(screen),
-        Err(NotPlain::Memory) => Err(Error::Memory),
-        Err(NotPlain::Undefined) => Err(Error::IO(IoError::from(ErrorKind::InvalidData))),
-    }
+    let mut terminal = TestTerminal::new(alloc, COLUMNS, ROWS);
+    draw_views(alloc, &mut terminal, &views)?;
+    Ok(terminal.shown(alloc)?)
 }
 
 // A view of a text in some columns of the screen.

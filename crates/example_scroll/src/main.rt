@@ -6,12 +6,8 @@ ghost use Rattle.termimad.specs.Areas.{IsWithinLimits};
 ghost use Rattle.termimad.specs.Views.{view_area};
 
 use std::alloc::Global;
-use std::io::{Error as IoError, ErrorKind};
-use termimad::screen::{NotPlain, Screen};
-use termimad::{Area, CutOut, Error, MadSkin, TextView};
-
-// More bytes than a screen of this example takes.
-const ROOM: usize = 1000;
+use termimad::screen::Screen;
+use termimad::{Area, Error, MadSkin, TestTerminal, TextView};
 
 const TEXT: &str =
     "# Stops\n* Albury\n* Benalla\n* Chiltern\n* Euroa\n* Glenrowan\n* Seymour\n* Violet Town";
@@ -34,12 +30,7 @@ fn main(rt: HostRuntime) -> Result<(), Error> {
 fn screen_of(alloc: Global, view: &TextView<'_, '_>) -> Result<Screen, Error>
     requires { IsWithinLimits (view_area view.now) }
 {
-    let mut out = CutOut::new(alloc, ROOM, ROOM, false)?;
-    view.write_on(alloc, &mut out)?;
-    let mut screen = Screen::new(alloc, 16, 4)?;
-    match screen.read_bytes(out.taken()) {
-        Ok(()) => Ok(screen),
-        Err(NotPlain::Memory) => Err(Error::Memory),
-        Err(NotPlain::Undefined) => Err(Error::IO(IoError::from(ErrorKind::InvalidData))),
-    }
+    let mut terminal = TestTerminal::new(alloc, 16, 4);
+    view.write_on(alloc, &mut terminal)?;
+    Ok(terminal.shown(alloc)?)
 }

@@ -1,7 +1,7 @@
 -- What a list keeps when a row was put in.
-use Rattle.std.proofs.Common.{◌≡◌, ◌<◌, ◌≤◌, ◌+◌, ◌-◌, ℕ, suc, List, [], ◌∷◌, ◌++◌, length, get_or, map, Bool, true, false, cond, Option, Some, None, Ordering, arith, refl, sym, ap, ◌∙◌, subst}
+use Rattle.std.proofs.Common.{◌≡◌, ◌<◌, ◌≤◌, ◌+◌, ◌-◌, ◌^◌, ℕ, suc, List, [], ◌∷◌, ◌++◌, length, get_or, map, Bool, true, false, cond, Option, Some, None, Ordering, arith, refl, sym, ap, ◌∙◌, subst}
 use Rattle.std.specs.Prelude.{IfSome, is_none, ◌&&◌, if◌then◌else◌}
-use Rattle.std.specs.List.{All, sum_by}
+use Rattle.std.specs.List.{sum_by}
 use Rattle.std.specs.List.Sorted.{IsPermutation, IsSortedBy}
 use Rattle.std.proofs.lemmas.List.{get_or-map, length-append, length-map}
 use Rattle.std.proofs.Math.ListN.{get_or-map as get_or-map-with}
@@ -9,7 +9,7 @@ use Rattle.std.proofs.lemmas.List.Elements.{All-append, All-cons, All-nil}
 use Rattle.std.proofs.lemmas.List.Sorted.{All-permutation, IsPermutation-refl, length_permutation, sum_by-IsPermutation}
 use Rattle.std.proofs.lemmas.List.Sums.{sum_by-append}
 use Rattle.mad_list_rows.specs.declared.list_rows.ListRow.{ListRow}
-use Rattle.mad_list_rows.specs.Answers.{AreAnswered, IsAnswered, IsWithRow, by_content, Orders}
+use Rattle.mad_list_rows.specs.Answers.{AreAnswered, IsAnswered, IsWithRow, by_content}
 use Rattle.mad_list_rows.specs.Adding.{IsAdded}
 use Rattle.mad_list_rows.specs.Caches.{AreKept, AreSorted}
 use Rattle.mad_list_rows.specs.Scrolling.{bottom_scroll, scrolled_to, shows_bottom}
@@ -27,15 +27,18 @@ within_more None n m h below = below
 within_more (Some i) n m h below = omega arith
 
 -- all that a list keeps
-pub kept_with_row : {T F O : Type 0} (answers : F → T → Bool → Type 0) (compares : O → T → T → Ordering → Type 0) (filter : Option F) (order : Option O) (old new : List (ListRow T)) (shown after : ℕ) (sorted : Bool) (selection : Option ℕ) (row : ListRow T) → AreKept answers compares filter order old shown sorted selection → IsAnswered answers filter row → IsWithRow compares order old row new → AreSorted compares order new → after ≡ shown + cond row.shown 1 0 → AreKept answers compares filter order new after true selection
-kept_with_row {T} answers compares filter order old new shown after sorted selection row kept answered put in_order counts =
+pub kept_with_row : {T F O : Type 0} (answers : F → T → Bool → Type 0) (compares : O → T → T → Ordering → Type 0) (filter : Option F) (order : Option O) (old new : List (ListRow T)) (count shown after : ℕ) (sorted : Bool) (selection : Option ℕ) (row : ListRow T) → AreKept answers compares filter order old count shown sorted selection → count + 1 < 2 ^ 63 → IsAnswered answers filter row → IsWithRow compares order old row new → AreSorted compares order new → after ≡ shown + cond row.shown 1 0 → AreKept answers compares filter order new (count + 1) after true selection
+kept_with_row {T} answers compares filter order old new count shown after sorted selection row kept few answered put in_order counts =
     let elements = with_row_elements compares order old row new put in
     let f : ListRow T → ℕ = λ r. cond r.shown 1 0 in
     let P : ListRow T → Type 0 = IsAnswered answers filter in
     let total : sum_by f new ≡ sum_by f (old ++ row ∷ []) = sum_by-IsPermutation f (old ++ row ∷ []) new elements in
     let parts : sum_by f (old ++ row ∷ []) ≡ sum_by f old + sum_by f (row ∷ []) = sum_by-append f old (row ∷ []) in
     let longer : length new ≡ length (old ++ row ∷ []) = length_permutation (old ++ row ∷ []) new elements in
+    let counted : count + 1 ≡ length new = omega (arith, kept.all_counted, longer, length-append old (row ∷ [])) in
     record {
+      all_counted = counted;
+      few = few;
       answered = All-permutation P (old ++ row ∷ []) new elements (All-append P old (row ∷ []) kept.answered (All-cons P row [] answered (All-nil P)));
       counted = counts ∙ ap (λ (n : ℕ). n + cond row.shown 1 0) kept.counted ∙ omega (arith, total, parts);
       in_order = λ _. in_order;
@@ -60,10 +63,12 @@ are_sorted_alike compares None xs ys same up = tt
 are_sorted_alike compares (Some o) xs ys same up = λ lt by. sorted_alike lt xs ys same (up lt by)
 
 -- all that a list keeps, when its rows were shown anew
-pub kept_filtered : {T F O : Type 0} (answers : F → T → Bool → Type 0) (compares : O → T → T → Ordering → Type 0) (filter filter' : Option F) (order : Option O) (old new : List (ListRow T)) (shown after : ℕ) (sorted : Bool) (selection : Option ℕ) → AreKept answers compares filter order old shown sorted selection → map row_content new ≡ map row_content old → AreAnswered answers filter' new → after ≡ count_shown new → AreKept answers compares filter' order new after sorted selection
-kept_filtered {T} answers compares filter filter' order old new shown after sorted selection kept same answered counted =
+pub kept_filtered : {T F O : Type 0} (answers : F → T → Bool → Type 0) (compares : O → T → T → Ordering → Type 0) (filter filter' : Option F) (order : Option O) (old new : List (ListRow T)) (count shown after : ℕ) (sorted : Bool) (selection : Option ℕ) → AreKept answers compares filter order old count shown sorted selection → map row_content new ≡ map row_content old → AreAnswered answers filter' new → after ≡ count_shown new → AreKept answers compares filter' order new count after sorted selection
+kept_filtered {T} answers compares filter filter' order old new count shown after sorted selection kept same answered counted =
     let as_long : length new ≡ length old = sym (length-map new row_content) ∙ ap (λ (zs : List T). length zs) same ∙ length-map old row_content in
     record {
+      all_counted = kept.all_counted ∙ sym as_long;
+      few = kept.few;
       answered = answered;
       counted = counted;
       in_order = λ is. are_sorted_alike compares order old new same (kept.in_order is);
@@ -89,12 +94,12 @@ all_shown {F} {T} answers rows = λ k d h.
     subst (λ (r : ListRow T). r.shown ≡ true) (sym (get_or-map shown_row rows k d d within)) refl
 
 -- all that a list keeps, when all its rows are shown
-pub kept_all_shown : {T F O : Type 0} (answers : F → T → Bool → Type 0) (compares : O → T → T → Ordering → Type 0) (filter : Option F) (order : Option O) (old new : List (ListRow T)) (shown after : ℕ) (sorted : Bool) (selection : Option ℕ) → AreKept answers compares filter order old shown sorted selection → new ≡ map shown_row old → after ≡ length new → AreKept answers compares None order new after sorted selection
-kept_all_shown {T} answers compares filter order old new shown after sorted selection kept all counted =
-    kept_filtered answers compares filter None order old new shown after sorted selection kept
+pub kept_all_shown : {T F O : Type 0} (answers : F → T → Bool → Type 0) (compares : O → T → T → Ordering → Type 0) (filter : Option F) (order : Option O) (old new : List (ListRow T)) (count shown : ℕ) (sorted : Bool) (selection : Option ℕ) → AreKept answers compares filter order old count shown sorted selection → new ≡ map shown_row old → AreKept answers compares None order new count count sorted selection
+kept_all_shown {T} answers compares filter order old new count shown sorted selection kept all =
+    kept_filtered answers compares filter None order old new count shown count sorted selection kept
     (ap (λ (rows : List (ListRow T)). map row_content rows) all ∙ shown_same old)
     (subst (λ (rows : List (ListRow T)). AreAnswered answers None rows) (sym all) (all_shown answers old))
-    (counted ∙ subst (λ (rows : List (ListRow T)). length rows ≡ count_shown rows) (sym all) (length-map old shown_row ∙ sym (count_all_shown old)))
+    (kept.all_counted ∙ sym (count_all_shown old) ∙ ap (λ (rows : List (ListRow T)). count_shown rows) (sym all))
 
 -- a list is told by its parts
 same_others : {T F O : Type 0} (s t : ListState T F O) → s.filter ≡ t.filter → s.order ≡ t.order → s.selection ≡ t.selection → s ≡ record t { rows = s.rows; scroll = s.scroll }

@@ -1,15 +1,14 @@
 -- A row that is put into sorted rows, after those that don't come after it.
-use Rattle.std.proofs.Common.{◌≡◌, ◌<◌, ◌≤◌, ◌+◌, ◌-◌, ◌⊎◌, ℕ, suc, zero, List, [], ◌∷◌, ◌++◌, length, get_or, take, drop, Bool, true, false, cond, arith, refl, sym, ap, ◌∙◌, subst, append_assoc, inl, inr, ⊎_elim}
-use Rattle.std.specs.Prelude.{filter, not, ◌&&◌, Result, Ok, Err, OnOk, is_ok, if◌then◌else◌}
+use Rattle.std.proofs.Common.{◌≡◌, ◌<◌, ◌≤◌, ◌+◌, ◌-◌, ℕ, suc, List, [], ◌∷◌, ◌++◌, length, get_or, take, drop, Bool, true, false, cond, arith, refl, sym, ap, ◌∙◌, subst, ⊎_elim}
+use Rattle.std.specs.Prelude.{filter, not, ◌&&◌, Result, Ok, Err, OnOk}
 use Rattle.std.specs.Cmp.{IsStrictWeakOrder}
 use Rattle.std.specs.List.{All, AllWithin, insert}
-use Rattle.std.specs.List.Sorted.{IsPermutation, IsPartitionPoint, IsPartitionedBy, IsSortedBy, IsStableBy, ties}
+use Rattle.std.specs.List.Sorted.{IsPartitionPoint, IsPartitionedBy, IsSortedBy, ties}
 use Rattle.std.proofs.lemmas.Bool.{cases_Bool, cases_lt, not-true, true_from_ne_false, false≢true}
 use Rattle.std.proofs.lemmas.List.{append-nil, get_or-drop, length-drop, take-append-drop}
 use Rattle.std.proofs.lemmas.List.Edits.{length-insert, get_or-insert_at, get_or-insert_below, get_or-insert_above}
 use Rattle.std.proofs.lemmas.List.Elements.{filter-append}
 use Rattle.std.proofs.lemmas.List.Sorted.{IsPermutation-insert, IsPermutation-to_front, IsPermutation-trans, sorted_far}
-use Rattle.mad_list_rows.specs.declared.list_rows.ListRow.{ListRow}
 use Rattle.mad_list_rows.specs.Answers.{IsStablySorted, by_content}
 
 -- rows are ordered as what they hold is
@@ -118,7 +117,7 @@ pub place_by_opposite : {X : Type 0} (t : X → Bool) (xs : List X) (i : ℕ) �
 place_by_opposite t xs i h =
     (λ k d low high. not-true (t (get_or xs k d)) (h.0 k d low high), λ k d low high. not-false (t (get_or xs k d)) (h.1 k d low high))
 
--- what holds of one of two lists, of the one that a result chose
-pub by_result : {A E X : Type 0} (r : Result A E) (P : List X → Type 0) (new ys zs : List X) → new ≡ (if is_ok r then ys else zs) → P ys → OnOk r (P new)
-by_result (Ok a) P new ys zs e h = subst P (sym e) h
-by_result (Err x) P new ys zs e h = tt
+-- what follows from what a call that went well ensures
+pub on_ok : {A E : Type 0} (r : Result A E) (P Q : Type 0) → (P → Q) → OnOk r P → OnOk r Q
+on_ok (Ok a) P Q f p = f p
+on_ok (Err e) P Q f p = tt

@@ -46,7 +46,8 @@ fn feed_twice(
     fed.map_err(|_| AllocError)
 }
 
-fn whole_rows(asked: &Asked) -> Result<CutOut, AllocError> {
+/// The rows of the whole text.
+pub fn whole_rows(asked: &Asked) -> Result<CutOut, AllocError> {
     let mut out = CutOut::new(asked.alloc, ROOM, ROOM, false)?;
     match asked
         .skin

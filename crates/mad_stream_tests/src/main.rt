@@ -5,11 +5,12 @@
 //! 1. [`pieces`]: what goes out after each piece, by `TextStream` and by the call that keeps no state.
 //! 2. [`cuts`]: each cut of a text, devices that fail after each byte, and sources.
 //! 3. [`markdown`]: the same of Markdown as people write it.
-//! 4. [`paper`]: a terminal that scrolls. [`live`]: what it shows of texts that grow.
+//! 4. [`paper`]: a terminal that scrolls. [`live`]: what it shows of texts that grow. [`live_faults`]: the same, of devices that fail.
 #![tactic(auto)]
 
 mod cuts;
 mod live;
+mod live_faults;
 mod markdown;
 mod paper;
 mod pieces;
@@ -61,6 +62,7 @@ fn answer_asked(name: &str, asked: &Asked) -> Result<String, AllocError> {
         "markdown" => markdown::went_out(asked),
         "markdown_cuts" => markdown::at_each_byte(asked),
         "live" | "live_styled" => live::after_each(asked),
+        "live_faults" => live_faults::gone_on_with(asked),
         "live_source" => live::source(asked),
         _ => String::from_str(asked.alloc, "no such call"),
     }

@@ -78,6 +78,24 @@ impl Paper {
         self.above.saturating_add(1).saturating_sub(self.height)
     }
 
+    /// The index of the cursor's row.
+    pub fn cursor(&self) -> usize {
+        self.above
+    }
+
+    /// Its rows from one on.
+    pub fn rows_from(&self, first: usize) -> &[String] {
+        self.rows.get(first..).unwrap_or(&[])
+    }
+
+    /// A row, blank where it has none of that index.
+    pub fn row(&self, index: usize) -> &str {
+        match self.rows.get(index) {
+            Some(row) => row.as_str(),
+            None => "",
+        }
+    }
+
     fn erase(&mut self) {
         if let Some(row) = self.rows.get_mut(self.above) {
             row.clear();

@@ -18,6 +18,7 @@ pub mod SpanLemmas
 pub mod SpanSteps
 pub mod StartLemmas
 pub mod UniqueLemmas
+pub mod WideLemmas
 pub mod WordLineLemmas
 pub mod WordLaws
 pub mod WordLemmas

@@ -10,7 +10,7 @@
 //! 5. [`wrapping`]: the lines, the fewest that fit; and the fewest in which words are whole.
 //! 6. [`starting`]: starts of lines that show that no fitting break has fewer.
 //! 7. [`checking`]: whether starts show that, without memory.
-//! 8. [`spans`]: tokens in a row that first fit puts alike.
+//! 8. [`spans`]: tokens in a row that first fit puts alike. `wide_tokens`: tokens, quick where most characters are wide.
 //! 9. [`laws`], [`examples`]: what follows from the definitions alone, and wrong answers that they refuse.
 #![tactic(auto)]
 
@@ -25,6 +25,7 @@ mod placing_words;
 pub mod room;
 pub mod spans;
 pub mod starting;
+mod wide_tokens;
 pub mod wrapped_line;
 pub mod wrapping;
 

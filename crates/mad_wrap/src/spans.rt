@@ -7,7 +7,8 @@ ghost use Rattle.mad_wrap.specs.Spans.{IsSpan, IsFullAt, IsFullHere};
 ghost use Rattle.mad_wrap.specs.declared.first_fit.Put.TheVariants.{OnLine, OnNext, InGap};
 
 use crate::first_fit::{FirstFit, Put, left_of};
-use mad_fit::{chunk_end, token_at};
+use crate::wide_tokens::quick_token_at;
+use mad_fit::chunk_end;
 use mad_md::Compound;
 
 /// Tokens of a compound in a row that first fit puts alike.
@@ -42,7 +43,7 @@ fn token_span(fit: FirstFit, compound: Compound, at: usize, max: usize) -> Span
     requires border { IsCharBoundary compound.src.now at }
     ensures { IsSpan max compound.entry at fit result }
 {
-    let token = token_at(compound, at, max);
+    let token = quick_token_at(compound, at, max);
     let mut after = fit;
     let put = after.put(token);
     Span {

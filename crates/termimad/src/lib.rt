@@ -260,6 +260,7 @@ pub use mad_view::draw_views;
 pub use mad_widths::TblFit;
 pub use mad_widths::TblFitResult;
 pub use markdown_layout::write_markdown_on;
+pub use markdown_reader::Link;
 pub use markdown_reader::Markdown;
 pub use markdown_stream::MarkdownStream;
 pub use markdown_stream::write_markdown_pieces_on;

@@ -2,7 +2,7 @@
 //!
 //! The words of a style come after `: `, as a skin has them.
 
-use crate::crops;
+use crate::{bars, crops};
 use mad_draw::{
     BORDER_STYLE_BLAND, BORDER_STYLE_HALF_WIDTH_OUTSIDE, BORDER_STYLE_MIDDLE_ROUND_LINE,
     BORDER_STYLE_MIDDLE_SQUARE_LINE, Filling, ProgressBar, Rect, RectBorderStyle, WriteSpaced,
@@ -51,7 +51,7 @@ pub fn first_char(text: &str) -> char {
 pub fn draws(name: &str) -> bool {
     matches!(
         name,
-        "rect" | "spaced" | "crop" | "filling" | "unstyled" | "spaces" | "background"
+        "rect" | "beside" | "spaced" | "crop" | "filling" | "unstyled" | "spaces" | "background"
     )
 }
 
@@ -60,6 +60,7 @@ pub fn draw(alloc: Global, out: &mut CutOut, call: &str, text: &str) -> Result<(
     let words = words_of(alloc, call)?;
     match call.split(' ').next().unwrap_or("") {
         "rect" => draw_rect(alloc, out, &words),
+        "beside" => bars::draw(alloc, out, &words, text),
         "spaced" => write_spaced(alloc, out, &words, text),
         "crop" => crops::write(alloc, out, &words, text),
         _ => fill(alloc, out, &words, text),
@@ -80,8 +81,8 @@ fn border_of(words: &str) -> RectBorderStyle {
     }
 }
 
-// The area of four numbers.
-fn area_of(numbers: &[usize]) -> Option<Area> {
+/// The area of four numbers.
+pub fn area_of(numbers: &[usize]) -> Option<Area> {
     let [left, top, width, height] = *numbers else {
         return None;
     };

@@ -4,13 +4,14 @@
 //! In the order of the work:
 //!
 //! 1. [`devices`]: what a device takes of a drawing, and that it may fail after each byte.
-//! 2. [`drawings`]: rectangles, fillings, texts in a place of some columns, progress bars.
+//! 2. [`drawings`]: rectangles, fillings, texts in a place of some columns, progress bars. [`bars`]: rows beside a scroll bar.
 //! 3. [`crops`]: the calls of a crop writer.
 //! 4. [`screens`]: what a screen shows of a drawing.
 //! 5. [`layouts`]: the calls that lay out. [`words`] and [`skins`] are what they are given, and [`pictures`] what they answer.
 //! 6. [`lines`], [`wraps`], [`fits`], [`tables`], [`plain`]: lines, wraps of one composite, what is fitted to a width, tables, plain texts.
 #![tactic(auto)]
 
+mod bars;
 mod crops;
 mod devices;
 mod drawings;

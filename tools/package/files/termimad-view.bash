@@ -2,7 +2,7 @@
 _termimad_view() {
     local word=${COMP_WORDS[COMP_CWORD]} numbers
     if [ "$COMP_CWORD" -eq 1 ]; then
-        mapfile -t COMPREPLY < <(compgen -W "markdown text stream live inline area" -- "$word")
+        mapfile -t COMPREPLY < <(compgen -W "markdown markdown-stream text stream live inline area" -- "$word")
         return
     fi
     case ${COMP_WORDS[1]} in

@@ -1,4 +1,4 @@
-use Rattle.std.proofs.Common.{◌≡◌, ◌∙◌, cond, false, true, Bool, ap, subst, sym}
+use Rattle.std.proofs.Common.{◌∙◌, cond, Bool, ap, subst, sym}
 use Rattle.mad_list_rows.specs.Answers.{IsAnswered}
 use Rattle.mad_list_rows.specs.Scrolling.{bottom_scroll, scrolled_to}
 use Rattle.mad_list_rows.specs.States.{ListState}

@@ -1,0 +1,13 @@
+use Rattle.std.proofs.Common.{◌≡◌, drop}
+use Rattle.std.specs.Str.Iter.{char_indices_offset, char_indices_rest}
+use Rattle.mad_md.specs.Flagged.{flags_of}
+use Rattle.mad_fit.proofs.TokenLemmas.{IsFront}
+use Rattle.mad_wrap.proofs.wide_tokens.wide_token_at.Given as goal
+
+abbrev pub invariant-loop-index : goal.invariant-loop-index
+invariant-loop-index l =
+    let n = char_indices_offset l.index-iterator in
+    record {
+      front : IsFront l.max (flags_of l.compound) (drop l.start l.compound.src.now) n l.blank l.width;
+      position : drop n (drop l.start l.compound.src.now) ≡ char_indices_rest l.index-iterator;
+    }
