@@ -245,10 +245,47 @@ def refusals(w):
 
 @tried
 def several_files(w):
-    begin(w, "text.md emoji.md")
-    assert "text.md" in w.shown()[23]
+    (w.folder / "other.md").write_text("# The other\n\nIts text.\n")
+    begin(w, "text.md other.md")
+    assert "text.md (1 of 2)" in w.shown()[23], w.shown()
+    first = w.still()
+    w.type(":")
+    assert until(lambda: w.shown()[23] == ":"), w.shown()
+    w.type("n")
+    assert until(lambda: "other.md (2 of 2)" in w.shown()[23]), w.shown()
+    w.type(":n")
+    assert "The other" in w.still()[0] and "(2 of 2)" in w.shown()[23], w.shown()
+    w.resize(60, 20)
+    assert until(lambda: "(2 of 2)" in w.shown()[19]), w.shown()
+    w.resize(80, 24)
+    w.type(":p")
+    same(w.still(), first)
     end(w)
-    assert any("of 2 files the first is shown" in row for row in w.shown()), w.shown()
+
+
+@tried
+def several_pipes(w):
+    """Each is read once, when it is first shown."""
+    w.run(f"cat other.md | {PAGE} - <(cat text.md) - other.md")
+    for keys, name, row in (("", "standard input (1 of 4)", "The other"), (":n", "(2 of 4)", "A text"), (":n", "standard input (3 of 4)", "The other"),
+                            (":n", "other.md (4 of 4)", "The other"), (":p", "(3 of 4)", "The other"), (":p", "(2 of 4)", "A text")):
+        w.type(keys)
+        assert until(lambda: name in w.shown()[23] and row in w.shown()[0]), (name, w.shown())
+    stop(w)
+    go_on(w)
+    w.type(":n")
+    assert until(lambda: "(3 of 4)" in w.shown()[23]), w.shown()
+    quit_stopped(w)
+    same(in_shell(w, f"cat other.md | {PAGE} other.md - text.md"), (in_shell(w, f"{PAGE} other.md; {PAGE} other.md; {PAGE} text.md")[0], b""))
+
+
+@tried
+def file_that_fails(w):
+    (w.folder / "latin.txt").write_bytes(b"caf\xe9\n")
+    begin(w, "text.md latin.txt")
+    w.type(":n")
+    same(w.ended(), 3)
+    assert until(lambda: "page: that is latin.txt" in w.shown()), w.shown()
 
 
 def in_shell(w, line):

@@ -3,7 +3,7 @@
 use std::alloc::Global;
 use termimad::screen::Screen;
 use termimad::{Area, Error, FmtText, MadSkin, Markdown, ScriptSource, TestTerminal, draw_text_in};
-use termimad_page_run::{Grammar, Sheet, run};
+use termimad_page_run::{Files, Grammar, Sheet, run};
 
 const COLUMNS: u16 = 72;
 
@@ -39,6 +39,7 @@ pub fn page_screen(alloc: Global, text: &str) -> Result<Screen, Error> {
         skin: &skin,
         columns: COLUMNS,
         rows: PAGE_ROWS,
+        files: Files::NONE,
     };
     let mut terminal = TestTerminal::new(alloc, COLUMNS, PAGE_ROWS);
     run(

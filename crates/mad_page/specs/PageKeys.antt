@@ -9,11 +9,12 @@ use Rattle.mad_term.specs.declared.mouse.MouseEvent.{MouseEvent}
 use Rattle.mad_term.specs.declared.mouse.MouseEventKind.{MouseEventKind}
 use Rattle.mad_page.specs.Pages.{above, at_bar, at_end, at_row, below, body_rows, is_on_bar}
 use Rattle.mad_page.specs.declared.commands.Ask.{Ask}
-use Rattle.mad_page.specs.declared.commands.Ask.TheVariants.{Nothing, Search, Next, Previous, NextHeader, PreviousHeader, Forget, Help, Links, Contents, Size, Quit}
+use Rattle.mad_page.specs.declared.commands.Ask.TheVariants.{Nothing, Search, Next, Previous, NextHeader, PreviousHeader, Forget, Help, Links, Contents, NextFile, PreviousFile, Size, Quit}
 use Rattle.mad_page.specs.declared.commands.Command.{Command}
-use Rattle.mad_page.specs.declared.commands.Command.TheVariants.{Moves, Counts, Asks}
+use Rattle.mad_page.specs.declared.commands.Command.TheVariants.{Moves, Counts, Colon, Asks}
 use Rattle.mad_page.specs.declared.commands.Motion.{Motion}
 use Rattle.mad_page.specs.declared.commands.Motion.TheVariants as Motion
+use Rattle.mad_page.specs.declared.page.Files.{Files}
 use Rattle.mad_page.specs.declared.page.Page.{Page}
 
 -- ---- which key says what
@@ -32,7 +33,7 @@ char_ask c =
     else if c == 113 then Quit
     else Nothing
 
--- what a character says, by its code: `j` `e`, `k` `y`, space, `b`, `d`, `u`, `g`, `G`, digits
+-- what a character says, by its code: `j` `e`, `k` `y`, space, `b`, `d`, `u`, `g`, `G`, digits, `:`
 abbrev pub char_command : ℕ → Command
 char_command c =
     if c == 106 || c == 101 then Moves Motion.RowDown
@@ -44,6 +45,7 @@ char_command c =
     else if c == 103 then Moves Motion.Start
     else if c == 71 then Moves Motion.End
     else if nat_le 48 c && nat_le c 57 then Counts (c - 48)
+    else if c == 58 then Colon
     else Asks (char_ask c)
 
 -- what a key without modifiers says
@@ -92,6 +94,22 @@ is_break key = key.modifiers.0 == 2 && is_c key.code
     is_c (Char c) = c == 99
     is_c code = false
 
+-- what a character asks for after a colon: `n` the next file and `p` the one before, where there is one, and `q` the end
+abbrev pub named_file : Files → ℕ → Ask
+named_file files c =
+    if (c == 110) && files.has_next then NextFile
+    else if (c == 112) && files.has_previous then PreviousFile
+    else if c == 113 then Quit
+    else Nothing
+
+-- what a key asks for there: that, without modifiers, and Control with `c` the end
+abbrev pub file_ask : Files → KeyEvent → Ask
+file_ask files key = if is_break key then Quit else if key.modifiers.0 == 0 then named_by key.code else Nothing
+  where
+    named_by : KeyCode → Ask
+    named_by (Char c) = named_file files c
+    named_by code = Nothing
+
 -- ---- what is done
 
 -- a page after a key, and what the key asks for
@@ -130,10 +148,14 @@ uncounted p = record p { count = 0 }
 abbrev pub after_command : Command → Page → Turn
 after_command (Moves motion) p = record { page = uncounted (moved motion p); ask = Nothing }
 after_command (Counts digit) p = record { page = with_digit p digit; ask = Nothing }
+after_command Colon p = record { page = record (uncounted p) { has_colon = true }; ask = Nothing }
 after_command (Asks ask) p = record { page = uncounted p; ask = ask }
 
+-- after a colon the key names a file; the colon too is for the next key alone
 abbrev pub after_key : KeyEvent → Page → Turn
-after_key key p = after_command (command_of key) p
+after_key key p =
+    if p.has_colon then record { page = record p { has_colon = false }; ask = file_ask p.files key }
+    else after_command (command_of key) p
 
 -- what the left button does on the bar: the page goes where it is pressed, and follows it until it comes up
 abbrev pub pressed : ℕ → ℕ → Page → Page
@@ -156,4 +178,4 @@ after_mouse mouse p = after_kind mouse.kind mouse.column mouse.row p
 
 -- the text and the screen are as before
 abbrev pub IsSameScreen : Page → Page → Type 0
-IsSameScreen old new = new ≡ record old { top = new.top; count = new.count; holds_bar = new.holds_bar }
+IsSameScreen old new = new ≡ record old { top = new.top; count = new.count; holds_bar = new.holds_bar; has_colon = new.has_colon }

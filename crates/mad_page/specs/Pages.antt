@@ -1,6 +1,16 @@
 -- A text's rows on a screen, and how they are scrolled.
-use Rattle.std.specs.Prelude.{ℕ, ◌+◌, ◌-◌, ◌*◌, ◌/◌, ◌==◌, ◌&&◌, nat_le, nat_lt, min, max, Bool, if◌then◌else◌}
+use Rattle.std.specs.Prelude.{ℕ, ◌+◌, ◌-◌, ◌*◌, ◌/◌, ◌==◌, ◌&&◌, nat_le, nat_lt, codes, min, max, Bool, true, false, List, Option, Some, None, if◌then◌else◌}
+use Rattle.std.specs.Str.{bytes_eq}
+use Rattle.mad_page.specs.declared.page.Files.{Files}
 use Rattle.mad_page.specs.declared.page.Page.{Page}
+
+-- the files that a word names: the first in a row has a next one, the last one before it, and any other has both
+abbrev pub files_named : List ℕ → Option Files
+files_named word =
+    if bytes_eq word (codes "first") then Some (record { has_next = true; has_previous = false })
+    else if bytes_eq word (codes "between") then Some (record { has_next = true; has_previous = true })
+    else if bytes_eq word (codes "last") then Some (record { has_next = false; has_previous = true })
+    else None
 
 -- the rows of the screen that the text has: all but the last one
 abbrev pub body_rows : Page → ℕ

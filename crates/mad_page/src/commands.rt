@@ -1,8 +1,9 @@
 //! Which key says what.
 
 ghost use Rattle.std.specs.Prelude.{◌≡◌};
-ghost use Rattle.mad_page.specs.PageKeys.{char_ask, char_command, command_of, control_command, controlled_command, is_break, plain_command};
+ghost use Rattle.mad_page.specs.PageKeys.{char_ask, char_command, command_of, control_command, controlled_command, file_ask, is_break, named_file, plain_command};
 
+use crate::page::Files;
 use mad_term::{KeyCode, KeyEvent, KeyModifiers};
 
 /// How a key scrolls.
@@ -49,6 +50,10 @@ pub enum Ask {
     Links,
     /// The text's headers, to choose one.
     Contents,
+    /// The next file.
+    NextFile,
+    /// The file before.
+    PreviousFile,
     /// The size of the screen.
     Size,
     /// The end.
@@ -62,6 +67,8 @@ pub enum Command {
     Moves(Motion),
     /// A digit of a number.
     Counts(u8),
+    /// A colon, after which a key names a file.
+    Colon,
     /// Something else, or nothing.
     Asks(Ask),
 }
@@ -75,6 +82,7 @@ pub enum Command {
 /// | `d`, Control-D; `u`, Control-U | half a page |
 /// | `g`, Home; `G`, End | the start, the end |
 /// | digits | a number |
+/// | `:` | the next key names a file: see [`file_ask`] |
 /// | `/`, `n`, `N`, Esc | a search, its next row, the one before; to forget it |
 /// | `}` `]`; `{` `[`; `t` | the next header, the one before; the contents |
 /// | `?` `h`; `l` | help; the addresses of links |
@@ -98,6 +106,32 @@ pub fn is_break(key: KeyEvent) -> bool
     ensures { result ≡ is_break key }
 {
     key.modifiers == KeyModifiers::CONTROL && key.code == KeyCode::Char('c')
+}
+
+/// What a key asks for after a colon: `n` the next file and `p` the one before, where there is one; `q` and Control-C the end. Other keys ask for
+/// nothing.
+pub fn file_ask(files: Files, key: KeyEvent) -> Ask
+    ensures { result ≡ file_ask files key }
+{
+    if is_break(key) {
+        return Ask::Quit;
+    }
+    match key.code {
+        KeyCode::Char(c) if key.modifiers == KeyModifiers::NONE => named_file(files, c),
+        _ => Ask::Nothing,
+    }
+}
+
+// What a character asks for after a colon.
+fn named_file(files: Files, c: char) -> Ask
+    ensures { result ≡ named_file files c }
+{
+    match c {
+        'n' if files.has_next => Ask::NextFile,
+        'p' if files.has_previous => Ask::PreviousFile,
+        'q' => Ask::Quit,
+        _ => Ask::Nothing,
+    }
 }
 
 // What a key without modifiers says.
@@ -141,6 +175,7 @@ fn char_command(c: char) -> Command
         'g' => Command::Moves(Motion::Start),
         'G' => Command::Moves(Motion::End),
         '0'..='9' => Command::Counts(c as u8 - b'0'),
+        ':' => Command::Colon,
         _ => Command::Asks(char_ask(c)),
     }
 }

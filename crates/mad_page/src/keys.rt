@@ -3,7 +3,7 @@
 ghost use Rattle.std.specs.Prelude.{◌≡◌};
 ghost use Rattle.mad_page.specs.PageKeys.{HasTurned, IsSameScreen, after_command, after_key, after_mouse, dragged, moved, pressed, times, with_digit};
 
-use crate::commands::{Ask, Command, Motion, command_of};
+use crate::commands::{Ask, Command, Motion, command_of, file_ask};
 use crate::page::Page;
 use mad_term::{KeyEvent, MouseButton, MouseEvent, MouseEventKind};
 
@@ -11,11 +11,16 @@ use mad_term::{KeyEvent, MouseButton, MouseEvent, MouseEventKind};
 const WHEEL_ROWS: usize = 3;
 
 impl Page {
-    /// Does what a key says: it scrolls the page, or answers what it asks for. A number that was typed is for the next key alone.
+    /// Does what a key says: it scrolls the page, or answers what it asks for. A number that was typed is for the next key alone, and so is a
+    /// colon.
     pub fn apply_key(&mut self, key: KeyEvent) -> Ask
         ensures turned { HasTurned (after_key key self.old) self.new result }
         ensures screen { IsSameScreen self.old self.new }
     {
+        if self.has_colon {
+            self.has_colon = false;
+            return file_ask(self.files, key);
+        }
         self.apply_command(command_of(key))
     }
 
@@ -48,6 +53,11 @@ impl Page {
             }
             Command::Counts(digit) => {
                 self.add_digit(digit);
+                Ask::Nothing
+            }
+            Command::Colon => {
+                self.count = 0;
+                self.has_colon = true;
                 Ask::Nothing
             }
             Command::Asks(ask) => {

@@ -9,5 +9,5 @@ mod commands;
 mod keys;
 mod page;
 
-pub use commands::{Ask, Command, Motion, command_of, is_break};
-pub use page::Page;
+pub use commands::{Ask, Command, Motion, command_of, file_ask, is_break};
+pub use page::{Files, Page};

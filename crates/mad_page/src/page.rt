@@ -1,7 +1,46 @@
 //! The screen, the text's rows and the one on top.
 
 ghost use Rattle.std.specs.Prelude.{◌≡◌};
-ghost use Rattle.mad_page.specs.Pages.{above, at_bar, at_end, at_row, below, body_rows, in_sight, is_on_bar, percent, shows_row};
+ghost use Rattle.mad_page.specs.Pages.{above, at_bar, at_end, at_row, below, body_rows, files_named, in_sight, is_on_bar, percent, shows_row};
+
+/// Which files there are beside that of the text.
+#[derive(Clone, Copy, Debug, PartialEq, Eq)]
+pub struct Files {
+    /// Whether one comes after it.
+    pub has_next: bool,
+    /// Whether one comes before it.
+    pub has_previous: bool,
+}
+
+impl Files {
+    /// None beside it.
+    pub const NONE: Files = Files {
+        has_next: false,
+        has_previous: false,
+    };
+
+    /// Those that a word names: of several files in a row the first has a next one, the last one before it, and any other has both. None of
+    /// another word than `first`, `between` and `last`.
+    pub fn named(word: &str) -> Option<Files>
+        ensures { result ≡ files_named word.now }
+    {
+        match word {
+            "first" => Some(Files {
+                has_next: true,
+                has_previous: false,
+            }),
+            "between" => Some(Files {
+                has_next: true,
+                has_previous: true,
+            }),
+            "last" => Some(Files {
+                has_next: false,
+                has_previous: true,
+            }),
+            _ => None,
+        }
+    }
+}
 
 /// A text's rows on a screen, whose last row is left free.
 #[derive(Clone, Copy, Debug, PartialEq, Eq)]
@@ -18,6 +57,10 @@ pub struct Page {
     pub count: usize,
     /// Whether the mouse holds the bar.
     pub holds_bar: bool,
+    /// Whether a colon was typed, so that the next key names a file.
+    pub has_colon: bool,
+    /// Which files there are to name.
+    pub files: Files,
 }
 
 impl Page {

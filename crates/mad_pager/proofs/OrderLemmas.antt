@@ -26,16 +26,18 @@ use Rattle.mad_field.specs.Keys as keys
 use Rattle.mad_page.specs.PageKeys.{after_command, after_key, after_kind, command_of, moved}
 use Rattle.mad_page.specs.Pages.{in_sight, is_on_bar, shows_row}
 use Rattle.mad_page.specs.declared.commands.Command.{Command}
-use Rattle.mad_page.specs.declared.commands.Command.TheVariants.{Moves, Counts, Asks}
+use Rattle.mad_page.specs.declared.commands.Command.TheVariants.{Moves, Counts, Colon, Asks}
 use Rattle.mad_page.specs.declared.commands.Motion.{Motion}
 use Rattle.mad_page.specs.declared.commands.Motion.TheVariants as motion
 use Rattle.mad_page.specs.declared.commands.Ask.{Ask}
 use Rattle.mad_page.specs.declared.commands.Ask.TheVariants.{Search, Next, Previous, NextHeader, PreviousHeader, Forget}
 use Rattle.mad_search.specs.Headers.{next_header, previous_header}
 use Rattle.mad_pager.specs.declared.sizes.ScreenSize.{ScreenSize}
+use Rattle.mad_page.specs.declared.page.Files.{Files}
 use Rattle.mad_page.specs.declared.page.Page.{Page}
 use Rattle.mad_format.specs.declared.line.FmtLine.{FmtLine}
 use Rattle.mad_layout.specs.declared.skin.MadSkin.{MadSkin}
+use Rattle.mad_pager.proofs.PagerSteps.{turn_after}
 use Rattle.mad_pager.specs.Screens.{IsFieldInRow, IsOrderly, TakeColumns}
 use Rattle.mad_pager.specs.Sessions.{State, at_found, at_header, IsAnyKeyStep, IsAsked, IsEventStep, IsKeyStep, IsLaidAnew, IsLaidFor, IsMovedTo, IsResized, IsSettled, IsStart, IsTypeStep, field_row, typed}
 
@@ -149,10 +151,11 @@ motion_place _ p = record { columns = refl; rows = refl }
 command_place : (command : Command) (p : Page) → IsSamePlace p (after_command command p).page
 command_place (Moves motion) p = let h = motion_place motion p in record { columns = h.columns; rows = h.rows }
 command_place (Counts digit) p = record { columns = refl; rows = refl }
+command_place Colon p = record { columns = refl; rows = refl }
 command_place (Asks ask) p = record { columns = refl; rows = refl }
 
 key_place : (key : KeyEvent) (p : Page) → IsSamePlace p (after_key key p).page
-key_place key p = command_place (command_of key) p
+key_place key p = elim p.has_colon as (λ (b : Bool). IsSamePlace p (turn_after b key p).page) [ true ↦ record { columns = refl; rows = refl } | false ↦ command_place (command_of key) p ]
 
 mouse_place : (kind : MouseEventKind) (x y : ℕ) (p : Page) → IsSamePlace p (after_kind kind x y p)
 mouse_place (mouse.Down button.Left) x y p = either_place (is_on_bar p x y) p _ _ (record { columns = refl; rows = refl }) (record { columns = refl; rows = refl })
@@ -297,8 +300,8 @@ event_order skin text FocusGained s new e h = same_order skin text s s new e ref
 event_order skin text FocusLost s new e h = same_order skin text s s new e refl (still s.page) (stays s.field h.field.typed) h
 
 -- a session is so from its start on
-pub start_order : (skin : MadSkin) (text : List LineContent) (columns rows : ℕ) (s : State) → IsStart skin text columns rows s → IsOrderly skin text s
-start_order skin text columns rows s h =
+pub start_order : (skin : MadSkin) (text : List LineContent) (columns rows : ℕ) (files : Files) (s : State) → IsStart skin text columns rows files s → IsOrderly skin text s
+start_order skin text columns rows files s h =
     let wide : s.page.columns ≡ columns = ap (λ (p : Page). p.columns) h.page in
     let high : s.page.rows ≡ rows = ap (λ (p : Page). p.rows) h.page in
     record {

@@ -6,6 +6,7 @@ use Rattle.mad_layout.specs.declared.skin.MadSkin.{MadSkin}
 use Rattle.mad_term.specs.declared.events.Event.{Event}
 use Rattle.mad_term.specs.declared.events.Event.TheVariants.{Key, Mouse, Resize, FocusGained, FocusLost}
 use Rattle.mad_term.specs.declared.keys.KeyEvent.{KeyEvent}
+use Rattle.mad_page.specs.declared.page.Files.{Files}
 use Rattle.mad_pager.specs.Screens.{IsOrderly}
 use Rattle.mad_pager.specs.Sessions.{State, HasSameText, IsEventStep, IsSettled, hears_size, state_of}
 use Rattle.mad_outline.specs.Sources.{Content, TextSaid, a_text, addresses, headers, content_lines, content_of, said_of, source_lines}
@@ -67,7 +68,7 @@ hearing_order FocusLost l h = h
 page_start_order : (name : List ℕ) (content : Content) (below over : Leaf) → IsPageStart name content below over → IsOrderlyLeaf over
 page_start_order name content below over start =
     let s : State = record over.state { told = None } in
-    let begun = start_order below.skin (content_lines content) below.state.page.columns below.state.page.rows s start.start in
+    let begun = start_order below.skin (content_lines content) below.state.page.columns below.state.page.rows below.state.page.files s start.start in
     order_at below.skin content over start.skin start.made (record { lines = begun.lines; field = record { area = begun.field.area; typed = begun.field.typed } })
 
 over_start_order : (overlay : Overlay) (below over : Leaf) → IsOverStart overlay below over → IsOrderlyLeaf over
@@ -124,8 +125,8 @@ pub view_settled_order : (old new : View) → IsViewSettled old new → IsOrderl
 view_settled_order old new h k = record { text = settled_leaf_order old.text new.text h.text k.text; over = settled_over_order old.over new.over h.over k.over }
 
 -- they are so from the start on
-pub opened_order : (skin : MadSkin) (name : List ℕ) (text : TextSaid) (columns rows : ℕ) (v : View) → IsOpened skin name text columns rows v → IsOrderlyView v
-opened_order skin name text columns rows v h = record {
-  text = order_at skin (a_text text) v.text h.dress h.content (start_order skin text.lines columns rows v.text.state h.start);
+pub opened_order : (skin : MadSkin) (name : List ℕ) (text : TextSaid) (columns rows : ℕ) (files : Files) (v : View) → IsOpened skin name text columns rows files v → IsOrderlyView v
+opened_order skin name text columns rows files v h = record {
+  text = order_at skin (a_text text) v.text h.dress h.content (start_order skin text.lines columns rows files v.text.state h.start);
   over = subst IsOrderlyOver (sym h.over) tt;
 }

@@ -4,6 +4,9 @@ use Rattle.mad_md.specs.Lines.{LineContent}
 use Rattle.mad_layout.specs.declared.skin.MadSkin.{MadSkin}
 use Rattle.mad_term.specs.declared.events.Event.{Event}
 use Rattle.mad_term.specs.declared.keys.KeyEvent.{KeyEvent}
+use Rattle.mad_page.specs.PageKeys as page
+use Rattle.mad_page.specs.PageKeys.{after_command, command_of, file_ask}
+use Rattle.mad_page.specs.declared.page.Page.{Page}
 use Rattle.mad_search.specs.KeptRows.{part_of}
 use Rattle.markdown_reader.specs.MarkdownSays.{LinkSaid}
 use Rattle.mad_pager.specs.Sessions.{State, HasSameText, IsResized, IsStart, state_of, turn_of}
@@ -37,9 +40,13 @@ answered answer made event over text new e is h = subst (λ (a : Answer). IsAnsw
 pub turn_so : (answer made : Answer) (event : Event) (over : Leaf) (turn : Turn) → made ≡ over_answer event over → made ≡ answer → turn ≡ turn_answered answer event over.state → turn ≡ turn_over event over
 turn_so answer made event over turn e is h = h ∙ ap (λ (a : Answer). turn_answered a event over.state) (sym is ∙ e)
 
--- what a key says on a page over the text, by whether something is being typed there, and whether a header is chosen
+-- what a key says on a page over the text, by whether something is being typed there or a colon was, and whether a header is chosen
 abbrev pub key_answer : KeyEvent → Bool → Bool → Answer
 key_answer key typing choice = if typing then Passes else key_over key choice
+
+-- a page after a key, by whether a colon was typed
+abbrev pub turn_after : Bool → KeyEvent → Page → page.Turn
+turn_after colon key p = if colon then record { page = record p { has_colon = false }; ask = file_ask p.files key } else after_command (command_of key) p
 
 -- ---- pages
 
@@ -49,14 +56,14 @@ untold s e = ap (λ (o : Option ScreenSize). let t : State = record s { told = o
 
 -- a page at its start, which hears what the text below had heard
 pub page_started : (name : List ℕ) (content : Content) (below : Leaf) (over new : Session) → over.text.skin.now ≡ below.skin → over.name.now ≡ name → content_of over.source ≡ content
-    → IsStart below.skin (content_lines content) below.state.page.columns below.state.page.rows (state_of over) → leaf_of new ≡ record (leaf_of over) { state = record (state_of over) { told = below.state.told } }
+    → IsStart below.skin (content_lines content) below.state.page.columns below.state.page.rows below.state.page.files (state_of over) → leaf_of new ≡ record (leaf_of over) { state = record (state_of over) { told = below.state.told } }
     → IsPageStart name content below (leaf_of new)
 page_started name content below over new skin named made start e =
     subst (λ (l : Leaf). IsPageStart name content below l) (sym e) (record {
       skin = skin;
       named = named;
       made = made;
-      start = subst (λ (s : State). IsStart below.skin (content_lines content) below.state.page.columns below.state.page.rows s) (sym (untold (state_of over) start.told)) start;
+      start = subst (λ (s : State). IsStart below.skin (content_lines content) below.state.page.columns below.state.page.rows below.state.page.files s) (sym (untold (state_of over) start.told)) start;
       told = refl;
     })
 

@@ -1,5 +1,5 @@
 -- A pager: a text, and a page over it while one is open.
-use Rattle.std.specs.Prelude.{◌≡◌, ℕ, ◌+◌, ◌-◌, ◌^◌, ◌==◌, ◌&&◌, min, Bool, true, false, List, length, Option, Some, None, option_map, slice_get, slice_index, if◌then◌else◌}
+use Rattle.std.specs.Prelude.{◌≡◌, ℕ, ◌+◌, ◌-◌, ◌^◌, ◌==◌, ◌&&◌, ◌||◌, min, Bool, true, false, List, length, Option, Some, None, option_map, slice_get, slice_index, if◌then◌else◌}
 use Rattle.mad_md.specs.Lines.{LineContent}
 use Rattle.mad_md.specs.Reading.{unread_text}
 use Rattle.mad_md.specs.Scan.{lines_of}
@@ -9,6 +9,7 @@ use Rattle.mad_page.specs.Pages.{body_rows, in_sight}
 use Rattle.mad_page.specs.declared.commands.Ask.TheVariants.{Forget, Help, Links, Contents, Quit}
 use Rattle.mad_page.specs.declared.commands.Command.{Command}
 use Rattle.mad_page.specs.declared.commands.Command.TheVariants.{Asks, Moves}
+use Rattle.mad_page.specs.declared.page.Files.{Files}
 use Rattle.mad_page.specs.declared.page.Page.{Page}
 use Rattle.mad_search.specs.KeptRows.{part_of}
 use Rattle.mad_term.specs.Trace.{Trace}
@@ -67,12 +68,12 @@ leaf_or text (Some over) = over
 abbrev pub shown : View → Leaf
 shown v = leaf_or v.text v.over
 
--- the start of a text on a screen of this size; no page is over it
-pub record IsOpened (skin : MadSkin) (name : List ℕ) (text : TextSaid) (columns rows : ℕ) (v : View) : Type 0 where
+-- the start of a text on a screen of this size, with these files beside it; no page is over it
+pub record IsOpened (skin : MadSkin) (name : List ℕ) (text : TextSaid) (columns rows : ℕ) (files : Files) (v : View) : Type 0 where
   pub dress : v.text.skin ≡ skin
   pub named : v.text.name ≡ name
   pub content : v.text.content ≡ a_text text
-  pub start : IsStart skin text.lines columns rows v.text.state
+  pub start : IsStart skin text.lines columns rows files v.text.state
   pub over : v.over ≡ None
 
 -- ---- what events do on a text
@@ -99,7 +100,7 @@ pub record IsPageStart (name : List ℕ) (content : Content) (below over : Leaf)
   pub skin : over.skin ≡ below.skin
   pub named : over.name ≡ name
   pub made : over.content ≡ content
-  pub start : IsStart below.skin (content_lines content) below.state.page.columns below.state.page.rows (record over.state { told = None })
+  pub start : IsStart below.skin (content_lines content) below.state.page.columns below.state.page.rows below.state.page.files (record over.state { told = None })
   pub told : over.state.told ≡ below.state.told
 
 -- the page of help is a text, which has no links
@@ -176,15 +177,15 @@ command_over key choice command = Passes
 abbrev pub key_over : KeyEvent → Bool → Answer
 key_over key choice = if is_break key then Passes else if choice && is_enter key then Takes else command_over key choice (command_of key)
 
--- what an event says there; while something is being typed, what it says of any text
+-- what an event says there; while something is being typed, and after a colon, what it says of any text
 abbrev pub over_answer : Event → Leaf → Answer
-over_answer (Key key) over = if over.state.is_typing then Passes else key_over key (has_choice over.content)
+over_answer (Key key) over = if over.state.is_typing || over.state.page.has_colon then Passes else key_over key (has_choice over.content)
 over_answer event over = Passes
 
 -- the header that is chosen after a key: each has one row of a page that shows one row
 abbrev pub choice_after : KeyEvent → State → ℕ → ℕ
 choice_after key s chosen =
-    (after_key key (record { columns = s.page.columns; rows = 2; height = length s.starts - 1; top = chosen; count = s.page.count; holds_bar = false })).page.top
+    (after_key key (record { columns = s.page.columns; rows = 2; height = length s.starts - 1; top = chosen; count = s.page.count; holds_bar = false; has_colon = false; files = s.page.files })).page.top
 
 abbrev pub content_chosen : KeyEvent → State → Content → Content
 content_chosen key s (headers text chosen) = headers text (choice_after key s chosen)

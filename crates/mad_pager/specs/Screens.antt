@@ -90,9 +90,11 @@ abbrev pub sought_words : Bool → List ℕ → List ℕ
 sought_words missing [] = []
 sought_words missing (c ∷ cs) = codes "  /" ++ (c ∷ cs) ++ (if missing then codes "  not found" else [])
 
--- what the status says: how much of the text was shown, its name, what is sought, and whether it wasn't found
+-- what the status says: how much of the text was shown, its name, what is sought, and whether it wasn't found; after a colon that alone
 abbrev pub status_words : List ℕ → State → List ℕ
-status_words name s = decimal (percent s.page) ++ codes "%  " ++ name ++ sought_words s.is_missing s.sought
+status_words name s =
+    if s.page.has_colon then codes ":"
+    else decimal (percent s.page) ++ codes "%  " ++ name ++ sought_words s.is_missing s.sought
 
 -- the skin of the status: no style, but that its characters are reversed
 abbrev pub reversed_skin : MadSkin

@@ -20,12 +20,15 @@ use Rattle.mad_rows.specs.RowStyles.{line_rules}
 use Rattle.mad_page.specs.PageKeys.{after_key, after_mouse, is_break}
 use Rattle.mad_page.specs.Pages.{in_sight, shows_row}
 use Rattle.mad_page.specs.declared.commands.Ask.{Ask}
-use Rattle.mad_page.specs.declared.commands.Ask.TheVariants.{Search, Next, Previous, NextHeader, PreviousHeader, Forget, Help, Links, Contents, Size, Quit}
+use Rattle.mad_page.specs.declared.commands.Ask.TheVariants.{Search, Next, Previous, NextHeader, PreviousHeader, Forget, Help, Links, Contents, NextFile, PreviousFile, Size, Quit}
+use Rattle.mad_page.specs.declared.page.Files.{Files}
 use Rattle.mad_page.specs.declared.page.Page.{Page}
 use Rattle.mad_search.specs.Headers.{next_header, previous_header}
 use Rattle.mad_search.specs.KeptRows.{ArePartStarts, row_in_parts}
 use Rattle.mad_search.specs.Searches.{IsNextRowIn, IsPreviousRowIn}
 use Rattle.mad_pager.specs.declared.session.Session.{Session}
+use Rattle.mad_pager.specs.declared.session.End.{End}
+use Rattle.mad_pager.specs.declared.session.End.TheVariants as end
 use Rattle.mad_pager.specs.declared.session.Overlay.{Overlay}
 use Rattle.mad_pager.specs.declared.session.Overlay.TheVariants as overlay
 use Rattle.mad_pager.specs.declared.session.Turn.{Turn}
@@ -91,11 +94,11 @@ IsLaidFor skin text columns lines = IsLayoutAt (line_rules (row_skin skin)) (Som
 abbrev pub AreStartsFor : MadSkin → List LineContent → ℕ → List ℕ → Type 0
 AreStartsFor skin text columns starts = ArePartStarts (line_rules (row_skin skin)) (columns - 1) text starts
 
--- the start of a text on a screen of this size: its first row is on top, nothing is being typed and nothing is sought
-pub record IsStart (skin : MadSkin) (text : List LineContent) (columns rows : ℕ) (s : State) : Type 0 where
+-- the start of a text on a screen of this size: its first row is on top, nothing is being typed and nothing is sought; these files are beside it
+pub record IsStart (skin : MadSkin) (text : List LineContent) (columns rows : ℕ) (files : Files) (s : State) : Type 0 where
   pub lines : IsLaidFor skin text columns s.lines
   pub starts : AreStartsFor skin text columns s.starts
-  pub page : s.page ≡ record { columns = columns; rows = rows; height = length s.lines; top = 0; count = 0; holds_bar = false }
+  pub page : s.page ≡ record { columns = columns; rows = rows; height = length s.lines; top = 0; count = 0; holds_bar = false; has_colon = false; files = files }
   pub field : s.field ≡ new_field (field_row columns rows)
   pub is_typing : s.is_typing ≡ false
   pub sought : s.sought ≡ []
@@ -222,7 +225,9 @@ IsEventStep skin text event s new = new ≡ s
 -- how the session goes on after what is asked for
 abbrev pub turn_asked : Ask → Turn
 turn_asked Size = AsksSize
-turn_asked Quit = Ends
+turn_asked Quit = Ends end.Quits
+turn_asked NextFile = Ends end.NextFile
+turn_asked PreviousFile = Ends end.PreviousFile
 turn_asked Help = Opens overlay.Help
 turn_asked Links = Opens overlay.Links
 turn_asked Contents = Opens overlay.Contents
@@ -230,7 +235,7 @@ turn_asked ask = Goes
 
 -- how it goes on after a key while something is being typed: Control with `c` ends it then too
 abbrev pub turn_typed : KeyEvent → Turn
-turn_typed key = if is_break key then Ends else Goes
+turn_typed key = if is_break key then Ends end.Quits else Goes
 
 -- how it goes on after a key
 abbrev pub turn_of_key : KeyEvent → State → Turn
@@ -241,10 +246,10 @@ abbrev pub turn_of : Event → State → Turn
 turn_of (Key key) s = turn_of_key key s
 turn_of event s = Goes
 
--- whether it ends
-abbrev pub ends : Turn → Bool
-ends Ends = true
-ends turn = false
+-- how it ends, if it does
+abbrev pub end_of : Turn → Option End
+end_of (Ends end) = Some end
+end_of turn = None
 
 -- whether the terminal is to be asked for its size
 abbrev pub asks_size : Turn → Bool

@@ -24,6 +24,7 @@ These close this page: **q**, **Esc**, **?** and **h**.
 |n, N|the next row that has it; the one before|
 |Esc|forgets it|
 |l|the addresses of the links on the screen|
+|:n, :p|the next file; the one before|
 |?, h|this page|
 |Control-L|draws anew|
 |Control-Z|stops; fg brings it back|

@@ -23,6 +23,7 @@ mod status;
 mod typing;
 
 pub use mad_outline::Source;
+pub use mad_page::Files;
 pub use pager::Pager;
-pub use session::{Overlay, Session, Turn};
+pub use session::{End, Overlay, Session, Turn};
 pub use sizes::ScreenSize;

@@ -60,7 +60,9 @@ impl<'s> Session<'s> {
         ensures { result ≡ over_answer event (leaf_of self.now) }
     {
         match event {
-            Event::Key(key) if !self.is_typing => key_over(key, self.has_choice()),
+            Event::Key(key) if !self.is_typing && !self.page.has_colon => {
+                key_over(key, self.has_choice())
+            }
             _ => Answer::Passes,
         }
     }
@@ -106,6 +108,8 @@ impl<'s> Session<'s> {
             top: chosen,
             count: self.page.count,
             holds_bar: false,
+            has_colon: false,
+            files: self.page.files,
         };
         page.apply_key(key);
         page.top

@@ -10,6 +10,7 @@ use crate::over::Answer;
 use crate::session::{Overlay, Session, Turn};
 use mad_layout::MadSkin;
 use mad_outline::{CONTENTS_NAME, LINKS_NAME, Source};
+use mad_page::Files;
 use mad_search::PagedText;
 use mad_term::{Error, Event, Out};
 use std::alloc::{AllocError, Global};
@@ -24,7 +25,7 @@ pub struct Pager<'s> {
 }
 
 impl<'s> Pager<'s> {
-    /// A pager that shows the start of a text on a screen of this size.
+    /// A pager that shows the start of a text on a screen of this size, with these files beside that of the text.
     ///
     /// # Errors
     ///
@@ -36,10 +37,12 @@ impl<'s> Pager<'s> {
         skin: &'s MadSkin,
         columns: u16,
         rows: u16,
+        files: Files,
     ) -> Result<Self, AllocError>
-        ensures { IfOk result (λ p. IsOpened skin.now name.now (text_said text.entry) columns rows (view_of p)) }
+        ensures { IfOk result (λ p. IsOpened skin.now name.now (text_said text.entry) columns rows files (view_of p)) }
     {
-        let text = Session::new(alloc, name, Source::Text(text), skin, columns, rows)?;
+        let source = Source::Text(text);
+        let text = Session::new(alloc, name, source, skin, columns, rows, files)?;
         Ok(Pager { text, over: None })
     }
 
@@ -161,7 +164,15 @@ impl<'s> Pager<'s> {
     {
         let page = self.text.page;
         let skin = self.text.text.skin;
-        let mut over = Session::new(alloc, name, source, skin, page.columns, page.rows)?;
+        let mut over = Session::new(
+            alloc,
+            name,
+            source,
+            skin,
+            page.columns,
+            page.rows,
+            page.files,
+        )?;
         over.told = self.text.told;
         Ok(over)
     }

@@ -3,14 +3,14 @@
 ghost use Rattle.std.specs.Prelude.{◌≡◌, IfOk, OnOk};
 ghost use Rattle.mad_page.specs.PageKeys.{after_key};
 ghost use Rattle.mad_outline.specs.Sources.{source_lines};
-ghost use Rattle.mad_pager.specs.Sessions.{asks_size, ends, opens, state_of, turn_of, turn_of_key, turn_asked, turn_typed, HasSameText, IsAsked, IsAnyKeyStep, IsKeyStep, IsEventStep, IsStart};
+ghost use Rattle.mad_pager.specs.Sessions.{asks_size, end_of, opens, state_of, turn_of, turn_of_key, turn_asked, turn_typed, HasSameText, IsAsked, IsAnyKeyStep, IsKeyStep, IsEventStep, IsStart};
 
 use crate::places::field_row;
 use crate::sizes::{ScreenSize, height_of, lay};
 use mad_field::InputField;
 use mad_layout::{FmtText, MadSkin};
 use mad_outline::Source;
-use mad_page::{Ask, Page, is_break};
+use mad_page::{Ask, Files, Page, is_break};
 use mad_term::{Event, KeyEvent};
 use std::alloc::{AllocError, Global};
 
@@ -25,6 +25,17 @@ pub enum Overlay {
     Contents,
 }
 
+/// How a session ends.
+#[derive(Clone, Copy, Debug, PartialEq, Eq)]
+pub enum End {
+    /// Nothing more is to be shown.
+    Quits,
+    /// The next file is to be shown.
+    NextFile,
+    /// The file before is to be shown.
+    PreviousFile,
+}
+
 /// How a session goes on after an event.
 #[derive(Clone, Copy, Debug, PartialEq, Eq)]
 pub enum Turn {
@@ -35,15 +46,18 @@ pub enum Turn {
     /// It goes on, and a page is to be opened over the text.
     Opens(Overlay),
     /// It ends.
-    Ends,
+    Ends(End),
 }
 
 impl Turn {
-    /// Whether it ends.
-    pub fn ends(self) -> bool
-        ensures { result ≡ ends self }
+    /// How it ends, if it does.
+    pub fn end(self) -> Option<End>
+        ensures { result ≡ end_of self }
     {
-        matches!(self, Turn::Ends)
+        match self {
+            Turn::Ends(end) => Some(end),
+            _ => None,
+        }
     }
 
     /// Whether the terminal is to be asked for its size.
@@ -92,7 +106,7 @@ pub struct Session<'s> {
 }
 
 impl<'s> Session<'s> {
-    /// A session that shows the start of a text on a screen of this size.
+    /// A session that shows the start of a text on a screen of this size, with these files beside that of the text.
     ///
     /// # Errors
     ///
@@ -104,11 +118,12 @@ impl<'s> Session<'s> {
         skin: &'s MadSkin,
         columns: u16,
         rows: u16,
+        files: Files,
     ) -> Result<Self, AllocError>
         ensures name { IfOk result (λ s. s.name ≡ name.entry) }
         ensures source { IfOk result (λ s. s.source ≡ source.entry) }
         ensures skin { IfOk result (λ s. s.text.skin.now ≡ skin.now) }
-        ensures start { IfOk result (λ s. IsStart skin.now (source_lines source.entry) columns rows (state_of s)) }
+        ensures start { IfOk result (λ s. IsStart skin.now (source_lines source.entry) columns rows files (state_of s)) }
     {
         let laid = lay(alloc, skin, source, columns)?;
         let page = Page {
@@ -118,6 +133,8 @@ impl<'s> Session<'s> {
             top: 0,
             count: 0,
             holds_bar: false,
+            has_colon: false,
+            files,
         };
         let field = InputField::new(alloc, field_row(columns, rows))?;
         Ok(Session {
@@ -216,7 +233,8 @@ impl<'s> Session<'s> {
                 self.forget();
                 Ok(())
             }
-            Ask::Size | Ask::Quit | Ask::Help | Ask::Links | Ask::Contents | Ask::Nothing => Ok(()),
+            Ask::Size | Ask::Quit | Ask::NextFile | Ask::PreviousFile => Ok(()),
+            Ask::Help | Ask::Links | Ask::Contents | Ask::Nothing => Ok(()),
         }
     }
 }
@@ -227,7 +245,9 @@ fn turn_asked(ask: Ask) -> Turn
 {
     match ask {
         Ask::Size => Turn::AsksSize,
-        Ask::Quit => Turn::Ends,
+        Ask::Quit => Turn::Ends(End::Quits),
+        Ask::NextFile => Turn::Ends(End::NextFile),
+        Ask::PreviousFile => Turn::Ends(End::PreviousFile),
         Ask::Help => Turn::Opens(Overlay::Help),
         Ask::Links => Turn::Opens(Overlay::Links),
         Ask::Contents => Turn::Opens(Overlay::Contents),
@@ -240,7 +260,7 @@ fn turn_typed(key: KeyEvent) -> Turn
     ensures { result ≡ turn_typed key }
 {
     if is_break(key) {
-        Turn::Ends
+        Turn::Ends(End::Quits)
     } else {
         Turn::Goes
     }

@@ -82,6 +82,8 @@ impl<'s> Session<'s> {
             top,
             count: self.page.count,
             holds_bar: self.page.holds_bar,
+            has_colon: self.page.has_colon,
+            files: self.page.files,
         };
         self.text = laid.text;
         self.starts = laid.starts;

@@ -1,4 +1,4 @@
-//! The last row of the screen: how much of the text was shown, its name, what is sought, and whether it wasn't found.
+//! The last row of the screen: how much of the text was shown, its name, what is sought, and whether it wasn't found; or a colon that was typed.
 
 ghost use Rattle.std.specs.Prelude.{◌≡◌, ◌++◌, IfOk, OnOk, string_bytes};
 ghost use Rattle.mad_term.specs.Trace.{TookWith};
@@ -37,6 +37,10 @@ impl Session<'_> {
     fn status_words(&self, alloc: Global) -> Result<String, AllocError>
         ensures { IfOk result (λ words. string_bytes words ≡ status_words self.now.name.now (state_of self.now)) }
     {
+        if self.page.has_colon {
+            let words = format!(in alloc; ":")?;
+            return Ok(words);
+        }
         let percent = self.page.percent();
         let mut words = format!(in alloc; "{percent}%  ")?;
         words.push_str(self.name)?;

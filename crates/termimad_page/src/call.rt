@@ -1,6 +1,6 @@
 //! What the arguments ask for.
 
-use termimad_page_run::Grammar;
+use termimad_page_run::{Files, Grammar};
 use termimad_run::parse_number;
 
 // The columns at which a whole text is written, where no number says others.
@@ -30,6 +30,8 @@ pub enum Place<'w> {
         columns: u16,
         /// Its rows.
         rows: u16,
+        /// Which files there are beside FILE.
+        files: Files,
     },
     /// On standard output, whole, at so many columns.
     Output {
@@ -38,7 +40,7 @@ pub enum Place<'w> {
     },
 }
 
-/// The call that the words after the program's name are: `page FILE COLUMNS ROWS [SKIN [NAME]]` or `whole FILE [SKIN [COLUMNS]]`, with
+/// The call that the words after the program's name are: `page FILE COLUMNS ROWS [SKIN [NAME [PLACE]]]` or `whole FILE [SKIN [COLUMNS]]`, with
 /// `--lines` before them where each line of the text stands for itself. None, where they are neither.
 pub fn parse_call(words: &[String]) -> Option<Call<'_>> {
     let (name, rest) = words.split_first()?;
@@ -61,6 +63,12 @@ fn parse_page(words: &[String], grammar: Grammar) -> Option<Call<'_>> {
     let [file, columns, rows, rest @ ..] = words else {
         return None;
     };
+    let (rest, files) = match rest {
+        [skin_and_name @ .., place] if rest.len() == 3 => {
+            (skin_and_name, Files::named(place.as_str())?)
+        }
+        _ => (rest, Files::NONE),
+    };
     let (skin, name) = last_words(rest)?;
     Some(Call {
         file: file.as_str(),
@@ -70,6 +78,7 @@ fn parse_page(words: &[String], grammar: Grammar) -> Option<Call<'_>> {
             name: name.unwrap_or(file.as_str()),
             columns: parse_number(columns.as_str())?,
             rows: parse_number(rows.as_str())?,
+            files,
         },
     })
 }

@@ -1,11 +1,26 @@
-//! How a run fails: what is said, and its status.
+//! How a run ends: its status, and what is said where it failed.
 
 use mad_term::{Error, Out, put_all};
 use std::io::ErrorKind;
+use termimad_page_run::End;
 use termimad_run::Failure;
 
 // The status of a program that writes where nobody reads: 128 and the number of the signal that ends others then.
 const UNREAD: u8 = 141;
+
+// The statuses after the keys for another file.
+const NEXT_FILE: u8 = 6;
+
+const PREVIOUS_FILE: u8 = 7;
+
+/// The status of a run that didn't fail.
+pub fn status(end: End) -> u8 {
+    match end {
+        End::Quits => 0,
+        End::NextFile => NEXT_FILE,
+        End::PreviousFile => PREVIOUS_FILE,
+    }
+}
 
 /// Why a run ended with a status other than 0.
 #[derive(Drop)]
@@ -51,7 +66,7 @@ fn line(failure: Failure) -> &'static [u8] {
     match failure {
         Failure::Io => b"termimad-page: the file can't be read, or the output failed\n",
         Failure::Usage => {
-            b"usage: termimad-page [--lines] page FILE COLUMNS ROWS [SKIN [NAME]] | [--lines] whole FILE [SKIN [COLUMNS]]\n"
+            b"usage: termimad-page [--lines] page FILE COLUMNS ROWS [SKIN [NAME [PLACE]]] | [--lines] whole FILE [SKIN [COLUMNS]]\n"
         }
         Failure::NotUtf8 => b"termimad-page: the file is not UTF-8\n",
         Failure::Skin => b"termimad-page: skin\n",

@@ -15,7 +15,7 @@ use std::process::ExitCode;
 fn main(rt: HostRuntime) -> ExitCode {
     let mut err = Stream::new(rt.stderr());
     match running::run_on_standard_streams(&rt) {
-        Ok(()) => ExitCode::from(0),
+        Ok(end) => ExitCode::from(failing::status(end)),
         Err(refusal) => ExitCode::from(failing::refuse(&mut err, refusal)),
     }
 }

@@ -9,16 +9,16 @@ use mad_term::{Error, Out, Stream};
 use markdown_layout::write_markdown_on;
 use std::io::{BufWriter, Error as IoError, ErrorKind};
 use std::{env, fs, io};
-use termimad_page_run::{Grammar, Sheet, run};
+use termimad_page_run::{End, Grammar, Sheet, run};
 use termimad_run::{Failure, skin_of};
 
-/// Does what the arguments ask for: keys come from standard input, and standard output gets what is shown.
+/// Does what the arguments ask for: keys come from standard input, and standard output gets what is shown. It answers how that ended.
 ///
 /// # Errors
 ///
 /// A fault of the file or of a stream, other arguments, a file that isn't UTF-8, a skin that is none, or out of memory. Or nobody reads
 /// standard output.
-pub fn run_on_standard_streams(rt: &HostRuntime) -> Result<(), Refusal> {
+pub fn run_on_standard_streams(rt: &HostRuntime) -> Result<End, Refusal> {
     let words = arguments(rt)?;
     let call = parse_call(words.as_slice()).ok_or(Refusal::Failed(Failure::Usage))?;
     let (mut skin, _) = skin_of(rt.alloc(), skin_word(&call))?;
@@ -30,6 +30,7 @@ pub fn run_on_standard_streams(rt: &HostRuntime) -> Result<(), Refusal> {
             name,
             columns,
             rows,
+            files,
         } => {
             let sheet = Sheet {
                 name,
@@ -38,14 +39,15 @@ pub fn run_on_standard_streams(rt: &HostRuntime) -> Result<(), Refusal> {
                 skin: &skin,
                 columns,
                 rows,
+                files,
             };
-            page(rt, &sheet)?;
+            Ok(page(rt, &sheet)?)
         }
         Place::Output { columns } => {
             write_whole(rt, text, call.grammar, &skin, usize::from(columns))?;
+            Ok(End::Quits)
         }
     }
-    Ok(())
 }
 
 // The word that the skin is made of: none for a skin without styles.
@@ -58,7 +60,7 @@ fn skin_word<'w>(call: &Call<'w>) -> Option<&'w str> {
 }
 
 // Pages a text.
-fn page(rt: &HostRuntime, sheet: &Sheet) -> Result<(), Error> {
+fn page(rt: &HostRuntime, sheet: &Sheet) -> Result<End, Error> {
     let mut input = Stream::new(rt.reader());
     let mut out = Stream::new(io::writer(rt));
     run(rt.alloc(), sheet, &mut input, &mut out)

@@ -1,28 +1,31 @@
 -- Bytes that are read one after the other, and their events.
-use Rattle.std.proofs.Common.{◌≡◌, ◌≢◌, ℕ, ◌+◌, ◌<◌, ◌≤◌, ◌==◌, ◌||◌, Bool, true, false, List, [], ◌∷◌, ◌++◌, take, drop, length, get_or, Option, Some, None, refl, ap, sym, ◌∙◌, subst, append_assoc, if◌then◌else◌}
+use Rattle.std.proofs.Common.{◌≡◌, ℕ, ◌+◌, ◌<◌, ◌≤◌, ◌==◌, ◌||◌, Bool, true, false, List, [], ◌∷◌, ◌++◌, take, drop, length, get_or, Option, Some, None, refl, ap, sym, ◌∙◌, subst, append_assoc, if◌then◌else◌}
 use Rattle.std.proofs.lemmas.List.{append-nil, take_more, take_all, take-append-drop}
 use Rattle.mad_term.specs.declared.events.Event.{Event}
 use Rattle.mad_term.specs.declared.events.Event.TheVariants.{Key}
 use Rattle.mad_keys.specs.Decoding.{ByteGives, BytesGive, PauseGives}
 use Rattle.mad_keys.specs.Readings.{listed, lone_escape}
 use Rattle.mad_keys.specs.Keys.{escape_key}
-use Rattle.mad_pager.proofs.PagerSteps.{key_answer}
+use Rattle.mad_page.specs.PageKeys.{after_key}
+use Rattle.mad_page.specs.declared.page.Page.{Page}
+use Rattle.mad_pager.proofs.PagerSteps.{key_answer, turn_after}
 use Rattle.mad_pager.specs.Pagers.{Leaf, View, IsStep, has_choice, turn_answered, turn_at, turn_in}
-use Rattle.mad_pager.specs.Sessions.{State, asks_size, ends}
+use Rattle.mad_pager.specs.Sessions.{State, asks_size, end_of, turn_asked}
+use Rattle.mad_pager.specs.declared.session.End.{End}
 use Rattle.mad_pager.specs.declared.session.Turn.{Turn}
 use Rattle.mad_pager.specs.declared.session.Turn.TheVariants.{Goes, AsksSize, Opens, Ends}
 use Rattle.termimad_page_run.specs.Blocks.{IsToldStep, IsToldDone, turn_told, IsSession, AreEventsDone, IsEndedIn}
 
 -- ---- how a session goes on
 
-pub ends_is : (turn : Turn) → ends turn ≡ true → turn ≡ Ends
-ends_is Ends h = refl
-ends_is Goes h = absurd (cc)
-ends_is AsksSize h = absurd (cc)
-ends_is (Opens overlay) h = absurd (cc)
+pub ends_is : (turn : Turn) (end : End) → end_of turn ≡ Some end → turn ≡ Ends end
+ends_is (Ends e) end h = let same : e ≡ end = cc in ap Ends same
+ends_is Goes end h = absurd (cc)
+ends_is AsksSize end h = absurd (cc)
+ends_is (Opens overlay) end h = absurd (cc)
 
-pub goes_on : (turn : Turn) → ends turn ≡ false → turn ≢ Ends
-goes_on turn h e = let f : ends Ends ≡ false = subst (λ (t : Turn). ends t ≡ false) e h in absurd (cc)
+pub none_some : (end : End) → None ≡ Some end → ⊥
+none_some end h = absurd (cc)
 
 -- ---- bytes
 
@@ -56,15 +59,15 @@ or_assoc false b c = refl
 
 -- one event alone
 event_done : (s : View) (event : Event) (new : View) (asks : Bool)
-    → IsStep event s new → turn_in event s ≢ Ends → asks ≡ false → IsSession s (event ∷ []) (asks || asks_size (turn_in event s)) new
+    → IsStep event s new → end_of (turn_in event s) ≡ None → asks ≡ false → IsSession s (event ∷ []) (asks || asks_size (turn_in event s)) new
 event_done s event new asks step goes none =
     (new, false, step, goes, ap (λ (b : Bool). b || asks_size (turn_in event s)) none ∙ sym (or_false (asks_size (turn_in event s))), (refl, refl))
 
 event_more : (s : View) (events : List Event) (asks : Bool) (mid : View) (event : Event) (new : View)
-    → IsSession s events asks mid → IsStep event mid new → turn_in event mid ≢ Ends
+    → IsSession s events asks mid → IsStep event mid new → end_of (turn_in event mid) ≡ None
     → IsSession s (events ++ event ∷ []) (asks || asks_size (turn_in event mid)) new
 event_more s [] asks mid event new (none, same) step goes =
-    subst (λ (m : View). IsStep event m new → turn_in event m ≢ Ends → IsSession s (event ∷ []) (asks || asks_size (turn_in event m)) new) (sym same)
+    subst (λ (m : View). IsStep event m new → end_of (turn_in event m) ≡ None → IsSession s (event ∷ []) (asks || asks_size (turn_in event m)) new) (sym same)
     (λ first on. event_done s event new asks first on none) step goes
 event_more s (e ∷ events) asks mid event new (next, others, one, first, is, rest) step goes =
     let x = asks_size (turn_in event mid) in (
@@ -78,7 +81,7 @@ event_more s (e ∷ events) asks mid event new (next, others, one, first, is, re
 
 -- what was told is done too
 told_done : (s : View) (events : List Event) (asks : Bool) (mid : View) (told : Option Event) (new : View)
-    → IsSession s events asks mid → IsToldStep told mid new → turn_told told mid ≢ Ends
+    → IsSession s events asks mid → IsToldStep told mid new → end_of (turn_told told mid) ≡ None
     → IsSession s (events ++ listed told) (asks || asks_size (turn_told told mid)) new
 told_done s events asks mid None new h same goes =
     subst (λ (b : Bool). IsSession s (events ++ []) b new) (sym (or_false asks))
@@ -86,7 +89,7 @@ told_done s events asks mid None new h same goes =
 told_done s events asks mid (Some event) new h step goes = event_more s events asks mid event new h step goes
 
 pub session_more : (s : View) (events : List Event) (asks : Bool) (mid : View) (told : Option Event) (new : View) (asked : Bool)
-    → IsSession s events asks mid → IsToldStep told mid new → turn_told told mid ≢ Ends → asked ≡ asks_size (turn_told told mid)
+    → IsSession s events asks mid → IsToldStep told mid new → end_of (turn_told told mid) ≡ None → asked ≡ asks_size (turn_told told mid)
     → IsSession s (events ++ listed told) (asks || asked) new
 session_more s events asks mid told new asked h step goes is =
     subst (λ (b : Bool). IsSession s (events ++ listed told) (asks || b) new) (sym is) (told_done s events asks mid told new h step goes)
@@ -95,24 +98,28 @@ session_more s events asks mid told new asked h step goes is =
 pause_more : (s : View) (events : List Event) (asks : Bool) (mid : View) (told : Option Event) (new : View)
     → IsSession s events asks mid → IsToldDone told mid new → IsSession s (events ++ listed told) asks new
 pause_more s events asks mid told new h (step, goes) =
-    let on : turn_told told mid ≢ Ends = λ e. let f : Goes ≡ Ends = sym goes ∙ e in absurd (cc) in
+    let on : end_of (turn_told told mid) ≡ None = ap end_of goes in
     subst (λ (b : Bool). IsSession s (events ++ listed told) b new) (ap (λ (t : Turn). asks || asks_size t) goes ∙ or_false asks)
     (told_done s events asks mid told new h step on)
 
--- Esc never ends a session
-typing_goes : (typing : Bool) → (if typing then Goes else Goes) ≡ Goes
-typing_goes true = refl
-typing_goes false = refl
+-- Esc never ends a session, nor does it after a colon
+colon_goes : (colon : Bool) (p : Page) → turn_asked (turn_after colon escape_key p).ask ≡ Goes
+colon_goes true p = refl
+colon_goes false p = refl
+
+key_goes : (typing : Bool) (p : Page) → (if typing then Goes else turn_asked (after_key escape_key p).ask) ≡ Goes
+key_goes true p = refl
+key_goes false p = colon_goes p.has_colon p
 
 -- nor does it on a page over the text
-over_goes : (typing choice : Bool) (s : State) → s.is_typing ≡ typing → turn_answered (key_answer escape_key typing choice) (Key escape_key) s ≡ Goes
-over_goes true choice s is = ap (λ (b : Bool). if b then Goes else Goes) is
-over_goes false true s is = refl
-over_goes false false s is = refl
+over_goes : (busy choice : Bool) (s : State) → turn_answered (key_answer escape_key busy choice) (Key escape_key) s ≡ Goes
+over_goes true choice s = key_goes s.is_typing s.page
+over_goes false true s = refl
+over_goes false false s = refl
 
 escape_goes : (over : Option Leaf) (text : Leaf) → turn_at over (Key escape_key) text ≡ Goes
-escape_goes None text = typing_goes text.state.is_typing
-escape_goes (Some over) text = over_goes over.state.is_typing (has_choice over.content) over.state refl
+escape_goes None text = key_goes text.state.is_typing text.state.page
+escape_goes (Some over) text = over_goes (over.state.is_typing || over.state.page.has_colon) (has_choice over.content) over.state
 
 pub pause_goes : (w : List ℕ) (s : View) → turn_told (lone_escape w) s ≡ Goes
 pause_goes [] s = refl
@@ -121,9 +128,9 @@ pause_goes (a ∷ b ∷ w) s = refl
 
 -- an event ends the session
 pub ended : (w block : List ℕ) (i : ℕ) (s : View) (events : List Event) (asks : Bool) (mid : View) (told : Option Event) (left : List ℕ)
-    → BytesGive w (take i block) (events ++ listed told) left → IsSession s events asks mid → turn_told told mid ≡ Ends → IsEndedIn w block s
-ended w block i s events asks mid None left read done ends = absurd (cc)
-ended w block i s events asks mid (Some event) left read done ends = record {
+    (end : End) → BytesGive w (take i block) (events ++ listed told) left → IsSession s events asks mid → turn_told told mid ≡ Ends end → IsEndedIn w block s end
+ended w block i s events asks mid None left end read done ends = absurd (cc)
+ended w block i s events asks mid (Some event) left end read done ends = record {
   front = take i block;
   rest = drop i block;
   whole = take-append-drop i block;

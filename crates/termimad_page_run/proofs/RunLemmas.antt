@@ -14,6 +14,7 @@ use Rattle.mad_outline.specs.Sources.{TextSaid}
 use Rattle.mad_pager.proofs.PagerOrder.{step_order, view_settled_order}
 use Rattle.mad_pager.specs.Pagers.{View, IsOpened, IsOrderlyView, IsViewShown}
 use Rattle.mad_pager.specs.declared.pager.Pager.{Pager}
+use Rattle.mad_pager.specs.declared.session.End.{End}
 use Rattle.termimad_page_run.specs.Blocks.{IsBlockDone, IsSession}
 use Rattle.termimad_page_run.specs.Runs.{AreTurns, EndsAtInput, IsBrokenOff, IsBrokenRun, IsPaged, IsTurn, IsTurned, Moment, block_room, moment, name_row, printed_text, row_char, said_in, sheet_said, shown_text}
 use Rattle.markdown_reader.specs.Markdown.{markdown_lines, markdown_links}
@@ -98,11 +99,11 @@ block_done v new waits left block buffer count asks old_input new_input old_out 
 -- ---- the end
 
 -- what is left at a `?` that made this error
-pub broken_exit : (v : View) (old_input new_input old_out new_out : Trace) (r : Result Unit Error) (e : Error) → IsErrAnd r (λ d. d ≡ e) → IsBrokenOff v e old_input new_input old_out new_out
-    → MatchResult r (λ _. IsTurned v old_input new_input old_out new_out) (λ d. IsBrokenOff v d old_input new_input old_out new_out)
+pub broken_exit : (v : View) (old_input new_input old_out new_out : Trace) (r : Result End Error) (e : Error) → IsErrAnd r (λ d. d ≡ e) → IsBrokenOff v e old_input new_input old_out new_out
+    → MatchResult r (λ end. IsTurned v end old_input new_input old_out new_out) (λ d. IsBrokenOff v d old_input new_input old_out new_out)
 broken_exit v old_input new_input old_out new_out r e is h =
     let q = err_from_is_err_and r is in
-    subst (λ (t : Result Unit Error). MatchResult t (λ _. IsTurned v old_input new_input old_out new_out) (λ d. IsBrokenOff v d old_input new_input old_out new_out)) (sym (q.1 ∙ ap Err q.2)) h
+    subst (λ (t : Result End Error). MatchResult t (λ end. IsTurned v end old_input new_input old_out new_out) (λ d. IsBrokenOff v d old_input new_input old_out new_out)) (sym (q.1 ∙ ap Err q.2)) h
 
 -- a text that is shown: it is made steady of what is printable of it
 pub shown_by : (text printed shown : List ℕ) → printed ≡ printed_text text → shown ≡ encode_utf8_all (steady_text (chars printed)) → shown ≡ shown_text text
@@ -120,16 +121,16 @@ markdown_said grammar text said links is e f =
     ∙ (ap (λ (l : List LinkSaid). let s : TextSaid = record { lines = markdown_lines text; links = Some l } in s) f ∙ ap (λ (g : Grammar). said_in g text) (sym is))
 
 -- what was opened, along what is equal
-pub opened_along : (sheet : Sheet) (v : View) (name : List ℕ) (text : TextSaid) → name ≡ name_row sheet.name.now → text ≡ sheet_said sheet → IsOpened sheet.skin.now name text sheet.columns sheet.rows v
-    → IsOpened sheet.skin.now (name_row sheet.name.now) (sheet_said sheet) sheet.columns sheet.rows v
+pub opened_along : (sheet : Sheet) (v : View) (name : List ℕ) (text : TextSaid) → name ≡ name_row sheet.name.now → text ≡ sheet_said sheet → IsOpened sheet.skin.now name text sheet.columns sheet.rows sheet.files v
+    → IsOpened sheet.skin.now (name_row sheet.name.now) (sheet_said sheet) sheet.columns sheet.rows sheet.files v
 opened_along sheet v name text row said h =
-    subst (λ (t : TextSaid). IsOpened sheet.skin.now (name_row sheet.name.now) t sheet.columns sheet.rows v) said
-    (subst (λ (n : List ℕ). IsOpened sheet.skin.now n text sheet.columns sheet.rows v) row h)
+    subst (λ (t : TextSaid). IsOpened sheet.skin.now (name_row sheet.name.now) t sheet.columns sheet.rows sheet.files v) said
+    (subst (λ (n : List ℕ). IsOpened sheet.skin.now n text sheet.columns sheet.rows sheet.files v) row h)
 
 -- a run from the start of a sheet's text
-pub sheet_paged : (sheet : Sheet) (v : View) (r : Result Unit Error) (old_input new_input old_out new_out : Trace)
-    → IsOpened sheet.skin.now (name_row sheet.name.now) (sheet_said sheet) sheet.columns sheet.rows v
-    → MatchResult r (λ _. IsTurned v old_input new_input old_out new_out) (λ e. IsBrokenOff v e old_input new_input old_out new_out)
-    → MatchResult r (λ _. IsPaged sheet old_input new_input old_out new_out) (λ e. IsBrokenRun sheet e old_input new_input old_out new_out)
-sheet_paged sheet v (Ok _) old_input new_input old_out new_out start h = record { start = v; is = start; turned = h }
+pub sheet_paged : (sheet : Sheet) (v : View) (r : Result End Error) (old_input new_input old_out new_out : Trace)
+    → IsOpened sheet.skin.now (name_row sheet.name.now) (sheet_said sheet) sheet.columns sheet.rows sheet.files v
+    → MatchResult r (λ end. IsTurned v end old_input new_input old_out new_out) (λ e. IsBrokenOff v e old_input new_input old_out new_out)
+    → MatchResult r (λ end. IsPaged sheet end old_input new_input old_out new_out) (λ e. IsBrokenRun sheet e old_input new_input old_out new_out)
+sheet_paged sheet v (Ok end) old_input new_input old_out new_out start h = record { start = v; is = start; turned = h }
 sheet_paged sheet v (Err e) old_input new_input old_out new_out start h = inl (record { start = v; is = start; turned = h })

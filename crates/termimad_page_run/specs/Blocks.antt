@@ -1,10 +1,11 @@
 -- Blocks of keys: what they are read as, and what a session does of them.
-use Rattle.std.specs.Prelude.{◌≡◌, ◌≢◌, ℕ, ◌||◌, Bool, true, false, List, [], ◌∷◌, ◌++◌, Option, Some, None}
+use Rattle.std.specs.Prelude.{◌≡◌, ℕ, ◌||◌, Bool, true, false, List, [], ◌∷◌, ◌++◌, Option, Some, None}
 use Rattle.mad_term.specs.declared.events.Event.{Event}
 use Rattle.mad_keys.specs.Decoding.{BytesGive, PauseGives}
 use Rattle.mad_keys.specs.Readings.{listed}
 use Rattle.mad_pager.specs.Pagers.{View, IsStep, IsViewSettled, turn_in}
-use Rattle.mad_pager.specs.Sessions.{asks_size}
+use Rattle.mad_pager.specs.Sessions.{asks_size, end_of}
+use Rattle.mad_pager.specs.declared.session.End.{End}
 use Rattle.mad_pager.specs.declared.session.Turn.{Turn}
 use Rattle.mad_pager.specs.declared.session.Turn.TheVariants.{Goes, Ends}
 
@@ -40,7 +41,7 @@ IsToldDone told v new = IsToldStep told v new × (turn_told told v ≡ Goes)
 abbrev pub IsSession : View → List Event → Bool → View → Type 0
 IsSession v [] asks new = (asks ≡ false) × (new ≡ v)
 IsSession v (event ∷ events) asks new =
-    (mid : View) × (others : Bool) × IsStep event v mid × (turn_in event v ≢ Ends) × (asks ≡ (asks_size (turn_in event v) || others))
+    (mid : View) × (others : Bool) × IsStep event v mid × (end_of (turn_in event v) ≡ None) × (asks ≡ (asks_size (turn_in event v) || others))
     × IsSession mid events others new
 
 -- The events of a block are done, and none of them ends the session; and whether one of them asks for the size of the screen.
@@ -53,8 +54,8 @@ pub record AreEventsDone (w block : List ℕ) (pauses : Bool) (v : View) (left :
 abbrev pub IsBlockDone : List ℕ → List ℕ → Bool → View → List ℕ → Bool → View → Type 0
 IsBlockDone w block pauses v left asks new = (mid : View) × AreEventsDone w block pauses v left asks mid × IsViewSettled mid new
 
--- The events of the front of a block are done, and the last of them ends the session. The rest of the block isn't read.
-pub record IsEndedIn (w block : List ℕ) (v : View) : Type 0 where
+-- The events of the front of a block are done, and the last of them ends the session so. The rest of the block isn't read.
+pub record IsEndedIn (w block : List ℕ) (v : View) (end : End) : Type 0 where
   pub front : List ℕ
   pub rest : List ℕ
   pub whole : front ++ rest ≡ block
@@ -65,4 +66,4 @@ pub record IsEndedIn (w block : List ℕ) (v : View) : Type 0 where
   pub asks : Bool
   pub before : View
   pub session : IsSession v events asks before
-  pub ends : turn_in last before ≡ Ends
+  pub ends : turn_in last before ≡ Ends end

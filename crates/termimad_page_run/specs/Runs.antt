@@ -11,6 +11,8 @@ use Rattle.markdown_reader.specs.Markdown.{markdown_lines, markdown_links}
 use Rattle.mad_pager.specs.Pagers.{View, IsOpened, IsOrderlyView, IsViewShown, IsViewUnshown, view_of}
 use Rattle.mad_outline.specs.Sources.{TextSaid}
 use Rattle.mad_pager.specs.declared.pager.Pager.{Pager}
+use Rattle.mad_pager.specs.declared.session.End.{End}
+use Rattle.mad_pager.specs.declared.session.End.TheVariants.{Quits}
 use Rattle.termimad_page_run.specs.Blocks.{IsBlockDone, IsEndedIn}
 use Rattle.termimad_page_run.specs.declared.program.Grammar.{Grammar}
 use Rattle.termimad_page_run.specs.declared.program.Grammar.TheVariants.{Lines, Markdown}
@@ -82,17 +84,17 @@ pub record EndsAtInput (old new : Trace) : Type 0 where
   pub read : new ≡ old
   pub ended : IsAtItsEnd new
 
--- A key ends the session: q, while nothing is being typed.
-pub record EndsAtKey (last : Moment) (new : Trace) : Type 0 where
+-- A key ends the session, and says how.
+pub record EndsAtKey (last : Moment) (end : End) (new : Trace) : Type 0 where
   pub block : List ℕ
   pub read : last.input ≡ ahead_all block new
-  pub key : IsEndedIn last.waits block last.view
+  pub key : IsEndedIn last.waits block last.view end
 
--- The last turn: the sessions are orderly and one is shown, and the input ends or a key ends the session.
-pub record IsLastTurn (last : Moment) (new_input new_out : Trace) : Type 0 where
+-- The last turn: the sessions are orderly and one is shown, and the input ends or a key ends the session. After the input nothing more is to be shown.
+pub record IsLastTurn (last : Moment) (end : End) (new_input new_out : Trace) : Type 0 where
   pub orderly : IsOrderlyView last.view
   pub shown : IsViewShown last.asks last.view last.out new_out
-  pub ends : EndsAtInput last.input new_input ⊎ EndsAtKey last new_input
+  pub ends : ((end ≡ Quits) × EndsAtInput last.input new_input) ⊎ EndsAtKey last end new_input
 
 -- what a fault leaves once the session is shown: the input failed, or there was no memory for what a block says
 abbrev pub IsUndone : Trace → Error → Trace → Type 0
@@ -107,17 +109,18 @@ IsFaultyTurn last e new_input new_out =
     ⊎ (IsViewShown last.asks last.view last.out new_out × IsUndone last.input e new_input)
 
 -- as many turns were made as 64 bits count
-pub record IsPastLast (blocks : List (List ℕ)) (last : Moment) (new_input new_out : Trace) : Type 0 where
+pub record IsPastLast (blocks : List (List ℕ)) (last : Moment) (end : End) (new_input new_out : Trace) : Type 0 where
+  pub quits : end ≡ Quits
   pub count : length blocks ≡ 2 ^ 64 - 1
   pub input : new_input ≡ last.input
   pub out : new_out ≡ last.out
 
 -- Turns are made from here on, and then comes the end.
-pub record IsTurned (v : View) (old_input new_input old_out new_out : Trace) : Type 0 where
+pub record IsTurned (v : View) (end : End) (old_input new_input old_out new_out : Trace) : Type 0 where
   pub blocks : List (List ℕ)
   pub last : Moment
   pub turns : AreTurns blocks (record { view = v; waits = []; asks = false; input = old_input; out = old_out }) last
-  pub ends : IsLastTurn last new_input new_out ⊎ IsPastLast blocks last new_input new_out
+  pub ends : IsLastTurn last end new_input new_out ⊎ IsPastLast blocks last end new_input new_out
 
 -- Turns are made from here on, and then comes a fault.
 pub record IsBrokenOff (v : View) (e : Error) (old_input new_input old_out new_out : Trace) : Type 0 where
@@ -126,16 +129,16 @@ pub record IsBrokenOff (v : View) (e : Error) (old_input new_input old_out new_o
   pub turns : AreTurns blocks (record { view = v; waits = []; asks = false; input = old_input; out = old_out }) last
   pub fault : IsFaultyTurn last e new_input new_out
 
--- The text is paged from its start on, and what is printable of its name is shown.
-pub record IsPaged (sheet : Sheet) (old_input new_input old_out new_out : Trace) : Type 0 where
+-- The text is paged from its start on, and what is printable of its name is shown. It ends so.
+pub record IsPaged (sheet : Sheet) (end : End) (old_input new_input old_out new_out : Trace) : Type 0 where
   pub start : View
-  pub is : IsOpened sheet.skin.now (name_row sheet.name.now) (sheet_said sheet) sheet.columns sheet.rows start
-  pub turned : IsTurned start old_input new_input old_out new_out
+  pub is : IsOpened sheet.skin.now (name_row sheet.name.now) (sheet_said sheet) sheet.columns sheet.rows sheet.files start
+  pub turned : IsTurned start end old_input new_input old_out new_out
 
 -- The same up to a fault.
 pub record IsPagedSoFar (sheet : Sheet) (e : Error) (old_input new_input old_out new_out : Trace) : Type 0 where
   pub start : View
-  pub is : IsOpened sheet.skin.now (name_row sheet.name.now) (sheet_said sheet) sheet.columns sheet.rows start
+  pub is : IsOpened sheet.skin.now (name_row sheet.name.now) (sheet_said sheet) sheet.columns sheet.rows sheet.files start
   pub turned : IsBrokenOff start e old_input new_input old_out new_out
 
 -- nothing was read or drawn, since there was no memory

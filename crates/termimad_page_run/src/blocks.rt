@@ -1,14 +1,14 @@
 //! What a block of keys does.
 
-ghost use Rattle.std.specs.Prelude.{◌≡◌, ◌≢◌, IfOk, OnOk, Option};
+ghost use Rattle.std.specs.Prelude.{◌≡◌, IfOk, OnOk, None, Option, Some};
 ghost use Rattle.mad_term.specs.declared.events.Event.{Event};
 ghost use Rattle.mad_keys.specs.Decoding.{PauseGives};
 ghost use Rattle.mad_pager.specs.Pagers.{view_of};
-ghost use Rattle.mad_pager.specs.Sessions.{asks_size};
+ghost use Rattle.mad_pager.specs.Sessions.{asks_size, end_of};
 ghost use Rattle.termimad_page_run.specs.Blocks.{AreEventsDone, IsBlockDone, IsEndedIn, IsToldDone, IsToldStep, turn_told};
 
 use mad_keys::Keys;
-use mad_pager::{Pager, Turn};
+use mad_pager::{End, Pager, Turn};
 use mad_term::Event;
 use std::alloc::{AllocError, Global};
 
@@ -25,8 +25,8 @@ pub(crate) fn apply_block(
     block: &[u8],
     pauses: bool,
 ) -> Result<Turn, AllocError>
-    ensures goes { IfOk result (λ turn. turn ≢ Turn.Ends → IsBlockDone keys.old block.now pauses (view_of pager.old) keys.new (asks_size turn) (view_of pager.new)) }
-    ensures ends { IfOk result (λ turn. turn ≡ Turn.Ends → IsEndedIn keys.old block.now (view_of pager.old)) }
+    ensures goes { IfOk result (λ turn. end_of turn ≡ None → IsBlockDone keys.old block.now pauses (view_of pager.old) keys.new (asks_size turn) (view_of pager.new)) }
+    ensures ends { IfOk result (λ turn. (end : End) → end_of turn ≡ Some end → IsEndedIn keys.old block.now (view_of pager.old) end) }
 {
     let turn = apply_events(alloc, pager, keys, block, pauses)?;
     pager.settle(alloc)?;
@@ -41,16 +41,15 @@ fn apply_events(
     block: &[u8],
     pauses: bool,
 ) -> Result<Turn, AllocError>
-    ensures goes { IfOk result (λ turn. turn ≢ Turn.Ends → AreEventsDone keys.old block.now pauses (view_of pager.old) keys.new (asks_size turn) (view_of pager.new)) }
-    ensures ends { IfOk result (λ turn. turn ≡ Turn.Ends → IsEndedIn keys.old block.now (view_of pager.old)) }
+    ensures goes { IfOk result (λ turn. end_of turn ≡ None → AreEventsDone keys.old block.now pauses (view_of pager.old) keys.new (asks_size turn) (view_of pager.new)) }
+    ensures ends { IfOk result (λ turn. (end : End) → end_of turn ≡ Some end → IsEndedIn keys.old block.now (view_of pager.old) end) }
 {
     let mut asks = false;
     for b in block {
         let event = keys.byte(*b);
         let turn = apply_told(alloc, pager, event)?;
-        let ends = turn.ends();
-        if ends {
-            return Ok(Turn::Ends);
+        if let Some(end) = turn.end() {
+            return Ok(Turn::Ends(end));
         }
         asks |= turn.asks_size();
     }
@@ -65,7 +64,7 @@ fn apply_events(
 // How a session goes on that doesn't end.
 fn turn_after(asks: bool) -> Turn
     ensures asks { asks_size result ≡ asks }
-    ensures goes { result ≢ Turn.Ends }
+    ensures goes { end_of result ≡ None }
 {
     if asks { Turn::AsksSize } else { Turn::Goes }
 }

@@ -7,4 +7,5 @@
 mod blocks;
 mod program;
 
+pub use mad_pager::{End, Files};
 pub use program::{Grammar, Sheet, run};

@@ -1,8 +1,8 @@
 //! A run: keys are read, and after each block of them the screen is drawn anew.
 
-ghost use Rattle.std.specs.Prelude.{◌≡◌, ◌≢◌, IfOk, IfErr, OnOk, MatchResult, List, ℕ, string_bytes};
+ghost use Rattle.std.specs.Prelude.{◌≡◌, IfOk, IfErr, OnOk, MatchResult, List, ℕ, None, Some, string_bytes};
 ghost use Rattle.mad_pager.specs.Pagers.{view_of, IsOrderlyView};
-ghost use Rattle.mad_pager.specs.Sessions.{asks_size};
+ghost use Rattle.mad_pager.specs.Sessions.{asks_size, end_of};
 ghost use Rattle.mad_outline.specs.Sources.{text_said};
 ghost use Rattle.termimad_page_run.specs.Runs.{moment, name_row, row_char, sheet_said, IsBrokenOff, IsBrokenRun, IsFaultyTurn, IsLastTurn, IsPaged, IsTurn, IsTurned};
 
@@ -10,7 +10,7 @@ use crate::blocks::apply_block;
 use mad_fit::printable;
 use mad_keys::Keys;
 use mad_layout::MadSkin;
-use mad_pager::{Pager, Turn};
+use mad_pager::{End, Files, Pager, Turn};
 use mad_search::PagedText;
 use mad_steady::steady;
 use mad_term::{Error, Out, Source};
@@ -44,10 +44,12 @@ pub struct Sheet<'s> {
     pub columns: u16,
     /// Its rows.
     pub rows: u16,
+    /// Which files there are beside that of the text.
+    pub files: Files,
 }
 
 /// Pages a text: draws its start, then reads blocks of keys, does what they say and draws the screen anew after each, until a key ends it
-/// or the input does.
+/// or the input does. It answers how it ended: by the keys for another file that one is to be shown, and else nothing more.
 ///
 /// What is printable of the name and of the text is shown, made steady; of Markdown that people write, of what it is read as. A block that fills
 /// the room for it whole is no pause.
@@ -60,8 +62,8 @@ pub fn run<I: Source, O: Out>(
     sheet: &Sheet,
     input: &mut I,
     out: &mut O,
-) -> Result<(), Error>
-    ensures { MatchResult result (λ _. IsPaged sheet.now (I.seen input.old) (I.seen input.new) (O.seen out.old) (O.seen out.new))
+) -> Result<End, Error>
+    ensures { MatchResult result (λ end. IsPaged sheet.now end (I.seen input.old) (I.seen input.new) (O.seen out.old) (O.seen out.new))
         (λ e. IsBrokenRun sheet.now e (I.seen input.old) (I.seen input.new) (O.seen out.old) (O.seen out.new)) }
 {
     let name = name_row(alloc, sheet.name)?;
@@ -94,13 +96,21 @@ fn page<I: Source, O: Out>(
     text: PagedText,
     input: &mut I,
     out: &mut O,
-) -> Result<(), Error>
+) -> Result<End, Error>
     requires name { name.now ≡ name_row sheet.now.name.now }
     requires text { text_said text ≡ sheet_said sheet.now }
-    ensures { MatchResult result (λ _. IsPaged sheet.now (I.seen input.old) (I.seen input.new) (O.seen out.old) (O.seen out.new))
+    ensures { MatchResult result (λ end. IsPaged sheet.now end (I.seen input.old) (I.seen input.new) (O.seen out.old) (O.seen out.new))
         (λ e. IsBrokenRun sheet.now e (I.seen input.old) (I.seen input.new) (O.seen out.old) (O.seen out.new)) }
 {
-    let mut pager = Pager::new(alloc, name, text, sheet.skin, sheet.columns, sheet.rows)?;
+    let mut pager = Pager::new(
+        alloc,
+        name,
+        text,
+        sheet.skin,
+        sheet.columns,
+        sheet.rows,
+        sheet.files,
+    )?;
     turn_pages(alloc, &mut pager, input, out)
 }
 
@@ -110,22 +120,21 @@ fn turn_pages<I: Source, O: Out>(
     pager: &mut Pager,
     input: &mut I,
     out: &mut O,
-) -> Result<(), Error>
+) -> Result<End, Error>
     requires { IsOrderlyView (view_of pager.now) }
-    ensures { MatchResult result (λ _. IsTurned (view_of pager.old) (I.seen input.old) (I.seen input.new) (O.seen out.old) (O.seen out.new))
+    ensures { MatchResult result (λ end. IsTurned (view_of pager.old) end (I.seen input.old) (I.seen input.new) (O.seen out.old) (O.seen out.new))
         (λ e. IsBrokenOff (view_of pager.old) e (I.seen input.old) (I.seen input.new) (O.seen out.old) (O.seen out.new)) }
 {
     let mut keys = Keys::new();
     let mut asks = false;
     for _turn in 0..u64::MAX {
         let turn = turn_page(alloc, pager, &mut keys, asks, input, out)?;
-        let ends = turn.ends();
-        if ends {
-            return Ok(());
+        if let Some(end) = turn.end() {
+            return Ok(end);
         }
         asks = turn.asks_size();
     }
-    Ok(())
+    Ok(End::Quits)
 }
 
 // Draws the screen, reads a block of keys and does what it says.
@@ -138,10 +147,10 @@ fn turn_page<I: Source, O: Out>(
     out: &mut O,
 ) -> Result<Turn, Error>
     requires { IsOrderlyView (view_of pager.now) }
-    ensures goes { IfOk result (λ turn. turn ≢ Turn.Ends → (block : List ℕ) × IsTurn block
+    ensures goes { IfOk result (λ turn. end_of turn ≡ None → (block : List ℕ) × IsTurn block
         (moment pager.old keys.old asks (I.seen input.old) (O.seen out.old)) (moment pager.new keys.new (asks_size turn) (I.seen input.new) (O.seen out.new))) }
-    ensures ends { IfOk result (λ turn. turn ≡ Turn.Ends
-        → IsLastTurn (moment pager.old keys.old asks (I.seen input.old) (O.seen out.old)) (I.seen input.new) (O.seen out.new)) }
+    ensures ends { IfOk result (λ turn. (end : End) → end_of turn ≡ Some end
+        → IsLastTurn (moment pager.old keys.old asks (I.seen input.old) (O.seen out.old)) end (I.seen input.new) (O.seen out.new)) }
     ensures fault { IfErr result (λ e.
         IsFaultyTurn (moment pager.old keys.old asks (I.seen input.old) (O.seen out.old)) e (I.seen input.new) (O.seen out.new)) }
 {
@@ -149,7 +158,7 @@ fn turn_page<I: Source, O: Out>(
     let mut block = [0; BLOCK];
     let count = input.fill(&mut block)?;
     if count == 0 {
-        return Ok(Turn::Ends);
+        return Ok(Turn::Ends(End::Quits));
     }
     let turn = apply_block(alloc, pager, keys, &block[..count], count < BLOCK)?;
     Ok(turn)

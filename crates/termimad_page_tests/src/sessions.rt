@@ -5,13 +5,14 @@ use mad_layout::MadSkin;
 use mad_screen::{NotPlain, Screen};
 use mad_term::Error;
 use std::alloc::{AllocError, Global};
-use termimad_page_run::{Grammar, Sheet, run};
+use termimad_page_run::{End, Files, Grammar, Sheet, run};
 
 // What is put where the size is asked for.
 const SIZE_QUESTION: &[u8] = b"\x1b[999;999H\x1b[6n";
 
 /// What a session shows. The call has the columns and rows of the screen, and the name, after the word `markdown` where the text is read as
-/// people write Markdown. With the word `pens` before these each picture is shown once more as letters of its pens. The text comes first, then a line `==`, and a block a line.
+/// people write Markdown. Before the columns stands what files there are beside it, if there are some: `first`, `between` or `last`. With the word
+/// `pens` before these each picture is shown once more as letters of its pens. The text comes first, then a line `==`, and a block a line.
 pub fn shown(alloc: Global, call: &str, text: &str) -> Result<String, AllocError> {
     let (pens, call) = match call.strip_prefix("pens ") {
         Some(call) => (true, call),
@@ -21,6 +22,7 @@ pub fn shown(alloc: Global, call: &str, text: &str) -> Result<String, AllocError
         Some(call) => (Grammar::Markdown, call),
         None => (Grammar::Lines, call),
     };
+    let (files, call) = files_in(call);
     let mut words = call.splitn(3, ' ');
     let columns = number(words.next());
     let rows = number(words.next());
@@ -36,6 +38,7 @@ pub fn shown(alloc: Global, call: &str, text: &str) -> Result<String, AllocError
         skin: &skin,
         columns,
         rows,
+        files,
     };
     let mut out = Pictures::new(alloc);
     let ended = run(alloc, &sheet, &mut Blocks::new(blocks), &mut out);
@@ -47,11 +50,29 @@ pub fn shown(alloc: Global, call: &str, text: &str) -> Result<String, AllocError
     };
     push_pictures(&mut answer, setting, &out)?;
     match ended {
-        Ok(()) => answer.push_str("ended\n")?,
+        Ok(end) => answer.push_str(end_line(end))?,
         Err(Error::Memory) => return Err(AllocError),
         Err(_) => answer.push_str("a fault\n")?,
     }
     Ok(answer)
+}
+
+// Which files a call says there are beside that of the text, and the rest of it: `first` has one after it, `last` one before it, `between` both.
+fn files_in(call: &str) -> (Files, &str) {
+    let (word, rest) = call.split_once(' ').unwrap_or((call, ""));
+    match Files::named(word) {
+        Some(files) => (files, rest),
+        None => (Files::NONE, call),
+    }
+}
+
+// How a session ended, in a line.
+fn end_line(end: End) -> &'static str {
+    match end {
+        End::Quits => "ended\n",
+        End::NextFile => "ended for the next file\n",
+        End::PreviousFile => "ended for the file before\n",
+    }
 }
 
 // The character that a sign means: what the key Backspace sends, and a letter with Control.

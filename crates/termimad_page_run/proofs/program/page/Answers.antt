@@ -3,7 +3,7 @@ use Rattle.mad_pager.proofs.PagerOrder.{opened_order}
 use Rattle.termimad_page_run.proofs.program.page.Goals as goal
 
 pub turn_pages-requires : goal.turn_pages-requires
-turn_pages-requires g c = opened_order _ _ _ _ _ _ c.in_ok-pager.ensures
+turn_pages-requires g c = opened_order _ _ _ _ _ _ _ c.in_ok-pager.ensures
 
 pub returns : goal.returns
 returns g c =

@@ -1,13 +1,23 @@
-use Rattle.std.proofs.Common.{inl, refl, take, arith}
+use Rattle.std.proofs.Common.{◌≡◌, Some, inl, inr, refl, take, arith}
+use Rattle.mad_pager.specs.declared.session.End.TheVariants.{Quits}
 use Rattle.termimad_page_run.proofs.RunLemmas.{ended_input, block_done}
 use Rattle.termimad_page_run.proofs.program.turn_page.Goals as goal
 
 pub returns-then-count-eq0-clause-ends : goal.returns-then-count-eq0-clause-ends
-returns-then-count-eq0-clause-ends g c = λ is.
-    record { orderly = c.requires; shown = c.in_ok-show.ensures; ends = inl (ended_input _ _ _ _ c.if-count-eq0.true c.in_ok-count.ensures (omega arith)) }
+returns-then-count-eq0-clause-ends g c = λ end is.
+    let given : Some Quits ≡ Some end = is in
+    let quits : end ≡ Quits = cc in
+    record { orderly = c.requires; shown = c.in_ok-show.ensures; ends = inl (quits, ended_input _ _ _ _ c.if-count-eq0.true c.in_ok-count.ensures (omega arith)) }
 
 pub returns-clause-goes : goal.returns-clause-goes
 returns-clause-goes g c = λ goes. (
   take c.in_ok-count.count c.fill.new.buffer,
   block_done _ _ _ _ _ c.fill.new.buffer c.in_ok-count.count _ _ _ _ _ _ c.requires c.in_ok-show.ensures c.in_ok-count.ensures (omega arith) refl (c.in_ok-turn.ensures.goes goes),
 )
+
+pub returns-clause-ends : goal.returns-clause-ends
+returns-clause-ends g c = λ end is. record {
+  orderly = c.requires;
+  shown = c.in_ok-show.ensures;
+  ends = inr (record { block = take c.in_ok-count.count c.fill.new.buffer; read = c.in_ok-count.ensures.handed_out; key = c.in_ok-turn.ensures.ends end is });
+}

@@ -1,13 +1,12 @@
 use Rattle.std.proofs.Common.{◌∷◌, [], ◌++◌, length-append, inl, inr, refl, sym, ◌∙◌, arith}
 use Rattle.termimad_page_run.specs.Runs.{moment}
-use Rattle.termimad_page_run.proofs.BlockLemmas.{ends_is, goes_on}
 use Rattle.termimad_page_run.proofs.RunLemmas.{broken_exit, turn_made, turn_order}
 use Rattle.termimad_page_run.proofs.program.turn_pages.Goals as goal
 
 pub loop-turn-preserved : goal.loop-turn-preserved
 loop-turn-preserved g c =
     let inv = c.loop-turn.invariant in
-    let it = c.in_ok-turn.ensures.goes (goes_on _ (sym c.ends-ends.ensures ∙ c.if-ends.false)) in
+    let it = c.in_ok-turn.ensures.goes (sym c.end.ensures ∙ c.in_default.is) in
     record {
       blocks = inv.blocks ++ it.0 ∷ [];
       count = omega (arith, length-append inv.blocks (it.0 ∷ []), inv.count);
@@ -26,14 +25,14 @@ returns-in_err-turn g c =
       fault = c.in_err-turn.ensures.fault;
     })
 
-pub returns-then-ends : goal.returns-then-ends
-returns-then-ends g c =
+pub returns-in-Some : goal.returns-in-Some
+returns-in-Some g c =
     let inv = c.loop-turn.invariant in
     record {
       blocks = inv.blocks;
       last = moment c.loop-turn.pager c.loop-turn.keys c.loop-turn.asks (g.I.Source.seen c.loop-turn.input) (g.O.Out.seen c.loop-turn.out);
       turns = inv.turns;
-      ends = inl (c.in_ok-turn.ensures.ends (ends_is _ (sym c.ends-ends.ensures ∙ c.if-ends.true)));
+      ends = inl (c.in_ok-turn.ensures.ends c.in-Some.end (sym c.end.ensures ∙ c.in-Some.is));
     }
 
 pub returns : goal.returns
@@ -43,5 +42,5 @@ returns g c =
       blocks = inv.blocks;
       last = moment c.loop-turn.pager c.loop-turn.keys c.loop-turn.asks (g.I.Source.seen c.loop-turn.input) (g.O.Out.seen c.loop-turn.out);
       turns = inv.turns;
-      ends = inr (record { count = omega (arith, inv.count); input = refl; out = refl });
+      ends = inr (record { quits = refl; count = omega (arith, inv.count); input = refl; out = refl });
     }
