@@ -1,3 +1,4 @@
+pub mod BreakLemmas
 pub mod KeptLemmas
 pub mod LetterLemmas
 pub mod SearchLemmas

@@ -5,7 +5,7 @@ ghost use Rattle.std.specs.Str.Iter.{HasSubslice};
 ghost use Rattle.mad_search.specs.Breaks.{goes_over, rows_after};
 ghost use Rattle.mad_search.specs.Searches.{composite_text, compared_line, line_text, cells_text, row_text, text_after, GoesOn, HasText, IsFirstFrom, IsLastBefore, IsNextRowIn, IsPreviousRowIn, NoneBetween, NoneFrom};
 
-use crate::breaks::{begins_from, ends_at, rows_after};
+use crate::breaks::{Starts, begins_from, ends_at, rows_below};
 use crate::letters::compared;
 use mad_format::{FmtComposite, FmtLine};
 use std::alloc::{AllocError, Global};
@@ -31,6 +31,7 @@ pub fn next_row_in(
     if sought.is_empty() {
         return Ok(None);
     }
+    let starts = Starts::looked_over(starts);
     let after = first_row(alloc, lines, starts, sought, from)?;
     if let Some(found) = after {
         return Ok(Some(found));
@@ -57,6 +58,7 @@ pub fn previous_row_in(
     if sought.is_empty() {
         return Ok(None);
     }
+    let starts = Starts::looked_over(starts);
     let before = last_row(alloc, lines, starts, sought, end.min(lines.len()))?;
     if let Some(found) = before {
         return Ok(Some(found));
@@ -69,11 +71,11 @@ pub fn previous_row_in(
 fn first_row(
     alloc: Global,
     lines: &[FmtLine],
-    starts: &[usize],
+    starts: Starts,
     sought: &str,
     from: usize,
 ) -> Result<Option<usize>, AllocError>
-    ensures { IfOk result (λ found. MatchOption found (NoneFrom sought.now lines.now starts.now from) (IsFirstFrom sought.now lines.now starts.now from)) }
+    ensures { IfOk result (λ found. MatchOption found (NoneFrom sought.now lines.now starts.entry.rows.now from) (IsFirstFrom sought.now lines.now starts.entry.rows.now from)) }
 {
     for row in from..lines.len() {
         let has = has_text_at(alloc, lines, starts, sought, row)?;
@@ -88,12 +90,12 @@ fn first_row(
 fn last_row(
     alloc: Global,
     lines: &[FmtLine],
-    starts: &[usize],
+    starts: Starts,
     sought: &str,
     end: usize,
 ) -> Result<Option<usize>, AllocError>
     requires { end ≤ length lines.now }
-    ensures { IfOk result (λ found. MatchOption found (NoneBetween sought.now lines.now starts.now 0 end) (IsLastBefore sought.now lines.now starts.now end)) }
+    ensures { IfOk result (λ found. MatchOption found (NoneBetween sought.now lines.now starts.entry.rows.now 0 end) (IsLastBefore sought.now lines.now starts.entry.rows.now end)) }
 {
     let mut row = end;
     'rows: while row > 0 {
@@ -110,11 +112,11 @@ fn last_row(
 fn has_text_at(
     alloc: Global,
     lines: &[FmtLine],
-    starts: &[usize],
+    starts: Starts,
     sought: &str,
     row: usize,
 ) -> Result<bool, AllocError>
-    ensures { IfOk result (λ has. IsTrue has ↔ HasText sought.now lines.now starts.now row) }
+    ensures { IfOk result (λ has. IsTrue has ↔ HasText sought.now lines.now starts.entry.rows.now row) }
 {
     let Some(line) = lines.get(row) else {
         return Ok(false);
@@ -128,11 +130,11 @@ fn has_text(
     alloc: Global,
     line: &FmtLine,
     lines: &[FmtLine],
-    starts: &[usize],
+    starts: Starts,
     sought: &str,
     row: usize,
 ) -> Result<bool, AllocError>
-    ensures { IfOk result (λ has. IsTrue has ↔ (HasSubslice (compared_line sought.now line.now) sought.now ⊎ GoesOn sought.now (row_text sought.now line.now) (rows_after lines.now starts.now row (length sought.now)))) }
+    ensures { IfOk result (λ has. IsTrue has ↔ (HasSubslice (compared_line sought.now line.now) sought.now ⊎ GoesOn sought.now (row_text sought.now line.now) (rows_after lines.now starts.entry.rows.now row (length sought.now)))) }
 {
     let text = compared_line(alloc, line, sought)?;
     let is_within = contains(text.as_str(), sought);
@@ -148,11 +150,11 @@ fn goes_on(
     alloc: Global,
     text: &str,
     lines: &[FmtLine],
-    starts: &[usize],
+    starts: Starts,
     sought: &str,
     row: usize,
 ) -> Result<bool, AllocError>
-    ensures { IfOk result (λ goes. IsTrue goes ↔ GoesOn sought.now text.now (rows_after lines.now starts.now row (length sought.now))) }
+    ensures { IfOk result (λ goes. IsTrue goes ↔ GoesOn sought.now text.now (rows_after lines.now starts.entry.rows.now row (length sought.now))) }
 {
     for at in 0..sought.len() {
         let goes = goes_over(alloc, text, lines, starts, sought, row, at)?;
@@ -168,17 +170,17 @@ fn goes_over(
     alloc: Global,
     text: &str,
     lines: &[FmtLine],
-    starts: &[usize],
+    starts: Starts,
     sought: &str,
     row: usize,
     at: usize,
 ) -> Result<bool, AllocError>
-    ensures { IfOk result (λ goes. goes ≡ goes_over sought.now text.now (text_after sought.now (rows_after lines.now starts.now row (length sought.now))) at) }
+    ensures { IfOk result (λ goes. goes ≡ goes_over sought.now text.now (text_after sought.now (rows_after lines.now starts.entry.rows.now row (length sought.now))) at) }
 {
     if !ends_at(sought.as_bytes(), text.as_bytes(), at) {
         return Ok(false);
     }
-    let rows = rows_after(lines, starts, row, sought.len());
+    let rows = rows_below(lines, starts, row, sought.len());
     let after = text_after(alloc, sought, rows)?;
     Ok(begins_from(sought.as_bytes(), after.as_str().as_bytes(), at))
 }

@@ -6,7 +6,7 @@ abbrev pub invariant-rows : goal.invariant-rows
 invariant-rows l = record {
   inside : l.row ≤ length l.lines;
   before : l.row ≤ l.end;
-  none : NoneBetween l.sought l.lines l.starts l.row l.end;
+  none : NoneBetween l.sought l.lines l.starts.rows.now l.row l.end;
 }
 
 abbrev pub decreases-rows : goal.decreases-rows
