@@ -25,6 +25,7 @@ pub fn run_on_standard_streams(rt: &HostRuntime) -> Result<End, Refusal> {
     skin.whole_words = call.grammar == Grammar::Markdown;
     let bytes = read(rt, call.file)?;
     let text = str::from_utf8(bytes.as_slice()).map_err(|_| Refusal::Failed(Failure::NotUtf8))?;
+    let text = without_mark(text);
     match call.place {
         Place::Screen {
             name,
@@ -88,6 +89,11 @@ fn write_whole(
     }
     out.flush()?;
     Ok(())
+}
+
+// A text without the byte order mark that some editors put at its front. Behind one, a heading wouldn't begin its line.
+fn without_mark(text: &str) -> &str {
+    text.strip_prefix('\u{feff}').unwrap_or(text)
 }
 
 // The bytes of a file.
