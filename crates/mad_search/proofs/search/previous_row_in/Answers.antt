@@ -7,8 +7,8 @@ returns-then-is_empty c = none_sought c.args.sought.now c.args.lines.now c.args.
 
 pub returns-in-Some : goal.returns-in-Some
 returns-in-Some c =
-    previous_here c.args.sought.now c.args.lines.now c.args.starts.now c.args.end _ c.in-Some.found (some_sought _ _ c.is_empty.ensures c.if-is_empty.false) (search rules) (rw c.in-Some.is at c.in_ok-before.ensures)
+    previous_here c.args.sought.now c.args.lines.now c.args.starts.now c.args.end _ c.in-Some.found (some_sought _ _ c.is_empty.ensures c.if-is_empty.false) (search rules) (rw c.looked_over-starts.ensures at (rw c.in-Some.is at c.in_ok-before.ensures))
 
 pub returns : goal.returns
 returns c =
-    previous_around c.args.sought.now c.args.lines.now c.args.starts.now c.args.end _ c.in_ok-around.around (some_sought _ _ c.is_empty.ensures c.if-is_empty.false) (search rules) (rw c.in_default.is at c.in_ok-before.ensures) c.in_ok-around.ensures
+    previous_around c.args.sought.now c.args.lines.now c.args.starts.now c.args.end _ c.in_ok-around.around (some_sought _ _ c.is_empty.ensures c.if-is_empty.false) (search rules) (rw c.looked_over-starts.ensures at (rw c.in_default.is at c.in_ok-before.ensures)) (rw c.looked_over-starts.ensures at c.in_ok-around.ensures)
