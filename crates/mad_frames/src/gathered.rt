@@ -1,6 +1,7 @@
 //! A device in memory.
 
-ghost use Rattle.std.specs.Prelude.{◌≡◌};
+ghost use Rattle.std.specs.Prelude.{◌≡◌, IfOk, IsOk, length};
+ghost use Rattle.mad_term.specs.Trace.{Puts, Flushes};
 ghost use Rattle.mad_frames.specs.Gathered.{gathered_trace, untouched};
 
 use mad_term::Out;
@@ -33,7 +34,10 @@ impl Out for Gathered {
     ghost seen = { gathered_trace };
 
     #[tactic(auto, unfolding(mad_term::specs::Trace::after, mad_term::specs::Trace::failed))]
-    fn put(&mut self, bytes: &[u8]) -> io::Result<usize> {
+    fn put(&mut self, bytes: &[u8]) -> io::Result<usize>
+        ensures puts { Puts (gathered_trace self.old) bytes.now result (gathered_trace self.new) }
+        ensures whole { IfOk result (λ count. count ≡ length bytes.now) }
+    {
         if self.bytes.extend_from_slice(bytes).is_err() {
             self.faults = self.faults.saturating_add(1);
             return Err(io::Error::from(io::ErrorKind::OutOfMemory));
@@ -42,7 +46,10 @@ impl Out for Gathered {
     }
 
     #[tactic(auto, unfolding(mad_term::specs::Trace::flushed))]
-    fn flush(&mut self) -> io::Result<()> {
+    fn flush(&mut self) -> io::Result<()>
+        ensures flushes { Flushes (gathered_trace self.old) result (gathered_trace self.new) }
+        ensures always { IsOk result }
+    {
         self.flushes = self.flushes.saturating_add(1);
         Ok(())
     }

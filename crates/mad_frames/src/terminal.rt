@@ -1,6 +1,6 @@
 //! A terminal for tests.
 
-ghost use Rattle.std.specs.Prelude.{◌≡◌, None, Some, IfOk, IsErrOf};
+ghost use Rattle.std.specs.Prelude.{◌≡◌, ◌⊎◌, None, Some, IfErr, IfOk, IsErrOf, IsOk, length};
 ghost use Rattle.mad_term.specs.Trace.{Puts, Flushes};
 
 use crate::errors::PresentError;
@@ -47,6 +47,7 @@ impl TestTerminal {
     pub fn shown(&self, alloc: Global) -> Result<Screen, PresentError>
         ensures shown { IfOk result (λ screen. shown_on self.now ≡ Some screen) }
         ensures not_plain { IsErrOf result PresentError.Undefined → shown_on self.now ≡ None }
+        ensures refused { IfErr result (λ e. (e ≡ PresentError.Undefined) ⊎ (e ≡ PresentError.Memory)) }
     {
         let mut screen = Screen::new(alloc, self.width, self.height)?;
         screen.read_bytes(&self.out.bytes)?;
@@ -62,6 +63,7 @@ impl TestTerminal {
     pub fn parting(&self, alloc: Global, picture: &str) -> Result<Option<String>, PresentError>
         ensures same { IfOk result (λ told. told ≡ None → HasPicture self.now picture.now) }
         ensures parted { IfOk result (λ told. HasPicture self.now picture.now → told ≡ None) }
+        ensures refused { IfErr result (λ e. (e ≡ PresentError.Undefined) ⊎ (e ≡ PresentError.Memory)) }
     {
         let screen = self.shown(alloc)?;
         let came = format!(in alloc; "{screen}")?;
@@ -91,6 +93,7 @@ impl Out for TestTerminal {
 
     fn put(&mut self, bytes: &[u8]) -> io::Result<usize>
         ensures puts { Puts (terminal_trace self.old) bytes.now result (terminal_trace self.new) }
+        ensures whole { IfOk result (λ count. count ≡ length bytes.now) }
         ensures keeps { IsSameTerminal self.old self.new }
     {
         self.out.put(bytes)
@@ -98,6 +101,7 @@ impl Out for TestTerminal {
 
     fn flush(&mut self) -> io::Result<()>
         ensures flushes { Flushes (terminal_trace self.old) result (terminal_trace self.new) }
+        ensures always { IsOk result }
         ensures keeps { IsSameTerminal self.old self.new }
     {
         self.out.flush()
