@@ -473,6 +473,24 @@ def stop_while_drawing(w):
 
 
 @tried
+def keys_before_a_signal(w):
+    """Keys that the program hasn't read before Control-Z or Control-C aren't typed at the shell."""
+    for i in range(6):
+        begin(w)
+        program = w.program()
+        os.kill(program, signal.SIGSTOP)
+        assert until(lambda: (program, "T") in [(pid, state[0]) for pid, state, _ in w.children()])
+        w.type("jk#here")
+        w.type("\x03" if i % 2 else "\x1a")
+        assert w.at_rest(), (i, w.flags())
+        assert w.says("looked"), w.shown()
+        same([row for row in w.still() if "#here" in row], [], f"round {i}")
+        if i % 2 == 0:
+            go_on(w)
+            quit_stopped(w)
+
+
+@tried
 def stop_and_background(w):
     begin(w)
     stop(w)
