@@ -280,12 +280,28 @@ def several_pipes(w):
 
 
 @tried
-def file_that_fails(w):
+def files_that_fail(w):
+    """They are passed over, the way of the last key, and the last row names them. Where none can be shown, the last one is named at the end."""
     (w.folder / "latin.txt").write_bytes(b"caf\xe9\n")
-    begin(w, "text.md latin.txt")
-    w.type(":n")
+    (w.folder / "gone.md").write_text("It is taken away before it is shown.\n")
+    begin(w, "latin.txt text.md latin.txt gone.md other.md latin.txt")
+    (w.folder / "gone.md").unlink()
+    for keys, text, row in (("", "A text", "text.md (2 of 6); latin.txt isn't UTF-8"),
+                            (":n", "The other", "other.md (5 of 6); latin.txt isn't UTF-8; gone.md can't be read"),
+                            (":n", "The other", "other.md (5 of 6); latin.txt isn't UTF-8"),
+                            (":p", "A text", "text.md (2 of 6); gone.md can't be read; latin.txt isn't UTF-8"),
+                            (":p", "A text", "text.md (2 of 6); latin.txt isn't UTF-8")):
+        w.type(keys)
+        assert until(lambda: text in w.shown()[0] and w.shown()[23].endswith("%  " + row)), (row, w.shown())
+    end(w)
+    same([row for row in w.shown() if "UTF-8" in row], [], "said")
+    begin(w, "<(cat latin.txt) text.md")
+    assert until(lambda: "text.md (2 of 2); /dev/fd/" in w.shown()[23]), w.shown()
+    end(w)
+    w.run(f"{PAGE} latin.txt latin.txt")
     same(w.ended(), 3)
     assert until(lambda: "page: that is latin.txt" in w.shown()), w.shown()
+    same([row for row in w.shown() if "not UTF-8" in row][1:], [], "said once")
 
 
 def in_shell(w, line):
