@@ -284,6 +284,7 @@ def files_that_fail(w):
     """They are passed over, the way of the last key, and the last row names them. Where none can be shown, the last one is named at the end."""
     (w.folder / "latin.txt").write_bytes(b"caf\xe9\n")
     (w.folder / "gone.md").write_text("It is taken away before it is shown.\n")
+    (w.folder / "other.md").write_text("# The other\n\nIts text.\n")
     begin(w, "latin.txt text.md latin.txt gone.md other.md latin.txt")
     (w.folder / "gone.md").unlink()
     for keys, text, row in (("", "A text", "text.md (2 of 6); latin.txt isn't UTF-8"),
