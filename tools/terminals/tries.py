@@ -618,6 +618,21 @@ def signals_to_script(w):
 
 
 @tried
+def signals_at_once(w):
+    """bash's `wait` forgets one of two signals that come at once. (The shell has the terminal by then: it saw the script stopped.)"""
+    for number in (signal.SIGTERM, signal.SIGINT, signal.SIGHUP):
+        begin(w)
+        script = w.script()
+        os.kill(script, signal.SIGSTOP)
+        assert until(lambda: (script, "T") in [(pid, state[0]) for pid, state, _ in w.children()])
+        for each in (signal.SIGWINCH, number, signal.SIGCONT):
+            os.kill(script, each)
+        assert until(lambda: not w.children()), w.children()
+        assert w.at_rest(), w.flags()
+        w.type("clear\r")
+
+
+@tried
 def signals_to_stopped_script(w):
     for number in (signal.SIGTERM, signal.SIGHUP):
         begin(w)
