@@ -280,12 +280,29 @@ def several_pipes(w):
 
 
 @tried
-def file_that_fails(w):
+def files_that_fail(w):
+    """They are passed over, the way of the last key, and the last row names them. Where none can be shown, the last one is named at the end."""
     (w.folder / "latin.txt").write_bytes(b"caf\xe9\n")
-    begin(w, "text.md latin.txt")
-    w.type(":n")
+    (w.folder / "gone.md").write_text("It is taken away before it is shown.\n")
+    (w.folder / "other.md").write_text("# The other\n\nIts text.\n")
+    begin(w, "latin.txt text.md latin.txt gone.md other.md latin.txt")
+    (w.folder / "gone.md").unlink()
+    for keys, text, row in (("", "A text", "text.md (2 of 6); latin.txt isn't UTF-8"),
+                            (":n", "The other", "other.md (5 of 6); latin.txt isn't UTF-8; gone.md can't be read"),
+                            (":n", "The other", "other.md (5 of 6); latin.txt isn't UTF-8"),
+                            (":p", "A text", "text.md (2 of 6); gone.md can't be read; latin.txt isn't UTF-8"),
+                            (":p", "A text", "text.md (2 of 6); latin.txt isn't UTF-8")):
+        w.type(keys)
+        assert until(lambda: text in w.shown()[0] and w.shown()[23].endswith("%  " + row)), (row, w.shown())
+    end(w)
+    same([row for row in w.shown() if "UTF-8" in row], [], "said")
+    begin(w, "<(cat latin.txt) text.md")
+    assert until(lambda: "text.md (2 of 2); /dev/fd/" in w.shown()[23]), w.shown()
+    end(w)
+    w.run(f"{PAGE} latin.txt latin.txt")
     same(w.ended(), 3)
     assert until(lambda: "page: that is latin.txt" in w.shown()), w.shown()
+    same([row for row in w.shown() if "not UTF-8" in row][1:], [], "said once")
 
 
 def in_shell(w, line):
@@ -473,6 +490,24 @@ def stop_while_drawing(w):
 
 
 @tried
+def keys_before_a_signal(w):
+    """Keys that the program hasn't read before Control-Z or Control-C aren't typed at the shell."""
+    for i in range(6):
+        begin(w)
+        program = w.program()
+        os.kill(program, signal.SIGSTOP)
+        assert until(lambda: (program, "T") in [(pid, state[0]) for pid, state, _ in w.children()])
+        w.type("jk#here")
+        w.type("\x03" if i % 2 else "\x1a")
+        assert w.at_rest(), (i, w.flags())
+        assert w.says("looked"), w.shown()
+        same([row for row in w.still() if "#here" in row], [], f"round {i}")
+        if i % 2 == 0:
+            go_on(w)
+            quit_stopped(w)
+
+
+@tried
 def stop_and_background(w):
     begin(w)
     stop(w)
@@ -580,6 +615,21 @@ def signals_to_script(w):
     begin(w)
     w.type("\x03")
     assert until(lambda: w.flags() == AT_REST and not w.children())
+
+
+@tried
+def signals_at_once(w):
+    """bash's `wait` forgets one of two signals that come at once. (The shell has the terminal by then: it saw the script stopped.)"""
+    for number in (signal.SIGTERM, signal.SIGINT, signal.SIGHUP):
+        begin(w)
+        script = w.script()
+        os.kill(script, signal.SIGSTOP)
+        assert until(lambda: (script, "T") in [(pid, state[0]) for pid, state, _ in w.children()])
+        for each in (signal.SIGWINCH, number, signal.SIGCONT):
+            os.kill(script, each)
+        assert until(lambda: not w.children()), w.children()
+        assert w.at_rest(), w.flags()
+        w.type("clear\r")
 
 
 @tried
