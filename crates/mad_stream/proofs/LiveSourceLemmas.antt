@@ -19,7 +19,7 @@ use Rattle.mad_live.proofs.PaperLemmas.{then_reads}
 use Rattle.mad_rows.specs.declared.row_skin.RowSkin.{RowSkin}
 use Rattle.mad_stream.specs.LiveSources.{FitsAsItGrows, LeadsTo, ShowsAll, ShowsSoFar, ShowsSource, StopsShowing}
 use Rattle.mad_stream.specs.LiveSteps.{EndsShown, EndsWith, ShowsBlock, ShowsPiece, StopsAt, StopsInBlock}
-use Rattle.mad_stream.specs.LiveTexts.{EndsLive, FeedsLive, FitsRows, IsLaidOut, IsLive, KeepsLive, ShowsNow, StartsLive, without_last}
+use Rattle.mad_stream.specs.LiveTexts.{EndsLive, FeedsLive, FitsRows, IsLaidOut, IsLive, ShowsNow, StartsLive, without_last}
 use Rattle.mad_stream.specs.PrintedPieces.{end_shown, growing, piece_shown, place_after, printed}
 use Rattle.mad_stream.specs.SourceErrors.{refusal_of}
 use Rattle.mad_stream.specs.SourceSteps.{FlushesOut}
@@ -82,14 +82,14 @@ fits_whole : (columns : ℕ) (skin : RowSkin) (width : Option ℕ) (text : List 
 fits_whole columns skin width text utf8 fits = fits text [] utf8 (sym (append-nil text))
 
 shown_so_far : (columns height rows_height : ℕ) (above : List (List Glyph)) (skin : RowSkin) (width : Option ℕ) (text same done wanted bytes : List ℕ) (live : LiveText) (p : Paper) → live.stream.skin ≡ skin → live.stream.width ≡ width → live.rows.height ≡ height → same ≡ text
-    → (n : ShowsNow columns rows_height above text done wanted live p bytes) → ShowsSoFar columns height above skin width same n.paper
+    → (n : ShowsNow {T = Unit {0}} columns rows_height above text done wanted live (Ok (tt {0})) p bytes) → ShowsSoFar columns height above skin width same n.paper
 shown_so_far columns height rows_height above skin width text same done wanted bytes live p skin_is width_is height_is is n = record {
-  done = n.shows.done;
-  left = n.shows.left;
-  rows = laid_same live.stream.skin skin live.stream.width width text same (n.shows.done ++ n.shows.left) skin_is width_is is n.shows.rows;
-  tail = live.rows.tail.items;
-  last = subst (λ h. AreLast h (without_last n.shows.left) live.rows.tail.items) height_is n.shows.last;
-  shows = n.shows.live.stands.shows;
+  done = done ++ n.more;
+  left = n.rows.left;
+  rows = laid_same live.stream.skin skin live.stream.width width text same ((done ++ n.more) ++ n.rows.left) skin_is width_is is n.rows.rows;
+  tail = n.tail;
+  last = subst (λ h. AreLast h (without_last n.rows.left) n.tail) height_is n.rows.last;
+  shows = n.rows.stands.shows;
 }
 
 shows_more : (skin : RowSkin) (width : Option ℕ) (height : ℕ) (text next piece bytes : List ℕ) (old new : LiveText) (before now : Trace) → old.stream.skin ≡ skin → old.stream.width ≡ width → old.rows.height ≡ height → next ≡ text ++ piece → IsUtf8 next
@@ -100,12 +100,12 @@ shows_more skin width height text next piece bytes old new before now skin_is wi
     let so_far = shows columns p here clear enough (fits_before columns skin width text piece next is fits) in
     let fits_now : FitsRows columns old.stream.skin old.stream.width (text ++ piece) =
     fits_same columns skin old.stream.skin width old.stream.width (text ++ piece) skin_is width_is (subst (λ (l : List ℕ). FitsRows columns skin width l) is (fits_whole columns skin width next utf8 fits)) in
-    let n : ShowsNow columns rows p.above (text ++ piece) so_far.2.0 f.fed.wanted new so_far.0 f.fed.bytes = f.fed.shows columns rows p.above text so_far.2.0 so_far.0 so_far.2.1 (omega (arith, height_is, enough)) fits_now in (
+    let n : ShowsNow {T = Unit {0}} columns rows p.above (text ++ piece) so_far.2.0 f.fed.wanted new (Ok (tt {0})) so_far.0 f.fed.bytes = f.fed.shows columns rows p.above text so_far.2.0 so_far.0 so_far.2.1 (omega (arith, height_is, enough)) fits_now in (
       n.paper,
       then_reads p so_far.0 n.paper bytes f.fed.bytes so_far.1 n.reads,
       (
-        n.shows.done,
-        subst (λ (l : List ℕ). IsLive columns rows p.above l n.shows.done new n.paper) (sym is) n.shows.live,
+        so_far.2.0 ++ n.more,
+        subst (λ (l : List ℕ). IsLive columns rows p.above l (so_far.2.0 ++ n.more) new n.paper) (sym is) n.shows.1.live,
         inr (shown_so_far columns height rows p.above skin width (text ++ piece) next so_far.2.0 f.fed.wanted f.fed.bytes new so_far.0 (f.skin ∙ skin_is) (f.width ∙ width_is) (f.height ∙ height_is) is n),
       ),
     )
@@ -343,18 +343,18 @@ none_stops T (writing.InsufficientWidth e) before now is same = ([], same ∙ sy
 none_stops T writing.Memory before now is same = ([], same ∙ sym (after-nil before))
 
 -- a piece was refused
-pub piece_stops : (T : Type 0) (e : Error) (old new : LiveText) (taken : List ℕ) (before now : Trace) → FeedsLive {T = T} old taken new before (Err e) now ⊎ (IsErrOf {T = T} (Err e) writing.Memory × (now ≡ before) × KeepsLive old taken new) → StopsAt before (refusal_of e) now
-piece_stops T e old new taken before now (inl f) = drawn_stops T e f.bytes before now f.wrote
-piece_stops T e old new taken before now (inr (is, same, keeps)) = none_stops T e before now is same
+pub piece_stops : (T : Type 0) (e : Error) (old new : LiveText) (taken : List ℕ) (before now : Trace) → FeedsLive {T = T} old taken new before (Err e) now ⊎ IsErrOf {T = T} (Err e) writing.Memory → (IsErrOf {T = T} (Err e) writing.Memory → now ≡ before) → StopsAt before (refusal_of e) now
+piece_stops T e old new taken before now (inl f) early = drawn_stops T e f.bytes before now f.wrote
+piece_stops T e old new taken before now (inr is) early = none_stops T e before now is (early is)
 
 -- and so was the end
-pub end_stops : (T : Type 0) (e : Error) (live : LiveText) (before now : Trace) → EndsLive {T = T} live before (Err e) now ⊎ (IsErrOf {T = T} (Err e) writing.Memory × (now ≡ before)) → StopsAt before (refusal_of e) now
-end_stops T e live before now (inl f) = drawn_stops T e f.bytes before now f.wrote
-end_stops T e live before now (inr (is, same)) = none_stops T e before now is same
+pub end_stops : (T : Type 0) (e : Error) (live : LiveText) (before now : Trace) → EndsLive {T = T} live before (Err e) now ⊎ IsErrOf {T = T} (Err e) writing.Memory → (IsErrOf {T = T} (Err e) writing.Memory → now ≡ before) → StopsAt before (refusal_of e) now
+end_stops T e live before now (inl f) early = drawn_stops T e f.bytes before now f.wrote
+end_stops T e live before now (inr is) early = none_stops T e before now is (early is)
 
 -- the end was shown, and flushed
-pub end_shown_now : (x : Unit {0}) (live : LiveText) (before between now : Trace) → EndsLive {T = Unit {0}} live before (Ok x) between ⊎ (IsErrOf {T = Unit {0}} (Ok x) writing.Memory × (between ≡ before)) → now ≡ flushed between → EndsShown live [] before now
-end_shown_now x live before between now (inr (is, same)) flush = absurd (clash is)
+pub end_shown_now : (x : Unit {0}) (live : LiveText) (before between now : Trace) → EndsLive {T = Unit {0}} live before (Ok x) between ⊎ IsErrOf {T = Unit {0}} (Ok x) writing.Memory → now ≡ flushed between → EndsShown live [] before now
+end_shown_now x live before between now (inr is) flush = absurd (clash is)
   where
     clash : Ok x ≡ Err writing.Memory → ⊥
     clash is = cc
@@ -372,10 +372,10 @@ end_after_piece old new piece before between now f e = record {
   bytes = f.fed.bytes ++ e.bytes;
   went = e.went ∙ ap flushed (ap (λ t. after t e.bytes) f.fed.wrote ∙ after-append before f.fed.bytes e.bytes);
   shows = λ columns height above read done p live_now enough fits all.
-      let n : ShowsNow columns height above (read ++ piece) done f.fed.wanted new p f.fed.bytes = f.fed.shows columns height above read done p live_now enough all in
+      let n : ShowsNow {T = Unit {0}} columns height above (read ++ piece) done f.fed.wanted new (Ok (tt {0})) p f.fed.bytes = f.fed.shows columns height above read done p live_now enough all in
       let again : FitsRows columns new.stream.skin new.stream.width (read ++ piece) = fits_same columns old.stream.skin new.stream.skin old.stream.width new.stream.width (read ++ piece) f.skin f.width all in
       let more : FitsRows columns new.stream.skin new.stream.width ((read ++ piece) ++ []) = subst (λ (l : List ℕ). FitsRows columns new.stream.skin new.stream.width l) (sym (append-nil (read ++ piece))) again in
-      let ended = e.shows columns height above (read ++ piece) n.shows.done n.paper n.shows.live (omega (arith, f.height, enough)) again more in (
+      let ended = e.shows columns height above (read ++ piece) (done ++ n.more) n.paper n.shows.1.live (omega (arith, f.height, enough)) again more in (
         ended.0,
         ended.1,
         then_reads p n.paper ended.0 f.fed.bytes e.bytes n.reads ended.2,
@@ -403,24 +403,24 @@ ends_as (Err d) live last before now e = inl (refl, e)
 
 -- a piece was fed
 pub piece_fed : (x : Unit {0}) (old new : LiveText) (piece : List ℕ) (n : ℕ) (r : Result (Unit {0}) Error) (before now : Trace) → IsUtf8 piece → r ≡ Ok x → OnOk r (n ≡ length piece)
-    → FeedsLive {T = Unit {0}} old (take n piece) new before r now ⊎ (IsErrOf r writing.Memory × (now ≡ before) × KeepsLive old (take n piece) new) → new.stream.skin ≡ old.stream.skin → new.stream.width ≡ old.stream.width → new.rows.height ≡ old.rows.height
+    → FeedsLive {T = Unit {0}} old (take n piece) new before r now ⊎ IsErrOf r writing.Memory → new.stream.skin ≡ old.stream.skin → new.stream.width ≡ old.stream.width → new.rows.height ≡ old.rows.height
     → ShowsPiece old piece new before now
 piece_fed x old new piece n r before now utf8 is all fed skin width height =
     let whole : n ≡ length piece = subst (λ (q : Result (Unit {0}) Error). OnOk q (n ≡ length piece)) is all in
     record {
       utf8 = utf8;
-      fed = subst (λ (l : List ℕ). FeedsLive {T = Unit {0}} old l new before (Ok (tt {0})) now) (take_all n piece (omega (arith, whole))) (fed_ok old new (take n piece) before now r x (now ≡ before) (KeepsLive old (take n piece) new) is fed);
+      fed = subst (λ (l : List ℕ). FeedsLive {T = Unit {0}} old l new before (Ok (tt {0})) now) (take_all n piece (omega (arith, whole))) (fed_ok old new (take n piece) before now r x is fed);
       skin = skin;
       width = width;
       height = height;
     }
 
 pub piece_refused : (e : Error) (f : SourceError) (old new : LiveText) (piece : List ℕ) (n : ℕ) (r : Result (Unit {0}) Error) (before now : Trace) → r ≡ Err e → f ≡ refusal_of e
-    → FeedsLive {T = Unit {0}} old (take n piece) new before r now ⊎ (IsErrOf r writing.Memory × (now ≡ before) × KeepsLive old (take n piece) new) → StopsAt before f now
-piece_refused e f old new piece n r before now is told fed =
+    → FeedsLive {T = Unit {0}} old (take n piece) new before r now ⊎ IsErrOf r writing.Memory → (IsErrOf r writing.Memory → now ≡ before) → StopsAt before f now
+piece_refused e f old new piece n r before now is told fed early =
     subst (λ (d : SourceError). StopsAt before d now) (sym told)
-    (piece_stops (Unit {0}) e old new (take n piece) before now
-    (subst (λ (q : Result (Unit {0}) Error). FeedsLive {T = Unit {0}} old (take n piece) new before q now ⊎ (IsErrOf q writing.Memory × (now ≡ before) × KeepsLive old (take n piece) new)) is fed))
+    (piece_stops (Unit {0}) e old new (take n piece) before now (subst (λ (q : Result (Unit {0}) Error). FeedsLive {T = Unit {0}} old (take n piece) new before q now ⊎ IsErrOf q writing.Memory) is fed)
+    (subst (λ (q : Result (Unit {0}) Error). IsErrOf q writing.Memory → now ≡ before) is early))
 
 -- a block was shown
 pub block_shown : (old new : LiveText) (place next : Place) (block text piece : List ℕ) (is_wrong : Bool) (before between now : Trace) → IsTextFront block text → (is_wrong ≡ false → length block ≤ length text + 3) → (is_wrong ≡ true → BeginNoText block)
@@ -439,22 +439,26 @@ block_shown old new place next block text piece is_wrong before between now fron
     }
 
 -- what was fed is at its end
-pub finish_refused : (e : Error) (f : SourceError) (live : LiveText) (r : Result (Unit {0}) Error) (before now : Trace) → r ≡ Err e → f ≡ refusal_of e → EndsLive live before r now ⊎ (IsErrOf r writing.Memory × (now ≡ before)) → StopsAt before f now
-finish_refused e f live r before now is told ends =
-    subst (λ (d : SourceError). StopsAt before d now) (sym told) (end_stops (Unit {0}) e live before now (subst (λ (q : Result (Unit {0}) Error). EndsLive live before q now ⊎ (IsErrOf q writing.Memory × (now ≡ before))) is ends))
+pub finish_refused : (e : Error) (f : SourceError) (live : LiveText) (r : Result (Unit {0}) Error) (before now : Trace) → r ≡ Err e → f ≡ refusal_of e → EndsLive live before r now ⊎ IsErrOf r writing.Memory → (IsErrOf r writing.Memory → now ≡ before) → StopsAt before f now
+finish_refused e f live r before now is told ends early =
+    subst (λ (d : SourceError). StopsAt before d now) (sym told)
+    (end_stops (Unit {0}) e live before now (subst (λ (q : Result (Unit {0}) Error). EndsLive live before q now ⊎ IsErrOf q writing.Memory) is ends) (subst (λ (q : Result (Unit {0}) Error). IsErrOf q writing.Memory → now ≡ before) is early))
 
-pub finish_shown : (x : Unit {0}) (live : LiveText) (r : Result (Unit {0}) Error) (before between now : Trace) → r ≡ Ok x → EndsLive live before r between ⊎ (IsErrOf r writing.Memory × (between ≡ before)) → now ≡ flushed between → EndsShown live [] before now
-finish_shown x live r before between now is ends flush = end_shown_now x live before between now (subst (λ (q : Result (Unit {0}) Error). EndsLive live before q between ⊎ (IsErrOf q writing.Memory × (between ≡ before))) is ends) flush
+pub finish_shown : (x : Unit {0}) (live : LiveText) (r : Result (Unit {0}) Error) (before between now : Trace) → r ≡ Ok x → EndsLive live before r between ⊎ IsErrOf r writing.Memory → now ≡ flushed between → EndsShown live [] before now
+finish_shown x live r before between now is ends flush = end_shown_now x live before between now (subst (λ (q : Result (Unit {0}) Error). EndsLive live before q between ⊎ IsErrOf q writing.Memory) is ends) flush
 
-finish_went : (x : Unit {0}) (live : LiveText) (before between : Trace) → EndsLive {T = Unit {0}} live before (Ok x) between ⊎ (IsErrOf {T = Unit {0}} (Ok x) writing.Memory × (between ≡ before)) → (bytes : List ℕ) × (between ≡ after before bytes)
+finish_went : (x : Unit {0}) (live : LiveText) (before between : Trace) → EndsLive {T = Unit {0}} live before (Ok x) between ⊎ IsErrOf {T = Unit {0}} (Ok x) writing.Memory → (bytes : List ℕ) × (between ≡ after before bytes)
 finish_went x live before between (inl f) = (f.bytes, f.wrote)
-finish_went x live before between (inr (is, same)) = ([], same ∙ sym (after-nil before))
+finish_went x live before between (inr is) = absurd (clash is)
+  where
+    clash : Ok x ≡ Err writing.Memory → ⊥
+    clash is = cc
 
-pub end_flush_exit : (r ended : Result (Unit {0}) SourceError) (e : SourceError) (x : Unit {0}) (live : LiveText) (s : Result (Unit {0}) Error) (before between now : Trace) → s ≡ Ok x → EndsLive live before s between ⊎ (IsErrOf s writing.Memory × (between ≡ before))
+pub end_flush_exit : (r ended : Result (Unit {0}) SourceError) (e : SourceError) (x : Unit {0}) (live : LiveText) (s : Result (Unit {0}) Error) (before between now : Trace) → s ≡ Ok x → EndsLive live before s between ⊎ IsErrOf s writing.Memory
     → FlushesOut {T = Unit {0}} between (Err e) now → IsErrAnd r (λ d. d ≡ e) → EndsWith live [] ended before r now
 end_flush_exit r ended e x live s before between now is ends flush refused =
     let p = err_from_is_err_and r refused in
-    let went = finish_went x live before between (subst (λ (q : Result (Unit {0}) Error). EndsLive live before q between ⊎ (IsErrOf q writing.Memory × (between ≡ before))) is ends) in
+    let went = finish_went x live before between (subst (λ (q : Result (Unit {0}) Error). EndsLive live before q between ⊎ IsErrOf q writing.Memory) is ends) in
     subst (λ (q : Result (Unit {0}) SourceError). EndsWith live [] ended before q now) (sym (p.1 ∙ ap Err p.2)) (inr (flush_stops (Unit {0}) e went.0 before between now flush went.1))
 
 -- a carriage return at a text's end

@@ -3,10 +3,10 @@ use Rattle.mad_stream.proofs.LiveSourceLemmas.{end_flush_exit, ends_as, finish_r
 use Rattle.mad_stream.proofs.live_sources.finish_live.Goals as goal
 
 pub returns-in-Err : goal.returns-in-Err
-returns-in-Err g c = inr (finish_refused c.in-Err.error c.refusal_of.result c.args.live c.finish.result _ _ c.in-Err.is c.refusal_of.ensures c.finish.ensures)
+returns-in-Err g c = inr (finish_refused c.in-Err.error c.refusal_of.result c.args.live c.finish.result _ _ c.in-Err.is c.refusal_of.ensures c.finish.ensures.ends c.finish.ensures.early)
 
 pub returns-in_err-flush : goal.returns-in_err-flush
-returns-in_err-flush g c = end_flush_exit c.from_residual.result c.args.ended _ c.in-Ok.field-0 c.args.live c.finish.result _ (g.O.Out.seen c.finish.new.out) _ c.in-Ok.is c.finish.ensures c.in_err-flush.ensures c.from_residual.ensures.1
+returns-in_err-flush g c = end_flush_exit c.from_residual.result c.args.ended _ c.in-Ok.field-0 c.args.live c.finish.result _ (g.O.Out.seen c.finish.new.out) _ c.in-Ok.is c.finish.ensures.ends c.in_err-flush.ensures c.from_residual.ensures.1
 
 pub returns : goal.returns
-returns g c = ends_as c.args.ended c.args.live _ _ _ (finish_shown c.in-Ok.field-0 c.args.live c.finish.result _ (g.O.Out.seen c.finish.new.out) _ c.in-Ok.is c.finish.ensures c.in_ok-flush.ensures)
+returns g c = ends_as c.args.ended c.args.live _ _ _ (finish_shown c.in-Ok.field-0 c.args.live c.finish.result _ (g.O.Out.seen c.finish.new.out) _ c.in-Ok.is c.finish.ensures.ends c.in_ok-flush.ensures)

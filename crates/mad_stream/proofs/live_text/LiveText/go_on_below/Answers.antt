@@ -1,13 +1,16 @@
 use Rattle.std.proofs.Common.{List, ℕ, refl, ap, sym, ◌∙◌, subst, inl}
 use Rattle.mad_live.specs.declared.live_rows.LiveRows.{LiveRows}
+use Rattle.mad_live.proofs.CodeLemmas.{on_err}
 use Rattle.mad_stream.specs.Gathered.{gathered_trace}
 use Rattle.mad_stream.specs.Streams.{Steps}
 use Rattle.mad_stream.proofs.LiveTextLemmas.{all_taken, below_fails, goes_below}
 use Rattle.mad_stream.proofs.live_text.LiveText.go_on_below.Goals as goal
 
 pub returns-in_err-begin_below-clause-goes_on : goal.returns-in_err-begin_below-clause-goes_on
-returns-in_err-begin_below-clause-goes_on g c =
-    inl (below_fails c.args.self.now _ c.args.width c.args.height _ _ c.from_residual.result _ c.from_residual.ensures.1 (ap (λ (rows : LiveRows). record c.args.self.now { rows = rows }) c.in_err-begin_below.ensures.begins.kept) c.in_err-begin_below.ensures.begins)
+returns-in_err-begin_below-clause-goes_on g c = inl (below_fails c.args.self.now _ c.args.width c.args.height _ _ c.from_residual.result _ c.from_residual.ensures.1 c.in_err-begin_below.ensures.begins)
+
+pub returns-in_err-begin_below-clause-err : goal.returns-in_err-begin_below-clause-err
+returns-in_err-begin_below-clause-err g c = on_err c.from_residual.result _ (ap (λ (rows : LiveRows). record c.args.self.now { rows = rows }) c.in_err-begin_below.ensures.begins.kept)
 
 pub returns-clause-goes_on : goal.returns-clause-goes_on
 returns-clause-goes_on g c =
