@@ -31,7 +31,7 @@ pub struct FmtComposite<'s> {
 
 impl<'s> FmtComposite<'s> {
     ghost use Rattle.mad_style.specs.Kinds.{kind_of};
-    ghost use Rattle.mad_format.specs.Fitting.{IsCompositeFitted};
+    ghost use Rattle.mad_format.specs.Fitting.{IsCompositeFitted, IsCompositeReplaced};
     ghost use Rattle.mad_format.specs.Wraps.{IsMeasured};
     ghost use Rattle.mad_wrap.specs.WrapLines.{capped};
 
@@ -159,6 +159,10 @@ impl<'s> FmtComposite<'s> {
         ensures fits { self.old.visible_length ≤ width → IsOk result × (self.new ≡ self.old) }
         ensures fitted { width < self.old.visible_length → IsMeasured (S.rules skin.now) self.old
             → OnOk result (IsCompositeFitted (S.rules skin.now) align width self.old self.new) }
+
+        // How that is, exactly, at each width but 0 and 1.
+        ensures replaced { 2 ≤ width → width < self.old.visible_length → IsMeasured (S.rules skin.now) self.old
+            → OnOk result (IsCompositeReplaced (S.rules skin.now) align width self.old self.new) }
         ensures measured { width < self.old.visible_length → OnOk result (IsMeasured (S.rules skin.now) self.new) }
         ensures kind { self.new.kind ≡ self.old.kind }
         ensures spacing { self.new.spacing ≡ self.old.spacing }
@@ -186,6 +190,10 @@ impl<'s> FmtComposite<'s> {
             → IsOk result × (self.new ≡ record self.old { spacing = extended self.old.spacing self.old.visible_length width align }) }
         ensures fitted { width < self.old.visible_length → IsMeasured (S.rules skin.now) self.old
             → OnOk result (IsCompositeFitted (S.rules skin.now) align width self.old self.new) }
+
+        // How that is, exactly, at each width but 0 and 1.
+        ensures replaced { 2 ≤ width → width < self.old.visible_length → IsMeasured (S.rules skin.now) self.old
+            → OnOk result (IsCompositeReplaced (S.rules skin.now) align width self.old self.new) }
         ensures measured { width < self.old.visible_length → OnOk result (IsMeasured (S.rules skin.now) self.new) }
         ensures kind { self.new.kind ≡ self.old.kind }
         ensures spacing { OnOk result (self.new.spacing ≡ extended self.old.spacing self.new.visible_length width align) }

@@ -20,7 +20,7 @@ pub struct Fitter {
 }
 
 impl Fitter {
-    ghost use Rattle.mad_format.specs.Fitting.{IsCompositeFitted};
+    ghost use Rattle.mad_format.specs.Fitting.{IsCompositeFitted, IsCompositeReplaced};
     ghost use Rattle.mad_format.specs.Wraps.{IsMeasured};
 
     /// The fitter of an alignment.
@@ -44,6 +44,10 @@ impl Fitter {
         ensures fits { composite.old.visible_length ≤ max_width → IsOk result × (composite.new ≡ composite.old) }
         ensures fitted { max_width < composite.old.visible_length → IsMeasured (S.rules skin.now) composite.old
             → OnOk result (IsCompositeFitted (S.rules skin.now) self.align max_width composite.old composite.new) }
+
+        // How that is, exactly, at each width but 0 and 1.
+        ensures replaced { 2 ≤ max_width → max_width < composite.old.visible_length → IsMeasured (S.rules skin.now) composite.old
+            → OnOk result (IsCompositeReplaced (S.rules skin.now) self.align max_width composite.old composite.new) }
         ensures measured { max_width < composite.old.visible_length → OnOk result (IsMeasured (S.rules skin.now) composite.new) }
         ensures kind { composite.new.kind ≡ composite.old.kind }
         ensures spacing { composite.new.spacing ≡ composite.old.spacing }
