@@ -52,7 +52,7 @@ pub struct FmtTableRule {
 }
 
 impl FmtTableRule {
-    ghost use Rattle.std.specs.Prelude.{OnOk};
+    ghost use Rattle.std.specs.Prelude.{OnErr, OnOk};
     ghost use Rattle.mad_md.specs.declared.alignment.Alignment.TheVariants.{Unspecified};
     ghost use Rattle.mad_format.specs.FmtLines.{resized};
 
@@ -75,6 +75,7 @@ impl FmtTableRule {
     pub fn set_nbcols(&mut self, nbcols: usize) -> Result<(), AllocError>
         ensures widths { OnOk result (self.new.widths.items ≡ resized nbcols 0 self.old.widths.items) }
         ensures aligns { OnOk result (self.new.aligns.items ≡ resized nbcols Unspecified self.old.aligns.items) }
+        ensures err { OnErr result (self.new.aligns.items ≡ self.old.aligns.items) }
         ensures position { self.new.position ≡ self.old.position }
     {
         self.widths.resize(nbcols, 0)?;
