@@ -129,7 +129,7 @@ fn part_end_in_order(starts: &[usize], row: usize) -> usize
     start_or(starts, at, row + 1)
 }
 
-// The row in which the part of an index begins; that row, where there is no such part.
+// The row in which the part of an index begins; where there is no such part, the row that is given.
 fn start_or(starts: &[usize], part: usize, row: usize) -> usize
     ensures { result ≡ slice_index_or starts.now part row }
 {
