@@ -1,6 +1,6 @@
 //! The bytes of an event.
 
-ghost use Rattle.std.specs.Prelude.{◌≡◌, ◌∷◌, ◌++◌, [], IfOk, option_map, vec_items, string_bytes};
+ghost use Rattle.std.specs.Prelude.{◌≡◌, ◌≢◌, ◌∷◌, ◌++◌, [], IfOk, OnErr, None, option_map, vec_items, string_bytes};
 ghost use Rattle.mad_keys.specs.Forms.{form_bytes};
 ghost use Rattle.mad_keys.specs.PlainBytes.{plain_bytes};
 ghost use Rattle.mad_keys.specs.Laws.{IsWritten};
@@ -53,6 +53,7 @@ fn bytes_of(alloc: Global, form: Form) -> Result<Vec<u8>, AllocError>
 pub fn event_bytes(alloc: Global, event: &Event) -> Result<Option<Vec<u8>>, AllocError>
     ensures plain { IfOk result (λ bytes. option_map vec_items bytes ≡ plain_bytes event.now) }
     ensures written { IfOk result (λ bytes. IsWritten event.now (option_map vec_items bytes)) }
+    ensures fails { OnErr result (plain_bytes event.now ≢ None) }
 {
     match plain_form(*event) {
         Some(form) => Ok(Some(bytes_of(alloc, form)?)),
