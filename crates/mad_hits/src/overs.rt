@@ -46,6 +46,9 @@ pub(crate) fn overs_below(
     ensures { IfOk result (λ overs. overs.items ≡ overs_below sought.now lines.now starts.now row) }
 {
     let letters = letters_of(alloc, sought)?;
+    if !has_blank(letters.as_slice()) {
+        return Ok(Vec::new(alloc));
+    }
     let count = letters.as_slice().len();
     let above = rows_up_to(lines, starts, row, count);
     let below = rows_after(lines, starts, row, count);

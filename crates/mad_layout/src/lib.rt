@@ -40,7 +40,7 @@ pub use mad_format::{
     indents, line, room, room_of, table, wrap, wrap_bound,
 };
 pub use mad_rows::RowSkin;
-pub use parts_writing::write_rest_on;
+pub use parts_writing::{append_parts, write_rest_on};
 pub use skin::MadSkin;
 pub use text_writing::print_text;
 pub use writing::print_inline;

@@ -108,7 +108,7 @@ fn write_parts<O: Out>(
 }
 
 /// Puts the rows of the parts of a text that are left after the rows that are there.
-pub(crate) fn append_parts(
+pub fn append_parts(
     alloc: Global,
     rows: &mut String,
     parts: &mut PartCursor,

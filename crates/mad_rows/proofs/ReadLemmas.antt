@@ -1,12 +1,12 @@
 -- Rows of composites that were read are those of the lines that they become.
-use Rattle.std.proofs.Common.{◌≡◌, ℕ, ◌+◌, ◌-◌, ◌<◌, ◌≤◌, ◌^◌, false, List, [], ◌∷◌, ◌++◌, map, length, drop, get_or, is_some, Option, Some, None, Vec, Global, refl, ap, sym, ◌∙◌, subst, arith, append-nil, append_assoc, Bool}
+use Rattle.std.proofs.Common.{◌≡◌, ℕ, ◌+◌, ◌-◌, ◌<◌, ◌≤◌, ◌^◌, false, true, List, [], ◌∷◌, ◌++◌, map, length, drop, get_or, is_some, Option, Some, None, Vec, Global, refl, ap, sym, ◌∙◌, subst, arith, append-nil, append_assoc, Bool}
 use Rattle.std.specs.Str.{bytes_eq}
 use Rattle.mad_term.specs.Styles.{piece_bytes, opening_bytes, closing_bytes}
 use Rattle.mad_rows.specs.ReadRows.{IsBetween}
 use Rattle.mad_rows.specs.RowStyles.{compound_style, ellipsis_bytes, overwritten_if}
 use Rattle.std.specs.Prelude.{if◌then◌else◌}
 use Rattle.std.specs.List.{flat_map}
-use Rattle.std.proofs.lemmas.List.{length-append, length-map, at_drop_more, drop_all}
+use Rattle.std.proofs.lemmas.List.{length-append, length-map, map-append, at_drop_more, drop_all}
 use Rattle.mad_md.specs.Flagged.{Flags, run_of, flags_of, flagged_text}
 use Rattle.mad_md.specs.declared.compound.Compound.{Compound}
 use Rattle.mad_md.specs.declared.composite.CompositeStyle.{CompositeStyle}
@@ -27,6 +27,8 @@ use Rattle.mad_wrap.specs.LeastWords.{IsWrapBy}
 use Rattle.mad_wrap.specs.LeastWrap.{AreTokensIn}
 use Rattle.mad_wrap.specs.Rooms.{token_limit}
 use Rattle.mad_wrap.specs.TokenLines.{HoldsTokens, HoldBreak, ArePlacedLines}
+use Rattle.mad_wrap.specs.WordLines.{AreWordLines}
+use Rattle.mad_wrap.specs.Words.{Piece, pieces_tokens, pieces_of, token_break}
 use Rattle.mad_wrap.specs.WrapLines.{capped, compounds_of}
 use Rattle.mad_wrap.specs.FirstFit.{at_first}
 use Rattle.mad_wrap.specs.Writings.{IsWrittenBare, Writes, WritesUpTo, WritesBefore, open_rows, AreRows}
@@ -34,6 +36,8 @@ use Rattle.mad_wrap.specs.declared.first_fit.FirstFit.{FirstFit}
 use Rattle.mad_wrap.proofs.WritingLemmas.{rows_written, compound_more}
 use Rattle.mad_wrap.specs.declared.room.Room.{Room}
 use Rattle.mad_wrap.specs.declared.wrapped_line.WrappedLine.{WrappedLine}
+use Rattle.mad_wrap.proofs.WordLemmas.{all_tokens, token_break_covers}
+use Rattle.mad_wrap.proofs.WordWraps.{words_wrap, words_counted}
 use Rattle.mad_wrap.proofs.WrapLemmas.{placed_wrap, placed_counted}
 use Rattle.mad_draw.specs.Pieces.{RowPiece, pieces_bytes, spaces}
 use Rattle.mad_draw.proofs.PieceLemmas.{bytes_both}
@@ -47,9 +51,11 @@ use Rattle.mad_format.proofs.ReadWraps.{read_fits, read_wraps}
 use Rattle.mad_rows.specs.RowStyles.{line_style, line_rules}
 use Rattle.mad_rows.specs.Rows.{compound_piece, run_piece, prefix_pieces, line_bytes, text_bytes}
 use Rattle.mad_rows.specs.ReadRows.{run_bytes, token_bytes, front_bytes, later_front, IsPlainIn, PutsRead, WritesWrap}
+use Rattle.mad_rows.specs.WordRows.{PiecesOut}
 use Rattle.mad_rows.specs.declared.composites.CompositeFront.{CompositeFront}
 use Rattle.mad_rows.specs.declared.row_skin.RowSkin.{RowSkin}
 use Rattle.mad_rows.proofs.PieceLemmas.{pieces_of_runs}
+use Rattle.mad_rows.proofs.WordRowLemmas.{ArePieceRows, piece_rows}
 
 -- ---- compounds that need no commands
 
@@ -234,6 +240,35 @@ read_wrapped skin width style line kind compounds margins r ts out old new kind_
     wrap_text skin width margins line rows.breaks kind (follow_up kind) r.first r.other ws rows.line rows.gap left (sym line_is) (later_style skin kind ∙ sym line_is) made.1
     ∙ ap (λ (x : List ℕ). front_text skin kind margins.0 ++ (x ++ 10 ∷ [])) (sym rows.rows) in
     (pushed.0, pushed.1, pushed.2, put ∙ ap (λ (x : List ℕ). old ++ x) (sym text) ∙ ap (λ (x : List FmtLine). old ++ text_bytes skin (Some width) x) pushed.3, pushed.4)
+
+-- of one that is wrapped, words whole
+pub read_words : (skin : RowSkin) (width : ℕ) (style : CompositeStyle) (line : LineStyle) (kind : CompositeKind) (compounds : Vec Compound Global) (margins : ℕ × ℕ) (r : Room) (ts : List Token) (n : FirstFit) (out old new : List ℕ)
+    → kind ≡ kind_of style → line ≡ line_style skin kind → margins ≡ margins_at (line_style skin kind) (Some width) → r ≡ room_of (line_rules skin) kind (width - margins.0 - margins.1) → LeftOfAll line
+    → r.width < r.first + width_of (flagged_text compounds.items) → r.whole_words ≡ true → bytes_of compounds.items < 2 ^ 62 → width < 2 ^ 64 - 1
+    → AreTokensIn r compounds.items ts → PiecesOut (token_bytes skin line) (front_text skin (follow_up kind) margins.0) (at_first r) (pieces_of (token_limit r) ts) n out
+    → new ≡ old ++ (front_text skin kind margins.0 ++ (out ++ 10 ∷ []))
+    → PutsRead skin width (record { style = style; runs = map run_of compounds.items }) old new
+read_words skin width style line kind compounds margins r ts n out old new kind_is line_is margins_are room_is left wide whole short range cut writes put =
+    let ps : List Compound = compounds.items in
+    let write : Token → List ℕ = token_bytes skin line in
+    let later : List ℕ = front_text skin (follow_up kind) margins.0 in
+    let rows : ArePieceRows write later r (pieces_of (token_limit r) ts) out = piece_rows write later (pieces_of (token_limit r) ts) r n out writes in
+    let x : LineAndGap Piece = record { line = rows.line; gap = rows.gap } in
+    let breaks : List (LineAndGap Piece) = rows.breaks ++ x ∷ [] in
+    let all : lines_and_gaps (token_break breaks) ≡ ts = token_break_covers breaks ∙ ap pieces_tokens rows.covers ∙ all_tokens (token_limit r) ts in
+    let made = made_lines compounds (token_break breaks) (omega (arith, ap length all, tokens_short (token_limit r) ps ts cut, short)) in
+    let ws : List WrappedLine = made.0 in
+    let placed : AreWordLines r ts ws = record { breaks = breaks; covers = rows.covers; first_fit = rows.first_fit; holds = made.1 } in
+    let lines : List FmtComposite = composites kind (follow_up kind) r.first r.other ws in
+    let own : List FmtLine = map (line_with margins) lines in
+    let pushed = read_wraps (line_rules skin) width style kind compounds margins r ws [] own kind_is margins_are room_is wide range (subst (λ (b : Bool). IsWrapBy b r ps (compounds_of ws)) (sym whole) (words_wrap r ps ts ws wide cut placed)) (words_counted r ps ts ws cut placed)
+    (lines, refl, are_composites kind (follow_up kind) r.first r.other ws) in
+    let split : token_break breaks ≡ token_break rows.breaks ++ record { line = pieces_tokens rows.line; gap = pieces_tokens rows.gap } ∷ [] = map-append _ rows.breaks (x ∷ []) in
+    let text : text_bytes skin (Some width) own ≡ front_text skin kind margins.0 ++ (out ++ 10 ∷ []) =
+    wrap_text skin width margins line (token_break rows.breaks) kind (follow_up kind) r.first r.other ws (pieces_tokens rows.line) (pieces_tokens rows.gap) left (sym line_is) (later_style skin kind ∙ sym line_is)
+    (subst (λ (b : List (LineAndGap Token)). HoldBreak b ws) split made.1)
+    ∙ ap (λ (y : List ℕ). front_text skin kind margins.0 ++ (y ++ 10 ∷ [])) (sym rows.rows) in
+    (pushed.0, pushed.1, pushed.2, put ∙ ap (λ (y : List ℕ). old ++ y) (sym text) ∙ ap (λ (y : List FmtLine). old ++ text_bytes skin (Some width) y) pushed.3, pushed.4)
 
 -- ---- what was written on the way
 

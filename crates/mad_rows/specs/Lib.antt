@@ -1,3 +1,4 @@
 pub mod ReadRows
 pub mod Rows
 pub mod RowStyles
+pub mod WordRows

@@ -1,29 +1,34 @@
 //! Rows of composites that were read, put after a string without a layout in between.
 
-ghost use Rattle.std.specs.Prelude.{◌≡◌, ◌<◌, ◌≤◌, ◌++◌, ◌∷◌, ◌^◌, ℕ, [], List, IfOk, OnOk, IsTrue, length, map, slice_range, string_bytes};
-ghost use Rattle.std.specs.Prelude.{false};
-ghost use Rattle.std.specs.Str.{bytes_eq};
+ghost use Rattle.std.specs.Prelude.{◌≡◌, ◌≢◌, ◌+◌, drop, get_or, ◌<◌, ◌≤◌, ◌-◌, ◌++◌, ◌∷◌, ◌^◌, ℕ, [], List, IfOk, OnOk, IsTrue, length, map, slice_range, string_bytes};
+ghost use Rattle.std.specs.Prelude.{false, true, if◌then◌else◌};
+ghost use Rattle.std.specs.List.{flat_map};
+ghost use Rattle.std.specs.Str.{bytes_eq, IsCharBoundary, IsUtf8};
 ghost use Rattle.mad_md.specs.Flagged.{flags_of, run_of};
 ghost use Rattle.mad_md.specs.declared.compound.Compound.{Compound};
 ghost use Rattle.mad_md.specs.Lines.{styled_runs};
-ghost use Rattle.mad_fit.specs.Chunks.{ArePlain};
+ghost use Rattle.mad_fit.specs.Chunks.{ArePlain, is_space_at};
 ghost use Rattle.mad_fit.specs.Completions.{left_completion};
 ghost use Rattle.mad_fit.specs.TokenPositions.{bytes_of};
 ghost use Rattle.mad_fit.specs.declared.tokens.Token.{Token};
 ghost use Rattle.mad_wrap.specs.Writings.{IsWrittenBare, WritesBefore, WritesUpTo, put_bytes};
 ghost use Rattle.mad_wrap.specs.declared.first_fit.FirstFit.{FirstFit};
+ghost use Rattle.mad_wrap.specs.Breaks.{total_width};
+ghost use Rattle.mad_wrap.specs.WordLines.{AreInCompounds};
+ghost use Rattle.mad_wrap.specs.Words.{alone, together};
 ghost use Rattle.mad_style.specs.declared.kinds.CompositeKind.TheVariants.{ListItem};
 ghost use Rattle.mad_term.specs.Styles.{IsUnstyled};
 ghost use Rattle.mad_draw.specs.Pieces.{pieces_bytes, single_spaces};
 ghost use Rattle.mad_rows.specs.Rows.{compound_piece, prefix_pieces};
 ghost use Rattle.mad_rows.specs.RowStyles.{compound_style, ellipsis_bytes};
 ghost use Rattle.mad_rows.specs.ReadRows.{HasPlainMarks, front_bytes, IsBetween, run_bytes, token_bytes, IsPlainIn, PutsReadOrNone, WritesWrap};
+ghost use Rattle.mad_rows.specs.WordRows.{BeginsBlank, HasLastWord, IsQuickTo, no_compound, WritesPieces, WritesSome, WritesWordWrap, WritesWords};
 
 use crate::composites::{CompositeFront, PlacedCompound, Prefix};
 use crate::row_skin::{RowSkin, is_bare, is_ellipsis};
 use crate::row_writing::append_compounds;
 use crate::style_commands::{StyleCommands, append_three};
-use mad_fit::{plain_end, token_at};
+use mad_fit::{Token, plain_end, token_at};
 use mad_format::{follow_up, margins_and_rest, room_of};
 use mad_md::{Alignment, Composite, Compound};
 use mad_style::{CompositeKind, CompoundStyle, LineStyle};
@@ -69,10 +74,14 @@ pub fn append_read(
         append_whole(rows, front, compounds, commands)?;
         return Ok(true);
     }
-    if room.whole_words {
+    if !are_short(compounds) {
         return Ok(false);
     }
-    if !are_short(compounds) || is_cut_clean(compounds, room) {
+    if room.whole_words {
+        append_word_wrap(alloc, rows, front, compounds, room, commands)?;
+        return Ok(true);
+    }
+    if is_cut_clean(compounds, room) {
         return Ok(false);
     }
     append_wrap(alloc, rows, front, compounds, room)?;
@@ -179,6 +188,326 @@ fn append_wrap(
     let style = front.style;
     append_tokens(alloc, rows, fit, compounds, max, &later, style, front.skin)?;
     rows.push_str("\n")?;
+    Ok(())
+}
+
+// Lines that are wrapped, words whole.
+fn append_word_wrap(
+    alloc: Global,
+    rows: &mut String,
+    front: CompositeFront,
+    compounds: &[Compound],
+    room: Room,
+    commands: &mut StyleCommands,
+) -> Result<(), AllocError>
+    ensures { OnOk result (WritesWordWrap front.entry room compounds.now (string_bytes rows.old) (string_bytes rows.new)) }
+{
+    let mut later = String::new(alloc);
+    append_front(
+        &mut later,
+        CompositeFront {
+            kind: follow_up(front.kind),
+            ..front
+        },
+    )?;
+    append_front(rows, front)?;
+    let fit = FirstFit::new(room);
+    let limit = room.token_limit();
+    let style = front.style;
+    append_pieces(
+        alloc, rows, fit, compounds, limit, &later, style, front.skin, commands,
+    )?;
+    rows.push_str("\n")?;
+    Ok(())
+}
+
+// The pieces of the compounds' tokens. Those of a single compound are its tokens.
+fn append_pieces(
+    alloc: Global,
+    rows: &mut String,
+    fit: FirstFit,
+    compounds: &[Compound],
+    limit: usize,
+    later: &str,
+    style: &LineStyle,
+    skin: &RowSkin,
+    commands: &mut StyleCommands,
+) -> Result<(), AllocError>
+    ensures { OnOk result (WritesWords (token_bytes skin.now style.now) later.now limit compounds.now fit (string_bytes rows.old) (string_bytes rows.new)) }
+{
+    if compounds.len() == 1 {
+        append_tokens(alloc, rows, fit, compounds, limit, later, style, skin)
+    } else {
+        append_words(
+            alloc, rows, fit, compounds, limit, later, style, skin, commands,
+        )
+    }
+}
+
+// The words of the compounds, as they are placed on lines.
+fn append_words(
+    alloc: Global,
+    rows: &mut String,
+    fit: FirstFit,
+    compounds: &[Compound],
+    limit: usize,
+    later: &str,
+    style: &LineStyle,
+    skin: &RowSkin,
+    commands: &mut StyleCommands,
+) -> Result<(), AllocError>
+    ensures { OnOk result (WritesWords (token_bytes skin.now style.now) later.now limit compounds.now fit (string_bytes rows.old) (string_bytes rows.new)) }
+{
+    let mut fit = fit;
+    // The tokens of a word that may go on, and their columns.
+    let mut word = Vec::new(alloc);
+    let mut width = 0;
+    // Whether those of this word are put one by one.
+    let mut is_loose = false;
+    for index in 0..compounds.len() {
+        let compound = compounds[index];
+        let end = quick_end(compounds, index, style, skin);
+        let mut at = 0;
+        while at < compound.src.len() {
+            if at < end && word.is_empty() && !is_loose {
+                let (after, to) = append_front_words(rows, fit, compound, at, end, limit, later)?;
+                fit = after;
+                at = to;
+                continue;
+            }
+            let token = token_at(compound, at, limit);
+            at = token.end_in_compound;
+            if may_go_on(&word, token)
+                && !token.blank
+                && !is_loose
+                && token.width <= limit - width
+            {
+                word.push(token)?;
+                width += token.width;
+                continue;
+            }
+            // The word has ended, or is wider than the limit, or is this token alone.
+            if !word.is_empty() {
+                fit = append_begun(
+                    rows,
+                    fit,
+                    &word,
+                    width,
+                    token.blank,
+                    later,
+                    style,
+                    skin,
+                    commands,
+                )?;
+                word.clear();
+                width = 0;
+            }
+            fit = append_word(
+                rows,
+                fit,
+                &[token],
+                token.width,
+                later,
+                style,
+                skin,
+                commands,
+            )?;
+            is_loose = !token.blank;
+        }
+    }
+    append_word(rows, fit, &word, width, later, style, skin, commands)?;
+    Ok(())
+}
+
+// Up to where the tokens of a compound can be put one by one, if it needs no commands and isn't code: to its last word, or to its end where
+// no word goes on after it; else 0.
+fn quick_end(compounds: &[Compound], index: usize, style: &LineStyle, skin: &RowSkin) -> usize
+    requires { index < length compounds.now }
+    ensures word { 0 < result → IsQuickTo (token_bytes skin.now style.now) (get_or compounds.now index no_compound) (drop (index + 1) compounds.now) result }
+    ensures text { IsUtf8 (get_or compounds.now index no_compound).src.now }
+{
+    let next = index + 1;
+    let ends = next == compounds.len() || begins_with_space(compounds[next]);
+    quick_in(compounds[index], ends, style, skin)
+}
+
+// The same, where it is known whether its last word ends with it.
+fn quick_in(compound: Compound, ends: bool, style: &LineStyle, skin: &RowSkin) -> usize
+    ensures word { 0 < result → (ends ≡ false → HasLastWord (token_bytes skin.now style.now) compound.entry result) × (ends ≡ true → (IsWrittenBare (token_bytes skin.now style.now) compound.entry) × (result ≡ length compound.entry.src.now)) }
+    ensures text { IsUtf8 compound.entry.src.now }
+{
+    if compound.code || !is_plain(compound, style, skin) {
+        return 0;
+    }
+    if ends {
+        compound.src.len()
+    } else {
+        after_last_space(compound.src.as_bytes())
+    }
+}
+
+// Whether a compound begins with a blank.
+fn begins_with_space(compound: Compound) -> bool
+    ensures { IsTrue result → BeginsBlank compound.entry }
+{
+    !compound.code && !compound.src.is_empty() && compound.src.as_bytes()[0] == b' '
+}
+
+// Where the last space ends; 0 if there is none.
+fn after_last_space(bytes: &[u8]) -> usize
+    ensures inside { result ≤ length bytes.now }
+    ensures space { 0 < result → is_space_at bytes.now (result - 1) ≡ true }
+{
+    let mut end = bytes.len();
+    while end > 0 && bytes[end - 1] != b' ' {
+        end -= 1;
+    }
+    end
+}
+
+// The tokens of a compound that needs no commands, span by span, up to a byte at least. It says where they end.
+fn append_front_words(
+    rows: &mut String,
+    fit: FirstFit,
+    compound: Compound,
+    start: usize,
+    end: usize,
+    max: usize,
+    later: &str,
+) -> Result<(FirstFit, usize), AllocError>
+    requires border { IsCharBoundary compound.src.now start }
+    requires inside { end ≤ length compound.src.now }
+    requires some { start < end }
+    ensures border { IfOk result (λ after. IsCharBoundary compound.entry.src.now after.1) }
+    ensures past { IfOk result (λ after. end ≤ after.1) }
+    ensures written { IfOk result (λ after. (write : Token → List ℕ) → IsWrittenBare write compound.entry → WritesSome write later.now max compound.entry start end after.1 fit (string_bytes rows.old) after.0 (string_bytes rows.new)) }
+{
+    let bytes = compound.src.as_bytes();
+    let mut fit = fit;
+    let mut at = start;
+    let mut plain = plain_end(bytes, start);
+    while at < end {
+        plain = plain_past(bytes, at, plain);
+        let span = next_span(fit, compound, at, plain.min(end), max);
+        if span.end <= end {
+            append_text(rows, &compound.src[at..span.end], span.put, later)?;
+            fit = span.after;
+            at = span.end;
+        } else {
+            let token = token_at(compound, at, max);
+            let put = fit.put(token);
+            append_text(rows, &compound.src[at..token.end_in_compound], put, later)?;
+            at = token.end_in_compound;
+        }
+    }
+    Ok((fit, at))
+}
+
+// Whether a token is one of several of a word that fits on a line, as far as can be told: most end before their compound does, where a
+// blank comes, or a character with which the word is too wide.
+fn may_go_on(word: &[Token], token: Token) -> bool
+    ensures { result ≡ false → (word.now ≡ []) × (token.entry.end_in_compound ≢ length token.entry.compound.src.now) }
+{
+    !word.is_empty() || token.end_in_compound == token.compound.src.len()
+}
+
+// The tokens of a word: together where it has ended, else each alone.
+fn append_begun(
+    rows: &mut String,
+    fit: FirstFit,
+    word: &[Token],
+    width: usize,
+    ended: bool,
+    later: &str,
+    style: &LineStyle,
+    skin: &RowSkin,
+    commands: &mut StyleCommands,
+) -> Result<FirstFit, AllocError>
+    requires within { AreInCompounds word.now }
+    requires width { width ≡ total_width word.now }
+    ensures { IfOk result (λ after. WritesPieces (token_bytes skin.now style.now) later.now fit (if ended then together word.now else map alone word.now) (string_bytes rows.old) after (string_bytes rows.new)) }
+{
+    if ended {
+        append_word(rows, fit, word, width, later, style, skin, commands)
+    } else {
+        append_each(rows, fit, word, later, style, skin, commands)
+    }
+}
+
+// Each of the tokens alone.
+fn append_each(
+    rows: &mut String,
+    fit: FirstFit,
+    tokens: &[Token],
+    later: &str,
+    style: &LineStyle,
+    skin: &RowSkin,
+    commands: &mut StyleCommands,
+) -> Result<FirstFit, AllocError>
+    requires { AreInCompounds tokens.now }
+    ensures { IfOk result (λ after. WritesPieces (token_bytes skin.now style.now) later.now fit (map alone tokens.now) (string_bytes rows.old) after (string_bytes rows.new)) }
+{
+    let mut fit = fit;
+    for token in tokens {
+        fit = append_word(
+            rows,
+            fit,
+            &[*token],
+            token.width,
+            later,
+            style,
+            skin,
+            commands,
+        )?;
+    }
+    Ok(fit)
+}
+
+// The tokens of a word together, if there are any.
+fn append_word(
+    rows: &mut String,
+    fit: FirstFit,
+    word: &[Token],
+    width: usize,
+    later: &str,
+    style: &LineStyle,
+    skin: &RowSkin,
+    commands: &mut StyleCommands,
+) -> Result<FirstFit, AllocError>
+    requires within { AreInCompounds word.now }
+    requires width { width ≡ total_width word.now }
+    ensures { IfOk result (λ after. WritesPieces (token_bytes skin.now style.now) later.now fit (together word.now) (string_bytes rows.old) after (string_bytes rows.new)) }
+{
+    let Some(first) = word.first() else {
+        return Ok(fit);
+    };
+    let mut after = fit;
+    match after.put(Token { width, ..*first }) {
+        Put::OnLine => {}
+        Put::OnNext => {
+            rows.push_str("\n")?;
+            rows.push_str(later)?;
+        }
+        Put::InGap => return Ok(after),
+    }
+    append_parts(rows, word, style, skin, commands)?;
+    Ok(after)
+}
+
+// Tokens on one row.
+fn append_parts(
+    rows: &mut String,
+    tokens: &[Token],
+    style: &LineStyle,
+    skin: &RowSkin,
+    commands: &mut StyleCommands,
+) -> Result<(), AllocError>
+    requires { AreInCompounds tokens.now }
+    ensures { OnOk result (string_bytes rows.new ≡ string_bytes rows.old ++ flat_map (token_bytes skin.now style.now) tokens.now) }
+{
+    for token in tokens {
+        append_compounds(rows, &[token.to_compound()], style, skin, commands)?;
+    }
     Ok(())
 }
 

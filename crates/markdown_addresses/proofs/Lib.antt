@@ -1,1 +1,2 @@
 mod BareLemmas
+pub mod NoneLemmas

@@ -1,5 +1,5 @@
 -- Addresses without brackets, as GitHub has them: http://, https://, ftp://, www. and mail.
-use Rattle.std.specs.Prelude.{ℕ, zero, suc, ◌+◌, ◌-◌, ◌==◌, ◌||◌, ◌&&◌, not, nat_lt, Bool, true, false, if◌then◌else◌, List, [], ◌∷◌, length, drop, take, slice_index, Option, Some, None, codes}
+use Rattle.std.specs.Prelude.{◌≡◌, ℕ, zero, suc, ◌+◌, ◌-◌, ◌==◌, ◌||◌, ◌&&◌, not, nat_lt, Bool, true, false, if◌then◌else◌, List, [], ◌∷◌, length, drop, take, slice_index, Option, Some, None, codes}
 use Rattle.std.specs.List.{prefix_len, list_any}
 use Rattle.std.specs.Char.{is_ascii_alphabetic, is_ascii_alphanumeric}
 use Rattle.markdown_marks.specs.Bytes.{first}
@@ -146,3 +146,13 @@ or_bare (Some bare) otherwise = Some bare
 -- the bare address that a rest begins with, behind this byte
 abbrev pub bare_after : Option ℕ → List ℕ → Option Bare
 bare_after before bytes = or_bare (if may_precede_web before then web_of bytes else None) (if may_precede_mail before then mail_of bytes else None)
+
+-- ---- where none begins
+
+-- one of the web begins with w, h or f
+abbrev pub may_begin_web : ℕ → Bool
+may_begin_web b = (b == 119) || (b == 87) || (b == 104) || (b == 72) || (b == 102) || (b == 70)
+
+-- no byte is an at sign
+abbrev pub HasNoAt : List ℕ → Type 0
+HasNoAt bytes = (k : ℕ) → (slice_index bytes k == 64) ≡ false

@@ -4,10 +4,10 @@
 //! mail begins where the byte before can't be of it, and ends in a letter; a domain of the web has at most 255 bytes, so a text takes time
 //! in proportion to its length. The reader of pieces adds that none begins where a bracket is open.
 
-ghost use Rattle.std.specs.Prelude.{◌≡◌, ◌+◌, ◌<◌, ◌≤◌, ◌==◌, if◌then◌else◌, true, false, length, IfSome};
+ghost use Rattle.std.specs.Prelude.{◌≡◌, ◌+◌, ◌<◌, ◌≤◌, ◌==◌, if◌then◌else◌, true, false, length, IfSome, None};
 ghost use Rattle.std.specs.List.{prefix_len, list_any};
 ghost use Rattle.std.specs.Char.{is_ascii_alphanumeric};
-ghost use Rattle.markdown_addresses.specs.Bare.{is_domain_byte, goes_on, domain_len, is_period, is_low, web_domain, is_path_byte, count_of, is_trailing, ends_name, trim_step, trimmed, address_end, web_from, is_in_front, web_of, is_mail_byte, mail_domain, mail_of, may_precede_web, may_precede_mail, bare_after};
+ghost use Rattle.markdown_addresses.specs.Bare.{is_domain_byte, goes_on, domain_len, is_period, is_low, web_domain, is_path_byte, count_of, is_trailing, ends_name, trim_step, trimmed, address_end, web_from, is_in_front, web_of, is_mail_byte, mail_domain, mail_of, may_precede_web, may_precede_mail, bare_after, may_begin_web, HasNoAt};
 
 use crate::addresses::Scheme;
 use markdown_html::names::same_letters;
@@ -377,4 +377,49 @@ pub fn bare_after(before: Option<u8>, bytes: &[u8]) -> Option<Bare>
         return mail_of(bytes);
     }
     None
+}
+
+// ---- where it is known that none begins
+
+// Whether an address of the web may begin with this byte.
+fn may_begin_web(b: u8) -> bool
+    ensures { result ≡ may_begin_web b }
+{
+    matches!(b, b'w' | b'W' | b'h' | b'H' | b'f' | b'F')
+}
+
+fn web_at(before: Option<u8>, bytes: &[u8]) -> Option<Bare>
+    ensures { result ≡ if may_precede_web before then web_of bytes.now else None }
+{
+    if !may_precede_web(before) {
+        return None;
+    }
+    if !may_begin_web(first(bytes)) {
+        return None;
+    }
+    web_of(bytes)
+}
+
+fn mail_at(mail: bool, before: Option<u8>, bytes: &[u8]) -> Option<Bare>
+    requires { mail ≡ false → HasNoAt bytes.now }
+    ensures { result ≡ if may_precede_mail before then mail_of bytes.now else None }
+{
+    if !mail {
+        return None;
+    }
+    if !may_precede_mail(before) {
+        return None;
+    }
+    mail_of(bytes)
+}
+
+/// The same as [`bare_after`], where `mail` says whether there may be an at sign.
+pub fn bare_known(mail: bool, before: Option<u8>, bytes: &[u8]) -> Option<Bare>
+    requires { mail ≡ false → HasNoAt bytes.now }
+    ensures { result ≡ bare_after before bytes.now }
+{
+    match web_at(before, bytes) {
+        Some(bare) => Some(bare),
+        None => mail_at(mail, before, bytes),
+    }
 }

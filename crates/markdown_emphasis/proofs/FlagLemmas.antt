@@ -1,7 +1,7 @@
 -- Pieces and the pairs over them.
-use Rattle.std.proofs.Common.{◌≡◌, ℕ, ◌+◌, ◌-◌, ◌<◌, ◌≤◌, inl, inr, Bool, true, false, cond, ltb, eqb, List, [], ◌∷◌, ◌++◌, below_more, length, get_or, set, take, eq-eqb, subst, refl, ap, sym, ◌∙◌, arith}
+use Rattle.std.proofs.Common.{◌≡◌, ℕ, ◌+◌, ◌-◌, ◌<◌, ◌≤◌, inl, inr, Bool, true, false, cond, ltb, eqb, List, [], ◌∷◌, ◌++◌, zero, suc, map, replicate, below_more, length, get_or, set, take, eq-eqb, subst, refl, ap, sym, ◌∙◌, arith}
 use Rattle.std.specs.Prelude.{◌||◌}
-use Rattle.std.specs.List.{All, count_by, list_any}
+use Rattle.std.specs.List.{All, count_by, list_any, range_with_len}
 use Rattle.std.proofs.lemmas.Bool.{lt-ltb}
 use Rattle.std.proofs.lemmas.Bool.Decides.{nat_tests}
 use Rattle.std.proofs.lemmas.Bool.{cases_eq, ne_eqb}
@@ -107,3 +107,22 @@ push_piece xs b F n size before now =
 pub push_flags : (pairs : List Pair) (xs ys : List Flags) (n : ℕ) (flags : Flags) → xs ≡ flags_of n pairs → ys ≡ xs ++ flags ∷ [] → flags ≡ flags_at pairs n → ys ≡ flags_of (n + 1) pairs
 push_flags pairs xs ys n flags before pushed now =
     pushed ∙ ap (λ l. l ++ flags ∷ []) before ∙ ap (λ f. flags_of n pairs ++ f ∷ []) now ∙ sym (map-range_with_len_more (flags_at pairs) 0 n n (omega arith))
+
+-- ---- no pairs
+
+none_covered : (n k : ℕ) → get_or (replicate n false) k false ≡ false
+none_covered zero k = refl
+none_covered (suc n) zero = refl
+none_covered (suc n) (suc k) = none_covered n k
+
+pub no_cover : (pairs : List Pair) (n k : ℕ) → length pairs ≡ 0 → get_or (replicate n false) k false ≡ is_covered pairs k
+no_cover [] n k e = none_covered n k
+no_cover (p ∷ ps) n k e = absurd (omega (arith, e))
+
+none_from : (n a : ℕ) → replicate n (record { bold = false; italic = false; strikeout = false }) ≡ map (flags_at []) (range_with_len a n)
+none_from zero a = refl
+none_from (suc n) a = ap (λ (l : List Flags). record { bold = false; italic = false; strikeout = false } ∷ l) (none_from n (a + 1))
+
+pub flags_none : (pairs : List Pair) (n : ℕ) → length pairs ≡ 0 → replicate n (record { bold = false; italic = false; strikeout = false }) ≡ flags_of n pairs
+flags_none [] n e = none_from n 0
+flags_none (p ∷ ps) n e = absurd (omega (arith, e))

@@ -76,9 +76,13 @@ fn covered(alloc: Global, pairs: &[Pair], pieces: usize) -> Result<Vec<bool>, Al
     ensures size { IfOk result (λ covered. length covered.items ≡ pieces) }
     ensures covered { IfOk result (λ covered. (k : ℕ) → k < pieces → get_or covered.items k false ≡ is_covered pairs.now k) }
 {
+    if pairs.is_empty() {
+        let none = vec![in alloc; false; pieces]?;
+        return Ok(none);
+    }
     let begun = count_openers(alloc, pairs, pieces)?;
     let ended = count_closers(alloc, pairs, pieces)?;
-    let mut covered = Vec::new(alloc);
+    let mut covered = Vec::with_capacity(alloc, pieces)?;
     let mut depth = 0;
     for piece in 0..pieces {
         depth -= ended[piece];
@@ -141,10 +145,19 @@ pub fn flag_pieces(alloc: Global, pairs: &[Pair], pieces: usize) -> Result<Vec<F
     requires { All (IsWithin pieces) pairs.now }
     ensures { IfOk result (λ flags. flags.items ≡ flags_of pieces pairs.now) }
 {
+    if pairs.is_empty() {
+        let none = Flags {
+            bold: false,
+            italic: false,
+            strikeout: false,
+        };
+        let flags = vec![in alloc; none; pieces]?;
+        return Ok(flags);
+    }
     let bold = bold_pieces(alloc, pairs, pieces)?;
     let italic = italic_pieces(alloc, pairs, pieces)?;
     let strikeout = strikeout_pieces(alloc, pairs, pieces)?;
-    let mut flags = Vec::new(alloc);
+    let mut flags = Vec::with_capacity(alloc, pieces)?;
     for piece in 0..pieces {
         flags.push(Flags {
             bold: bold[piece],

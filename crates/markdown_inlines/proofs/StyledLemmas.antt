@@ -52,7 +52,7 @@ same_look a b e =
 
 -- ---- a character alone
 
-alone : (text new e : List ℕ) → IsUtf8 text → IsUtf8 new → new ≡ text ++ e → IsUtf8 e
+pub alone : (text new e : List ℕ) → IsUtf8 text → IsUtf8 new → new ≡ text ++ e → IsUtf8 e
 alone text new e f u is =
     let many : length new ≡ length text + length e = ap length is ∙ length-append text e in
     let taken : take (length text) new ≡ text = ap (take (length text)) is ∙ take-append_seam text e in
@@ -109,6 +109,48 @@ push_other rs more old new c start look u v is s m on are =
     ap (λ (l : List ℕ). spelled rs l ++ map (shown_with look) (chars (drop start new))) taken
     ∙ ap (λ (l : List ℕ). spelled rs old ++ map (shown_with look) l) (ap chars dropped ∙ one_char c w) in
     let runs : AreRuns (r ∷ rs) new = (omega (arith, s, many, some_bytes c), subst IsUtf8 (sym dropped) w, on, subst (λ (l : List ℕ). AreRuns rs l) (sym taken) are) in
+    record { spells = ap (λ (l : List TextRun). spelled l new) m ∙ spells; are = subst (λ (l : List TextRun). AreRuns l new) (sym m) runs }
+
+-- ---- a text more
+
+pub record IsAdded (rs more : List TextRun) (old new : List ℕ) (shown : List Shown) : Type 0 where
+  pub spells : spelled more new ≡ spelled rs old ++ shown
+  pub are : AreRuns more new
+
+pub text_same : (rs : List TextRun) (old new e : List ℕ) (look : Look) → IsUtf8 e → new ≡ old ++ e → goes_on look rs ≡ true → AreRuns rs old → IsAdded rs rs old new (map (shown_with look) (chars e))
+unfolding spelled
+text_same [] old new e look w is on are = absurd (no on)
+  where
+    no : false ≡ true → ⊥
+    no e = cc
+text_same (r ∷ rs) old new e look w is on are =
+    let same : r.look ≡ look = same_look r.look look on in
+    let few : r.start ≤ length old = omega (arith, are.0) in
+    let taken : take r.start new ≡ take r.start old = ap (take r.start) is ∙ take-append-le r.start old e few in
+    let dropped : drop r.start new ≡ drop r.start old ++ e = ap (drop r.start) is ∙ drop-append-le r.start old e few in
+    let many : length new ≡ length old + length e = ap length is ∙ length-append old e in
+    let cs : chars (drop r.start new) ≡ chars (drop r.start old) ++ chars e = ap chars dropped ∙ chars-append (drop r.start old) e are.1 in
+    let last : map (shown_with r.look) (chars (drop r.start new)) ≡ map (shown_with r.look) (chars (drop r.start old)) ++ map (shown_with look) (chars e) =
+    ap (map (shown_with r.look)) cs ∙ map-append (shown_with r.look) (chars (drop r.start old)) (chars e)
+    ∙ ap (λ (l : Look). map (shown_with r.look) (chars (drop r.start old)) ++ map (shown_with l) (chars e)) same in
+    record {
+      spells = ap (λ (l : List ℕ). spelled rs l ++ map (shown_with r.look) (chars (drop r.start new))) taken ∙ ap (λ (l : List Shown). spelled rs (take r.start old) ++ l) last
+          ∙ sym (append_assoc (spelled rs (take r.start old)) (map (shown_with r.look) (chars (drop r.start old))) (map (shown_with look) (chars e)));
+      are = (omega (arith, are.0, many), subst IsUtf8 (sym dropped) (IsUtf8-append (drop r.start old) e are.1 w), are.2, subst (λ (l : List ℕ). AreRuns rs l) (sym taken) are.3);
+    }
+
+pub text_other : (rs more : List TextRun) (old new e : List ℕ) (start : ℕ) (look : Look) → IsUtf8 e → 0 < length e → new ≡ old ++ e → start ≡ length old → more ≡ record { start = start; look = look } ∷ rs
+    → goes_on look rs ≡ false → AreRuns rs old → IsAdded rs more old new (map (shown_with look) (chars e))
+unfolding spelled
+text_other rs more old new e start look w some is s m on are =
+    let taken : take start new ≡ old = ap (λ k. take k new) s ∙ ap (take (length old)) is ∙ take-append_seam old e in
+    let dropped : drop start new ≡ e = ap (λ k. drop k new) s ∙ ap (drop (length old)) is ∙ drop-append_seam old e in
+    let many : length new ≡ length old + length e = ap length is ∙ length-append old e in
+    let r : TextRun = record { start = start; look = look } in
+    let spells : spelled (r ∷ rs) new ≡ spelled rs old ++ map (shown_with look) (chars e) =
+    ap (λ (l : List ℕ). spelled rs l ++ map (shown_with look) (chars (drop start new))) taken
+    ∙ ap (λ (l : List ℕ). spelled rs old ++ map (shown_with look) (chars l)) dropped in
+    let runs : AreRuns (r ∷ rs) new = (omega (arith, s, many, some), subst IsUtf8 (sym dropped) w, on, subst (λ (l : List ℕ). AreRuns rs l) (sym taken) are) in
     record { spells = ap (λ (l : List TextRun). spelled l new) m ∙ spells; are = subst (λ (l : List TextRun). AreRuns l new) (sym m) runs }
 
 pub nothing : (runs : List TextRun) (text : List ℕ) → runs ≡ [] → spelled (reverse runs) text ≡ []

@@ -107,7 +107,7 @@ fn shown_pieces(
     ensures styled { IfOk result (λ leaf. IsStyled leaf.styled) }
     ensures links { IfOk result (λ leaf. leaf.links.items ≡ links_from 0 pieces.now) }
 {
-    let mut styled = Styled::new(alloc);
+    let mut styled = Styled::with_capacity(alloc, text.len())?;
     let mut links = Vec::new(alloc);
     let mut at = 0;
     for index in 0..pieces.len() {

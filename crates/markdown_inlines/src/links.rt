@@ -150,7 +150,7 @@ fn step_back(
 pub fn overs_of(alloc: Global, pieces: &[Piece]) -> Result<Vec<Over>, AllocError>
     ensures { IfOk result (λ overs. overs.items ≡ overs_of pieces.now) }
 {
-    let mut overs = Vec::new(alloc);
+    let mut overs = Vec::with_capacity(alloc, pieces.len())?;
     let mut ahead = Vec::new(alloc);
     let mut number = link_count(pieces);
     let mut index = pieces.len();

@@ -1,11 +1,11 @@
 //! A text, and how it looks.
 
-ghost use Rattle.std.specs.Prelude.{◌≡◌, ◌++◌, [], ◌∷◌, OnOk, map, replicate, reverse};
+ghost use Rattle.std.specs.Prelude.{◌≡◌, ◌++◌, [], ◌∷◌, IfOk, OnOk, map, replicate, reverse};
 ghost use Rattle.markdown_inlines.specs.Parts.{shown_text};
 ghost use Rattle.markdown_inlines.specs.Styled.{shown_with, goes_on, spelled_of, IsStyled};
 
 use crate::looks::{Look, is_same_look};
-use crate::printable::shown_char;
+use crate::plain::push_shown;
 use std::alloc::{AllocError, Global};
 
 /// A run of a text that looks the same. It ends where the next one begins, or with the text.
@@ -33,6 +33,22 @@ impl Styled {
             text: String::new(alloc),
             runs: Vec::new(alloc),
         }
+    }
+
+    /// No text, with room for so many bytes.
+    ///
+    /// # Errors
+    ///
+    /// Out of memory is the only error.
+    pub fn with_capacity(alloc: Global, bytes: usize) -> Result<Styled, AllocError>
+        ensures nothing { IfOk result (λ styled. spelled_of styled ≡ []) }
+        ensures styled { IfOk result (λ styled. IsStyled styled) }
+    {
+        let text = String::with_capacity(alloc, bytes)?;
+        Ok(Styled {
+            text,
+            runs: Vec::new(alloc),
+        })
     }
 
     // Whether the last run looks like this.
@@ -78,10 +94,18 @@ impl Styled {
         ensures pushed { OnOk result (spelled_of self.new ≡ spelled_of self.old ++ map (shown_with look.now) (shown_text text.now)) }
         ensures styled { OnOk result (IsStyled self.new) }
     {
-        let mut rest = text.chars();
-        while let Some(c) = rest.next() {
-            self.push(shown_char(c), look)?;
+        if text.is_empty() {
+            return Ok(());
         }
+        if self.goes_on(look) {
+            push_shown(&mut self.text, text)?;
+            return Ok(());
+        }
+        self.runs.push(TextRun {
+            start: self.text.len(),
+            look: *look,
+        })?;
+        push_shown(&mut self.text, text)?;
         Ok(())
     }
 

@@ -9,10 +9,9 @@ ghost use Rattle.mad_term.specs.declared.errors.Error.TheVariants.{Memory};
 ghost use Rattle.markdown_layout.specs.WrittenMarkdown.{markdown_skin, WritesLines};
 ghost use Rattle.markdown_reader.specs.Markdown.{markdown_lines};
 
-use mad_blocks::lay_text;
-use mad_format::FmtLine;
-use mad_layout::MadSkin;
-use mad_rows::{PlacedLines, RowSkin};
+use mad_blocks::PartCursor;
+use mad_layout::{MadSkin, append_parts};
+use mad_rows::RowSkin;
 use mad_term::{Error, Out, put_text};
 use markdown_reader::Markdown;
 use std::alloc::{AllocError, Global};
@@ -64,23 +63,13 @@ fn markdown_rows(
 {
     let read = Markdown::read(alloc, markdown)?;
     let text = read.text(alloc)?;
-    let lines = lay_text(alloc, skin, text, width)?;
-    displayed(alloc, *skin, &lines, width)
-}
-
-// Lines as they are displayed in a skin.
-fn displayed(
-    alloc: Global,
-    skin: RowSkin,
-    lines: &[FmtLine],
-    width: Option<usize>,
-) -> Result<String, AllocError>
-    ensures { IfOk result (λ rows. string_bytes rows ≡ text_bytes skin width lines.now) }
-{
-    let placed = PlacedLines {
-        skin: &skin,
-        lines,
-        outer: width,
-    };
-    placed.to_string(alloc)
+    let mut rows = String::with_capacity(alloc, markdown.len())?;
+    append_parts(
+        alloc,
+        &mut rows,
+        &mut PartCursor::of_text(text),
+        width,
+        skin,
+    )?;
+    Ok(rows)
 }

@@ -1,7 +1,10 @@
 //! What is shown of a leaf's text.
 
-ghost use Rattle.std.specs.Prelude.{◌≡◌, [], ◌∷◌, ◌++◌, IfOk, OnOk, map, string_bytes};
-ghost use Rattle.markdown_lines.specs.Leaf.{shown_text, rows_of, leaf_rows, cell_runs, html_row, html_lines};
+ghost use Rattle.std.specs.Prelude.{◌≡◌, [], ◌∷◌, ◌++◌, IfOk, OnOk, IsTrue, false, map, string_bytes};
+ghost use Rattle.markdown_inlines.specs.Styled.{spelled_of, IsStyled};
+ghost use Rattle.markdown_lines.specs.Glyphs.{glyph_of, trimmed};
+ghost use Rattle.markdown_lines.specs.OneRow.{IsUnmarked, HasNoBreak, AreNoSpaces};
+ghost use Rattle.markdown_lines.specs.Leaf.{shown_text, plain_row, rows_of, leaf_rows, cell_runs, html_row, html_lines};
 ghost use Rattle.markdown_lines.specs.Links.{leaf_addresses};
 ghost use Rattle.markdown_lines.specs.LinksOf.{defined_of};
 ghost use Rattle.markdown_lines.specs.Said.{said};
@@ -14,7 +17,10 @@ use crate::runs::Runs;
 use mad_md::CompositeStyle;
 use markdown_html_text::rows::html_rows;
 use markdown_inlines::inlines::leaf_text;
+use markdown_inlines::looks::Look;
 use markdown_inlines::printable::shown_char;
+use markdown_inlines::styled::Styled;
+use memchr::memchr;
 use std::alloc::{AllocError, Global};
 
 /// The text, each character as it is shown.
@@ -61,6 +67,63 @@ pub struct Leaf {
     pub addresses: Vec<String>,
 }
 
+// Whether nothing is seen of a look.
+fn is_unmarked(look: &Look) -> bool
+    ensures { IsTrue result → IsUnmarked look.now }
+{
+    !look.bold && !look.italic && !look.code && !look.strikeout && look.link.is_none()
+}
+
+// Whether a text has no breaks.
+fn is_unbroken(text: &str) -> bool
+    ensures { IsTrue result → HasNoBreak text.now }
+{
+    memchr(b'\n', text.as_bytes()).is_none()
+}
+
+// Whether a text has something but a space at both of its ends.
+fn is_trimmed(text: &[u8]) -> bool
+    ensures { IsTrue result → AreNoSpaces text.now }
+{
+    if text.is_empty() {
+        return false;
+    }
+    text[0] != b' ' && text[text.len() - 1] != b' '
+}
+
+// Whether a text is one row without flags.
+fn is_one_row(styled: &Styled) -> bool
+    requires { IsStyled styled.now }
+    ensures { IsTrue result → rows_of (trimmed (map (glyph_of false) (spelled_of styled.now))) ≡ plain_row (string_bytes styled.now.text) ∷ [] }
+{
+    if styled.runs.as_slice().len() != 1 {
+        return false;
+    }
+    let run = styled.runs[0];
+    if !is_unmarked(&run.look) {
+        return false;
+    }
+    let text = styled.text.as_str();
+    if !is_trimmed(text.as_bytes()) {
+        return false;
+    }
+    is_unbroken(text)
+}
+
+// The rows of what is shown of a leaf.
+fn styled_rows(alloc: Global, styled: &Styled) -> Result<Lines, AllocError>
+    requires { IsStyled styled.now }
+    ensures { IfOk result (λ rows. shown rows ≡ rows_of (trimmed (map (glyph_of false) (spelled_of styled.now)))) }
+{
+    if is_one_row(styled) {
+        let mut rows = Lines::new(alloc);
+        rows.push_text(CompositeStyle::Paragraph, styled.text.as_str())?;
+        return Ok(rows);
+    }
+    let glyphs = glyphs_of(alloc, false, styled)?;
+    rows_of(alloc, trimmed(glyphs.as_slice()))
+}
+
 /// The rows of a leaf with this text, and where its links lead.
 ///
 /// # Errors
@@ -72,8 +135,7 @@ pub fn read_leaf(alloc: Global, definitions: &Definitions, text: &str) -> Result
     ensures addresses { IfOk result (λ leaf. map string_bytes leaf.addresses.items ≡ leaf_addresses (defined_of definitions.now) text.now) }
 {
     let leaf = leaf_text(alloc, &definitions.labels, text)?;
-    let glyphs = glyphs_of(alloc, false, &leaf.styled)?;
-    let rows = rows_of(alloc, trimmed(glyphs.as_slice()))?;
+    let rows = styled_rows(alloc, &leaf.styled)?;
     let mut addresses = Vec::new(alloc);
     push_addresses(
         alloc,

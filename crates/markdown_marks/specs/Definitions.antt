@@ -23,20 +23,24 @@ counted b = if nat_le 128 b && nat_lt b 192 then 0 else 1
 unfoldable pub after_label : (count : ℕ) (some escaped : Bool) → List ℕ → Option (List ℕ)
 after_label count some escaped [] = None
 after_label count some escaped (b ∷ bs) =
-    if escaped then after_label count true false bs
+    let plain = after_label count true false bs in
+    let on = after_label (count + counted b) (some || not (is_space_byte b)) (b == 92) bs in
+    if escaped then plain
     else if b == 93 then (if some then Some bs else None)
     else if (b == 91) || nat_le 999 count then None
-    else after_label (count + counted b) (some || not (is_space_byte b)) (b == 92) bs
+    else on
 
 -- what follows a destination between < and >, which is in one line
 unfoldable pub after_angle : Bool → List ℕ → Option (List ℕ)
 after_angle escaped [] = None
 after_angle escaped (b ∷ bs) =
+    let plain = after_angle false bs in
+    let on = after_angle (b == 92) bs in
     if b == 10 then None
-    else if escaped then after_angle false bs
+    else if escaped then plain
     else if b == 62 then Some bs
     else if b == 60 then None
-    else after_angle (b == 92) bs
+    else on
 
 -- the end of a destination without < and >: its parentheses are nested
 abbrev pub bare_end : ℕ → List ℕ → Option (List ℕ)
@@ -46,11 +50,15 @@ bare_end depth rest = if depth == 0 then Some rest else None
 unfoldable pub after_bare : (depth : ℕ) (escaped : Bool) → List ℕ → Option (List ℕ)
 after_bare depth escaped [] = bare_end depth []
 after_bare depth escaped (b ∷ bs) =
-    if escaped && is_mark_byte b then after_bare depth false bs
+    let plain = after_bare depth false bs in
+    let deeper = after_bare (depth + 1) false bs in
+    let out = after_bare (depth - 1) false bs in
+    let on = after_bare depth (b == 92) bs in
+    if escaped && is_mark_byte b then plain
     else if nat_le b 32 || (b == 127) then bare_end depth (b ∷ bs)
-    else if b == 40 then (if nat_le 32 depth then None else after_bare (depth + 1) false bs)
-    else if b == 41 then (if depth == 0 then Some (b ∷ bs) else after_bare (depth - 1) false bs)
-    else after_bare depth (b == 92) bs
+    else if b == 40 then (if nat_le 32 depth then None else deeper)
+    else if b == 41 then (if depth == 0 then Some (b ∷ bs) else out)
+    else on
 
 -- a destination of some bytes
 abbrev pub if_shorter : List ℕ → Option (List ℕ) → Option (List ℕ)
@@ -64,10 +72,12 @@ after_destination text = if first text == 60 then after_angle false (drop 1 text
 unfoldable pub after_title : (close : ℕ) (escaped : Bool) → List ℕ → Option (List ℕ)
 after_title close escaped [] = None
 after_title close escaped (b ∷ bs) =
-    if escaped then after_title close false bs
+    let plain = after_title close false bs in
+    let on = after_title close (b == 92) bs in
+    if escaped then plain
     else if b == close then Some bs
     else if (b == 40) && (close == 41) then None
-    else after_title close (b == 92) bs
+    else on
 
 -- a title in double or single quotes, or in parentheses
 abbrev pub title_after : List ℕ → Option (List ℕ)

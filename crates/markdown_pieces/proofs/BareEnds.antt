@@ -13,7 +13,7 @@ use Rattle.markdown_addresses.specs.declared.addresses.Scheme.TheVariants.{Itsel
 use Rattle.markdown_addresses.specs.declared.bare.Bare.{Bare}
 use Rattle.markdown_addresses.specs.declared.bare.Trim.{Trim}
 use Rattle.markdown_addresses.specs.declared.bare.Trim.TheVariants.{Stays, Goes}
-use Rattle.markdown_addresses.specs.Bare.{is_domain_byte, domain_len, is_period, web_domain, is_path_byte, count_of, is_trailing, ends_name, trim_step, trim_next, trimmed, address_end, bare, web_by, web_from, is_in_front, web_of, is_mail_byte, mail_domain, mail_by, mail_of, may_precede_web, may_precede_mail, or_bare, bare_after}
+use Rattle.markdown_addresses.specs.Bare.{is_domain_byte, domain_len, is_period, web_domain, is_path_byte, count_of, is_trailing, ends_name, trim_next, trimmed, address_end, bare, web_by, web_from, is_in_front, web_of, is_mail_byte, mail_domain, mail_by, mail_of, may_precede_web, may_precede_mail, or_bare, bare_after}
 use Rattle.markdown_pieces.proofs.EndLemmas.{EndsWell}
 use Rattle.markdown_pieces.proofs.TailLemmas.{by_cond}
 

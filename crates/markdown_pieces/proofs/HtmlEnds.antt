@@ -1,10 +1,10 @@
 -- Raw html ends with a sign >.
-use Rattle.std.proofs.Common.{◌≡◌, ℕ, zero, suc, ◌+◌, ◌-◌, ◌<◌, ◌≤◌, Bool, true, false, eqb, ◌||◌, ◌&&◌, List, [], ◌∷◌, length, take, drop, get_or, refl, sym, ap, ◌∙◌, arith, Option, Some, None, codes, nat_eq}
+use Rattle.std.proofs.Common.{◌≡◌, ℕ, true, false, eqb, ◌||◌, ◌&&◌, List, [], ◌∷◌, length, take, drop, refl, sym, ◌∙◌, Option, Some, None, codes, nat_eq}
 use Rattle.std.specs.Char.{is_ascii_alphabetic}
 use Rattle.std.specs.Cmp.Lexicographic.{pointwise}
 use Rattle.std.proofs.lemmas.Bool.{eqb-true, and_parts}
 use Rattle.markdown_marks.specs.Bytes.{first}
-use Rattle.markdown_marks.specs.Definitions.{after, or_else}
+use Rattle.markdown_marks.specs.Definitions.{after}
 use Rattle.markdown_marks.specs.Html.{next_place, is_after}
 use Rattle.markdown_marks.specs.declared.tags.Place.{Place}
 use Rattle.markdown_marks.specs.declared.tags.Place.TheVariants.{Name, CloseName}
@@ -13,7 +13,7 @@ use Rattle.markdown_html.specs.Starts.{begins}
 use Rattle.markdown_spans.specs.Needles.{after_first}
 use Rattle.markdown_spans.specs.Tags.{is_nowhere, closes, after_tag, tag_end}
 use Rattle.markdown_spans.specs.Html.{after_angle, after_comment, other_end, html_end}
-use Rattle.markdown_pieces.proofs.TailLemmas.{by_cond, IsTail, EndsBy, ends_cons, ends_here, ends_then, ends_tail, tail_from, Gives, gives_none, gives_some, else_gives, after_gives}
+use Rattle.markdown_pieces.proofs.TailLemmas.{by_cond, EndsBy, ends_cons, ends_here, ends_then, ends_tail, tail_from, Gives, gives_none, gives_some, else_gives, after_gives}
 
 -- ---- tags
 

@@ -6,7 +6,6 @@ use Rattle.std.specs.Str.Parse.{digits_value}
 use Rattle.std.proofs.lemmas.Bool.{cases_lt, eqb-true, and_parts}
 use Rattle.std.proofs.lemmas.Bool.Decides.{nat_tests}
 use Rattle.std.proofs.lemmas.List.{length-drop, get_or-drop}
-use Rattle.std.proofs.lemmas.List.Sums.{prefix_len_passes, prefix_len_stops}
 use Rattle.markdown_emphasis.specs.declared.runs.Sign.{Sign}
 use Rattle.markdown_emphasis.specs.declared.runs.Sign.TheVariants.{Star, Underscore, Tilde}
 use Rattle.markdown_marks.specs.Bytes.{first, is_blank_byte, count_in_front}
@@ -25,7 +24,7 @@ use Rattle.markdown_spans.specs.declared.entities.Escape.{Escape}
 use Rattle.markdown_spans.specs.declared.entities.Escape.TheVariants.{Sign as SignEscape, Break, Itself}
 use Rattle.markdown_spans.specs.declared.entities.Entity.{Entity}
 use Rattle.markdown_pieces.specs.declared.pieces.Piece.{Piece}
-use Rattle.markdown_pieces.specs.Pieces.{is_plain, run_piece, code_by, code_piece, escape_by, escape_piece, entity_by, entity_piece, html_by, html_piece, angle_by, angle_piece, is_hard, blank_piece, bare_if, plain_from, plain_by, plain_piece, no_mark_piece, byte_before, piece_by}
+use Rattle.markdown_pieces.specs.Pieces.{is_plain, run_piece, code_by, code_piece, escape_by, escape_piece, entity_by, entity_piece, html_by, html_piece, angle_by, angle_piece, is_hard, ends_line, break_piece, bare_if, stays, plain_from, plain_by, plain_piece, no_mark_piece, byte_before, piece_by}
 use Rattle.markdown_pieces.proofs.EndLemmas.{EndsWell, count_is}
 use Rattle.markdown_pieces.proofs.HtmlEnds.{html_ends}
 use Rattle.markdown_pieces.proofs.BareEnds.{bare_ends, bare_first}
@@ -277,23 +276,22 @@ angle_ends_by rest (Some len) h g =
 blank_byte : (b : ℕ) → is_blank_byte b ≡ true → b < 128
 blank_byte b h = grind (arith, nat_tests)
 
-blank_ends_by : (rest : List ℕ) (n : ℕ) → n ≡ prefix_len is_blank_byte rest → get_or rest 0 0 < 128 → get_or rest (n - 1) 0 < 128
-blank_ends_by rest zero e h = h
-blank_ends_by rest (suc n) e h =
-    let same : suc n - 1 ≡ n = omega arith in
-    subst (λ i. get_or rest i 0 < 128) (sym same) (blank_byte (get_or rest n 0) (prefix_len_passes is_blank_byte rest n 0 (omega (arith, e))))
-
-blank_ends : (rest : List ℕ) → get_or rest 0 0 < 128 → Ends rest (blank_piece rest)
-blank_ends rest h =
+break_ends : (rest : List ℕ) → ends_line rest ≡ true → Ends rest (break_piece rest)
+break_ends rest e =
     let n : ℕ = prefix_len is_blank_byte rest in
     let zero_more : n + 0 ≡ n = omega arith in
-    by_cond (Ends rest) (eqb (first (drop n rest)) 10) _ _
-    (λ e. let line : get_or rest n 0 ≡ 10 = ap (λ i. get_or rest i 0) (sym zero_more) ∙ sym (get_or-drop n rest 0 0) ∙ eqb-true (first (drop n rest)) 10 e in
-    by_cond (Ends rest) (is_hard rest n) _ _ (λ k. ends_at rest n 10 line (omega arith)) (λ k. ends_at rest n 10 line (omega arith)))
-    (λ e. inl (blank_ends_by rest n refl h))
+    let line : get_or rest n 0 ≡ 10 = ap (λ i. get_or rest i 0) (sym zero_more) ∙ sym (get_or-drop n rest 0 0) ∙ eqb-true (first (drop n rest)) 10 e in
+    by_cond (Ends rest) (is_hard rest n) _ _ (λ k. ends_at rest n 10 line (omega arith)) (λ k. ends_at rest n 10 line (omega arith))
 
 not_plain : (b : ℕ) → is_plain b ≡ false → b < 128
 not_plain b h = grind (arith, nat_tests)
+
+not_staying : (b : ℕ) (rest : List ℕ) (plain : Bool) → is_plain b ≡ plain → (plain || (is_blank_byte b && not (ends_line rest))) ≡ false → b < 128
+not_staying b rest false p h = not_plain b p
+not_staying b rest true p h = absurd (no h)
+  where
+    no : true ≡ false → ⊥
+    no e = cc
 
 -- bytes that stand for themselves end before one that doesn't, or before an address
 found_small : (free : Bool) (before : Option ℕ) (bytes : List ℕ) → is_some (bare_if free before bytes) ≡ true → get_or bytes 0 0 < 128
@@ -303,8 +301,8 @@ found_small false before bytes h = absurd (no h)
     no : false ≡ true → ⊥
     no e = cc
 
-stop_small : (free plain : Bool) (before : Option ℕ) (b : ℕ) (bs : List ℕ) (found : Bool) → is_plain b ≡ plain → is_some (bare_if free before (b ∷ bs)) ≡ found → (plain && not found) ≡ false → b < 128
-stop_small free false before b bs found p f h = not_plain b p
+stop_small : (free stay : Bool) (before : Option ℕ) (b : ℕ) (bs : List ℕ) (found : Bool) → stays b (b ∷ bs) ≡ stay → is_some (bare_if free before (b ∷ bs)) ≡ found → (stay && not found) ≡ false → b < 128
+stop_small free false before b bs found p f h = not_staying b (b ∷ bs) (is_plain b) refl p
 stop_small free true before b bs true p f h = found_small free before (b ∷ bs) f
 stop_small free true before b bs false p f h = absurd (no h)
   where
@@ -315,8 +313,8 @@ plain_stop : (free : Bool) (before : Option ℕ) (bs : List ℕ) → get_or bs (
 unfolding plain_from
 plain_stop free before [] = omega arith
 plain_stop free before (b ∷ bs) =
-    by_cond (λ (n : ℕ). get_or (b ∷ bs) n 0 < 128) (is_plain b && not (is_some (bare_if free before (b ∷ bs)))) (suc (plain_from free (Some b) bs)) 0
-    (λ h. plain_stop free (Some b) bs) (λ h. stop_small free (is_plain b) before b bs (is_some (bare_if free before (b ∷ bs))) refl refl h)
+    by_cond (λ (n : ℕ). get_or (b ∷ bs) n 0 < 128) (stays b (b ∷ bs) && not (is_some (bare_if free before (b ∷ bs)))) (suc (plain_from free (Some b) bs)) 0
+    (λ h. plain_stop free (Some b) bs) (λ h. stop_small free (stays b (b ∷ bs)) before b bs (is_some (bare_if free before (b ∷ bs))) refl refl h)
 
 plain_ends_by : (free : Bool) (before : Option ℕ) (b : ℕ) (rest : List ℕ) (o : Option Bare) → bare_if free before rest ≡ o → Ends rest (plain_by o free b rest)
 plain_ends_by free before b rest None e =
@@ -332,7 +330,7 @@ plain_ends_by false before b rest (Some bare) e = absurd (no e)
 no_mark_ends : (free : Bool) (before : Option ℕ) (b : ℕ) (rest : List ℕ) → get_or rest 0 0 ≡ b → Ends rest (no_mark_piece free before b rest)
 unfolding plain_piece
 no_mark_ends free before b rest e =
-    by_cond (Ends rest) (eqb b 32 || eqb b 9 || eqb b 10) (blank_piece rest) _ (λ h. blank_ends rest (let small : b < 128 = grind (arith, nat_tests) in omega (arith, e, small)))
+    by_cond (Ends rest) (ends_line rest) (break_piece rest) _ (λ h. break_ends rest h)
     (λ h. plain_ends_by free before b rest (bare_if free before rest) refl)
 
 -- ---- all of them

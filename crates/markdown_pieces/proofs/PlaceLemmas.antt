@@ -1,5 +1,5 @@
 -- The pieces of a text, one after another: each is a text of its own.
-use Rattle.std.proofs.Common.{◌≡◌, ℕ, zero, suc, ◌+◌, ◌-◌, ◌<◌, ◌≤◌, ◌⊎◌, inl, inr, ⊎_elim, Bool, true, false, eqb, ltb, not, ◌||◌, ◌&&◌, min, List, [], ◌∷◌, length, take, drop, get_or, refl, sym, ap, subst, ◌∙◌, arith, Option, Some, None, option_map}
+use Rattle.std.proofs.Common.{◌≡◌, ℕ, zero, suc, ◌+◌, ◌-◌, ◌<◌, ◌≤◌, ◌⊎◌, inl, inr, ⊎_elim, Bool, true, false, eqb, ltb, not, ◌&&◌, min, List, [], ◌∷◌, length, take, drop, get_or, refl, sym, ap, subst, ◌∙◌, arith, Option, Some, None, option_map}
 use Rattle.std.specs.List.{prefix_len}
 use Rattle.std.specs.Str.{IsUtf8, IsCharBoundary}
 use Rattle.std.proofs.lemmas.Bool.{eqb-true, and_parts}
@@ -29,7 +29,7 @@ use Rattle.markdown_brackets.specs.Brackets.{Reading, is_free, nothing_read, fir
 use Rattle.markdown_pieces.specs.declared.pieces.Kind.{Kind}
 use Rattle.markdown_pieces.specs.declared.pieces.Kind.TheVariants.{Plain, Shown, Code as CodeKind, Address, Bare, Html as HtmlKind, Soft, Hard, Run as RunKind, Opening, Closing}
 use Rattle.markdown_pieces.specs.declared.pieces.Piece.{Piece}
-use Rattle.markdown_pieces.specs.Pieces.{run_piece, code_by, code_piece, escape_by, escape_piece, entity_by, entity_piece, html_by, html_piece, angle_by, angle_piece, is_hard, blank_piece, bare_if, plain_by, plain_piece, no_mark_piece, byte_before, piece_by, piece_at}
+use Rattle.markdown_pieces.specs.Pieces.{run_piece, code_by, code_piece, escape_by, escape_piece, entity_by, entity_piece, html_by, html_piece, angle_by, angle_piece, is_hard, ends_line, break_piece, bare_if, plain_by, plain_piece, no_mark_piece, byte_before, piece_by, piece_at}
 use Rattle.markdown_pieces.specs.Cut.{Step, other_step, link_len, closing_step, opening_step, read_by, step, cut_from, cut_text}
 use Rattle.markdown_pieces.specs.Places.{IsInside, AreCut}
 use Rattle.markdown_pieces.proofs.EndLemmas.{EndsWell, well, count_is, count_le}
@@ -215,10 +215,8 @@ angle_inside_by rest (Some len) u h g =
       IsCharBoundary-before_ascii rest (0 + 1 + len) (read_within rest (0 + 1 + len) 62 byte (omega arith)) (omega (arith, byte)),
     )
 
-blank_inside : (rest : List ℕ) → InsideRest rest (blank_piece rest)
-blank_inside rest =
-    let n : ℕ = prefix_len is_blank_byte rest in
-    by_cond (InsideRest rest) (eqb (first (drop n rest)) 10) _ _ (λ e. by_cond (InsideRest rest) (is_hard rest n) _ _ (λ k. tt) (λ k. tt)) (λ e. tt)
+break_inside : (rest : List ℕ) → InsideRest rest (break_piece rest)
+break_inside rest = by_cond (InsideRest rest) (is_hard rest (prefix_len is_blank_byte rest)) _ _ (λ k. tt) (λ k. tt)
 
 plain_inside : (o : Option BareAddress) (free : Bool) (b : ℕ) (rest : List ℕ) → InsideRest rest (plain_by o free b rest)
 plain_inside None free b rest = tt
@@ -227,7 +225,7 @@ plain_inside (Some bare) free b rest = tt
 no_mark_inside : (free : Bool) (before : Option ℕ) (b : ℕ) (rest : List ℕ) → InsideRest rest (no_mark_piece free before b rest)
 unfolding plain_piece
 no_mark_inside free before b rest =
-    by_cond (InsideRest rest) (eqb b 32 || eqb b 9 || eqb b 10) (blank_piece rest) _ (λ h. blank_inside rest) (λ h. plain_inside (bare_if free before rest) free b rest)
+    by_cond (InsideRest rest) (ends_line rest) (break_piece rest) _ (λ h. break_inside rest) (λ h. plain_inside (bare_if free before rest) free b rest)
 
 piece_inside : (free : Bool) (b : ℕ) (text : List ℕ) (at : ℕ) (rest : List ℕ) → get_or rest 0 0 ≡ b → IsUtf8 rest → InsideRest rest (piece_by free b text at rest)
 piece_inside free b text at rest e u =

@@ -1,6 +1,7 @@
 -- What a rest of a text begins with, where it is no bracket.
 use Rattle.std.specs.Prelude.{ℕ, suc, is_some, ◌+◌, ◌-◌, ◌==◌, ◌||◌, ◌&&◌, not, nat_le, Bool, if◌then◌else◌, List, [], ◌∷◌, drop, take, slice_index, chars, Option, Some, None}
 use Rattle.std.specs.List.{prefix_len}
+use Rattle.std.specs.Char.{is_ascii_alphanumeric}
 use Rattle.markdown_emphasis.specs.declared.runs.Sign.{Sign}
 use Rattle.markdown_emphasis.specs.declared.runs.Sign.TheVariants.{Star, Underscore, Tilde}
 use Rattle.markdown_runs.specs.declared.flanking.Neighbor.{Neighbor}
@@ -96,20 +97,30 @@ angle_piece after = angle_by after (address_len after)
 abbrev pub is_hard : List ℕ → ℕ → Bool
 is_hard rest blanks = nat_le 2 blanks && (slice_index rest (blanks - 1) == 32) && (slice_index rest (blanks - 2) == 32)
 
--- blanks, and the end of a line if it follows
-abbrev pub blank_piece : List ℕ → Piece
-blank_piece rest =
-    let blanks = prefix_len is_blank_byte rest in
-    if first (drop blanks rest) == 10 then (if is_hard rest blanks then piece Hard blanks else piece Soft blanks) else piece Plain (blanks - 1)
+-- blanks, and then the end of a line
+abbrev pub ends_line : List ℕ → Bool
+ends_line rest = first (drop (prefix_len is_blank_byte rest) rest) == 10
+
+-- the end of a line, and the blanks before it
+abbrev pub break_piece : List ℕ → Piece
+break_piece rest = let blanks = prefix_len is_blank_byte rest in if is_hard rest blanks then piece Hard blanks else piece Soft blanks
 
 -- the bare address that a rest begins with: none where a bracket is open
 abbrev pub bare_if : (free : Bool) → Option ℕ → List ℕ → Option Bare
 bare_if free before rest = if free then bare_after before rest else None
 
+-- a byte behind which no bare address begins
+abbrev pub is_word : ℕ → Bool
+is_word b = is_ascii_alphanumeric b || (b == 46) || (b == 43) || (b == 45)
+
+-- a byte that stands for itself: a plain one, or a blank, but not before the end of a line
+abbrev pub stays : ℕ → List ℕ → Bool
+stays b rest = is_plain b || (is_blank_byte b && not (ends_line rest))
+
 -- how many bytes stand for themselves, up to a bare address
 unfoldable pub plain_from : (free : Bool) → Option ℕ → List ℕ → ℕ
 plain_from free before [] = 0
-plain_from free before (b ∷ bs) = if is_plain b && not (is_some (bare_if free before (b ∷ bs))) then suc (plain_from free (Some b) bs) else 0
+plain_from free before (b ∷ bs) = if stays b (b ∷ bs) && not (is_some (bare_if free before (b ∷ bs))) then suc (plain_from free (Some b) bs) else 0
 
 abbrev pub plain_by : Option Bare → Bool → ℕ → List ℕ → Piece
 plain_by None free b rest = piece Plain (plain_from free (Some b) (drop 1 rest))
@@ -120,7 +131,7 @@ unfoldable pub plain_piece : Bool → Option ℕ → ℕ → List ℕ → Piece
 plain_piece free before b rest = plain_by (bare_if free before rest) free b rest
 
 abbrev pub no_mark_piece : Bool → Option ℕ → ℕ → List ℕ → Piece
-no_mark_piece free before b rest = if (b == 32) || (b == 9) || (b == 10) then blank_piece rest else plain_piece free before b rest
+no_mark_piece free before b rest = if ends_line rest then break_piece rest else plain_piece free before b rest
 
 abbrev pub byte_before : List ℕ → ℕ → Option ℕ
 byte_before text at = if at == 0 then None else Some (slice_index text (at - 1))

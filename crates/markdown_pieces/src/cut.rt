@@ -164,7 +164,7 @@ pub fn cut_text(alloc: Global, labels: &IndexSet<String>, text: &str) -> Result<
 {
     let known = known_of(alloc, text.as_bytes())?;
     let mut brackets = Brackets::new(alloc);
-    let mut pieces = Vec::new(alloc);
+    let mut pieces = Vec::with_capacity(alloc, 8)?;
     let mut at = 0;
     while at < text.len() {
         let piece = step(alloc, labels, &known, text, at, pieces.len(), &mut brackets)?;

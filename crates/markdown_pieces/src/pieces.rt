@@ -1,17 +1,20 @@
 //! What a rest of a text begins with.
 
-ghost use Rattle.std.specs.Prelude.{◌≡◌, ◌≤◌, ◌<◌, ◌++◌, length, drop, slice_index, chars, encode_utf8, MatchOption, IfOk, Some};
+ghost use Rattle.std.specs.Prelude.{◌≡◌, ◌≤◌, ◌<◌, ◌++◌, length, drop, slice_index, chars, encode_utf8, MatchOption, IfOk, Some, true, false, is_some, IsTrue, ◌&&◌};
 ghost use Rattle.std.specs.Str.{IsCharBoundary, IsUtf8};
 ghost use Rattle.markdown_spans.specs.Ticks.{AreLasts};
 ghost use Rattle.markdown_spans.specs.Html.{AreEnds};
 ghost use Rattle.markdown_pieces.specs.Known.{IsKnown};
-ghost use Rattle.markdown_pieces.specs.Pieces.{is_plain, last_char, first_char, before_at, after_at, piece, run_piece, code_piece, escape_piece, entity_piece, html_piece, angle_piece, blank_piece, is_hard, bare_if, plain_from, plain_piece, no_mark_piece, byte_before, piece_at};
+ghost use Rattle.markdown_addresses.specs.Bare.{HasNoAt};
+ghost use Rattle.markdown_pieces.specs.Scan.{HasNoWeb};
+ghost use Rattle.markdown_pieces.specs.Pieces.{is_plain, last_char, first_char, before_at, after_at, piece, run_piece, code_piece, escape_piece, entity_piece, html_piece, angle_piece, ends_line, break_piece, is_hard, bare_if, is_word, stays, plain_from, plain_piece, no_mark_piece, byte_before, piece_at};
 
+use crate::scan::{may_have_web, quiet_len};
 use markdown_addresses::addresses::{Scheme, address_len, scheme_of};
-use markdown_addresses::bare::{Bare, bare_after};
+use markdown_addresses::bare::{Bare, bare_known};
 use markdown_brackets::brackets::Link;
 use markdown_emphasis::{Run, Sign};
-use markdown_marks::bytes::{blanks_in_front, count_in_front, first, tail};
+use markdown_marks::bytes::{blanks_in_front, count_in_front, first, is_blank_byte, tail};
 use markdown_runs::{Neighbor, beside, run_of};
 use markdown_spans::attributes::{Html, html_shown};
 use markdown_spans::code::{Code, code_at};
@@ -19,6 +22,7 @@ use markdown_spans::entities::{Escape, entity_of, escape_of};
 use markdown_spans::html::{Ends, ends_of, html_len};
 use markdown_spans::ticks::last_runs;
 use markdown_spans::words::bytes_up_to;
+use memchr::memchr;
 use std::alloc::{AllocError, Global};
 
 /// What a piece of a text is.
@@ -61,6 +65,17 @@ pub struct Known {
     pub ticks: Vec<usize>,
     /// Where the ends of raw html are last.
     pub ends: Ends,
+    /// Whether there may be an at sign.
+    pub mail: bool,
+    /// Whether there may be an address of the web.
+    pub web: bool,
+}
+
+// Whether there is an at sign.
+fn has_at(text: &[u8]) -> bool
+    ensures { result ≡ false → HasNoAt text.now }
+{
+    memchr(b'@', text).is_some()
 }
 
 /// What is known of a text before it is cut.
@@ -75,6 +90,8 @@ pub fn known_of(alloc: Global, text: &[u8]) -> Result<Known, AllocError>
     Ok(Known {
         ticks,
         ends: ends_of(text),
+        mail: has_at(text),
+        web: may_have_web(text),
     })
 }
 
@@ -96,28 +113,91 @@ fn is_plain(b: u8) -> bool
 }
 
 // The bare address that a rest begins with, where no bracket is open.
-fn bare_if(free: bool, before: Option<u8>, rest: &[u8]) -> Option<Bare>
+fn bare_if(free: bool, mail: bool, before: Option<u8>, rest: &[u8]) -> Option<Bare>
+    requires { mail ≡ false → HasNoAt rest.now }
     ensures { result ≡ bare_if free before rest.now }
 {
-    if free { bare_after(before, rest) } else { None }
+    if free {
+        bare_known(mail, before, rest)
+    } else {
+        None
+    }
 }
 
-// How many such bytes are in front, up to a bare address.
-#[tactic(auto, unfolding(crate::specs::Pieces::plain_from))]
-fn plain_len(free: bool, before: u8, bytes: &[u8]) -> usize
+// Behind such a byte no bare address begins.
+fn is_word(b: u8) -> bool
+    ensures { result ≡ is_word b }
+{
+    b.is_ascii_alphanumeric() || b == b'.' || b == b'+' || b == b'-'
+}
+
+// Whether both bytes are small letters, of a word then.
+fn is_in_word(last: u8, b: u8) -> bool
+    ensures { IsTrue result → (is_word last && is_word b) ≡ true }
+{
+    last.is_ascii_lowercase() && b.is_ascii_lowercase()
+}
+
+// Whether a bare address begins behind this byte.
+fn is_bare(free: bool, mail: bool, last: u8, rest: &[u8]) -> bool
+    requires { mail ≡ false → HasNoAt rest.now }
+    ensures { result ≡ is_some (bare_if free (Some last) rest.now) }
+{
+    if is_word(last) {
+        return false;
+    }
+    bare_if(free, mail, Some(last), rest).is_some()
+}
+
+// Whether blanks are in front, and then the end of a line.
+fn ends_line(rest: &[u8]) -> bool
+    ensures { result ≡ ends_line rest.now }
+{
+    first(tail(rest, blanks_in_front(rest))) == b'\n'
+}
+
+// Whether the first byte stands for itself; `inside` says that no end of a line follows blanks in front.
+fn stays(inside: bool, b: u8, rest: &[u8]) -> bool
+    requires { inside ≡ true → ends_line rest.now ≡ false }
+    ensures { result ≡ stays b rest.now }
+{
+    if !is_blank_byte(b) {
+        return is_plain(b);
+    }
+    inside || !ends_line(rest)
+}
+
+// How many bytes in front stand for themselves, up to a bare address.
+fn plain_len(free: bool, mail: bool, before: u8, bytes: &[u8]) -> usize
+    requires { mail ≡ false → HasNoAt bytes.now }
     ensures value { result ≡ plain_from free (Some before) bytes.now }
     ensures within { result ≤ length bytes.now }
 {
-    let mut rest = bytes;
+    if !free {
+        return quiet_len(bytes);
+    }
     let mut last = before;
     let mut len = 0;
-    while let [b, next @ ..] = rest {
-        if !is_plain(*b) || bare_if(free, Some(last), rest).is_some() {
+    // whether it is known that no end of a line follows the blanks in front
+    let mut inside = false;
+    while len < bytes.len() {
+        let b = bytes[len];
+        if is_in_word(last, b) {
+            inside = false;
+            last = b;
+            len += 1;
+            continue;
+        }
+        let rest = tail(bytes, len);
+        if !stays(inside, b, rest) {
             return len;
         }
-        last = *b;
+        if is_bare(free, mail, last, rest) {
+            return len;
+        }
+        inside = is_blank_byte(b);
+        last = b;
         len += 1;
-        rest = next;
     }
     len
 }
@@ -249,14 +329,11 @@ fn is_hard(rest: &[u8], blanks: usize) -> bool
     blanks >= 2 && rest[blanks - 1] == b' ' && rest[blanks - 2] == b' '
 }
 
-// Blanks, and the end of a line if it follows.
-fn blank_piece(rest: &[u8]) -> Piece
-    ensures { result ≡ blank_piece rest.now }
+// The end of a line, and the blanks before it.
+fn break_piece(rest: &[u8]) -> Piece
+    ensures { result ≡ break_piece rest.now }
 {
     let blanks = blanks_in_front(rest);
-    if first(tail(rest, blanks)) != b'\n' {
-        return piece_of(Kind::Plain, blanks.saturating_sub(1));
-    }
     if is_hard(rest, blanks) {
         piece_of(Kind::Hard, blanks)
     } else {
@@ -266,25 +343,40 @@ fn blank_piece(rest: &[u8]) -> Piece
 
 // A bare address, or bytes that stand for themselves: the first is `b`, behind `before`.
 #[tactic(auto, unfolding(crate::specs::Pieces::plain_piece))]
-fn plain_piece(free: bool, before: Option<u8>, b: u8, rest: &[u8]) -> Piece
-    requires { 0 < length rest.now }
+fn plain_piece(free: bool, mail: bool, before: Option<u8>, b: u8, rest: &[u8]) -> Piece
+    requires some { 0 < length rest.now }
+    requires mail { mail ≡ false → HasNoAt rest.now }
     ensures { result ≡ plain_piece free before b rest.now }
 {
-    match bare_if(free, before, rest) {
+    match bare_if(free, mail, before, rest) {
         Some(bare) => piece_of(Kind::Bare(bare.scheme), bare.len.saturating_sub(1)),
-        None => piece_of(Kind::Plain, plain_len(free, b, tail(rest, 1))),
+        None => piece_of(Kind::Plain, plain_len(free, mail, b, tail(rest, 1))),
     }
 }
 
 // A rest that begins with the byte `b`, which is no mark, behind `before`.
-fn no_mark_piece(free: bool, before: Option<u8>, b: u8, rest: &[u8]) -> Piece
-    requires { 0 < length rest.now }
+fn no_mark_piece(free: bool, mail: bool, before: Option<u8>, b: u8, rest: &[u8]) -> Piece
+    requires some { 0 < length rest.now }
+    requires mail { mail ≡ false → HasNoAt rest.now }
     ensures { result ≡ no_mark_piece free before b rest.now }
 {
-    if b == b' ' || b == b'\t' || b == b'\n' {
-        return blank_piece(rest);
+    if ends_line(rest) {
+        return break_piece(rest);
     }
-    plain_piece(free, before, b, rest)
+    plain_piece(free, mail, before, b, rest)
+}
+
+// The same, where it is known whether there may be an address.
+fn known_piece(known: &Known, free: bool, before: Option<u8>, b: u8, rest: &[u8]) -> Piece
+    requires some { 0 < length rest.now }
+    requires mail { known.now.mail ≡ false → HasNoAt rest.now }
+    requires web { known.now.web ≡ false → HasNoWeb rest.now }
+    ensures { result ≡ no_mark_piece free before b rest.now }
+{
+    if known.mail || known.web {
+        return no_mark_piece(free, known.mail, before, b, rest);
+    }
+    no_mark_piece(false, false, before, b, rest)
 }
 
 fn byte_before(text: &[u8], at: usize) -> Option<u8>
@@ -311,6 +403,6 @@ pub fn piece_at(known: &Known, free: bool, text: &str, at: usize) -> Piece
         b'\\' => escape_piece(tail(rest, 1)),
         b'&' => entity_piece(tail(rest, 1)),
         b'<' => angle_piece(&known.ends, bytes, at + 1),
-        b => no_mark_piece(free, byte_before(bytes, at), b, rest),
+        b => known_piece(known, free, byte_before(bytes, at), b, rest),
     }
 }

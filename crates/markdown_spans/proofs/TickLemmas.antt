@@ -1,10 +1,12 @@
 -- Where no run of a length is left.
-use Rattle.std.proofs.Common.{◌≡◌, ℕ, ◌+◌, ◌<◌, ◌≤◌, Bool, true, false, cond, eqb, List, [], ◌∷◌, ◌++◌, Some, None, length, drop, take, refl, sym, ap, subst, ◌∙◌, arith, suc}
+use Rattle.std.proofs.Common.{◌≡◌, ℕ, ◌+◌, ◌<◌, ◌≤◌, Bool, true, false, cond, eqb, List, [], ◌∷◌, ◌++◌, Some, None, length, drop, take, refl, sym, ap, subst, ◌∙◌, arith, suc, zero, ⊎_elim, get_or, Option, is_some}
 use Rattle.std.specs.List.{prefix_len}
 use Rattle.std.proofs.lemmas.List.{take-append-drop, length-take-le, drop-drop}
+use Rattle.std.proofs.lemmas.Bool.{cases_lt}
 use Rattle.std.proofs.lemmas.Bool.Decides.{nat_tests}
+use Rattle.memchr.specs.Find.{Nowhere, Passes, is_byte, IsFirstByte}
 use Rattle.markdown_marks.specs.Bytes.{count_in_front}
-use Rattle.markdown_spans.specs.Ticks.{run_at, last_run, IsTickless}
+use Rattle.markdown_spans.specs.Ticks.{run_at, last_run, AreLasts, IsTickless}
 
 -- the place of the last run is no earlier than one that was seen
 last_ends : (t : Bool) (at last : ℕ) → last ≤ at → last ≤ cond t (at + 1) last
@@ -97,3 +99,36 @@ pub tickless : (at n : ℕ) (text : List ℕ) → n ≡ count_in_front 96 (drop 
 unfolding count_in_front
 tickless at n text e =
     subst (λ (xs : List ℕ). IsTickless xs) (drop-drop n at text) (subst (λ j. IsTickless (drop j (drop at text))) (sym e) (tickless_front (drop at text)))
+
+-- ---- where there is no backquote
+
+beyond : (xs : List ℕ) (i d : ℕ) → length xs ≤ i → get_or xs i d ≡ d
+beyond [] i d h = refl
+beyond (x ∷ xs) zero d h = absurd (omega (arith, h))
+beyond (x ∷ xs) (suc i) d h = beyond xs i d (omega (arith, h))
+
+off : (t : Bool) → (t ≡ true → ⊥) → t ≡ false
+off true h = absurd (h refl)
+off false h = refl
+
+none_at : (bs : List ℕ) → Nowhere (Passes (is_byte 96) bs) 0 (length bs) → (k : ℕ) → eqb (get_or bs k 0) 96 ≡ false
+none_at bs none k =
+    ⊎_elim (λ (few : k < length bs). off (eqb (get_or bs k 0) 96) (none k (omega arith) few)) (λ (over : length bs ≤ k). ap (λ b. eqb b 96) (beyond bs k 0 over)) (cases_lt k (length bs))
+
+no_run : (n at last : ℕ) (bs : List ℕ) → 0 < n → ((k : ℕ) → eqb (get_or bs k 0) 96 ≡ false) → last_run n 0 at last bs ≡ last
+unfolding last_run
+no_run n at last [] some none = ap (λ t. cond t (at + 1) last) (not_zero n some)
+no_run n at last (b ∷ bs) some none =
+    ap (λ t. cond t (last_run n (0 + 1) at last bs) (last_run n 0 (at + 0 + 1) (cond (eqb 0 n) (at + 1) last) bs)) (none 0)
+    ∙ ap (λ t. last_run n 0 (at + 0 + 1) (cond t (at + 1) last) bs) (not_zero n some)
+    ∙ no_run n (at + 0 + 1) last bs some (λ k. none (suc k))
+
+pub no_runs : (lasts text : List ℕ) → lasts ≡ [] → Nowhere (Passes (is_byte 96) text) 0 (length text) → AreLasts lasts text
+no_runs lasts text e none n some = ap (λ (l : List ℕ). get_or l n 0) e ∙ sym (no_run n 0 0 text some (none_at text none))
+
+pub no_runs_by : (r : Option ℕ) (lasts text : List ℕ) → lasts ≡ [] → IsFirstByte (is_byte 96) text r → is_some r ≡ false → AreLasts lasts text
+no_runs_by None lasts text e none h = no_runs lasts text e none
+no_runs_by (Some k) lasts text e none h = absurd (no h)
+  where
+    no : true ≡ false → ⊥
+    no e = cc

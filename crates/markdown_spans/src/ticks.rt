@@ -4,6 +4,7 @@ ghost use Rattle.std.specs.Prelude.{◌≡◌, ℕ, ◌<◌, ◌≤◌, ◌==◌
 ghost use Rattle.markdown_spans.specs.Ticks.{run_at, last_run, AreLasts, IsTickless};
 
 use markdown_marks::bytes::tail;
+use memchr::memchr;
 use std::alloc::{AllocError, Global};
 
 // What is known of a length, 0 if nothing is.
@@ -28,13 +29,9 @@ fn note(lasts: &mut Vec<usize>, length: usize, last: usize) -> Result<(), AllocE
     Ok(())
 }
 
-/// Of each length the place after which no run of so many backquotes begins.
-///
-/// # Errors
-///
-/// Out of memory is the only error.
+// The same, where there are backquotes.
 #[tactic(auto, unfolding(crate::specs::Ticks::last_run))]
-pub fn last_runs(alloc: Global, text: &[u8]) -> Result<Vec<usize>, AllocError>
+fn runs_seen(alloc: Global, text: &[u8]) -> Result<Vec<usize>, AllocError>
     ensures { IfOk result (λ lasts. AreLasts lasts.items text.now) }
 {
     let mut lasts = Vec::new(alloc);
@@ -54,6 +51,20 @@ pub fn last_runs(alloc: Global, text: &[u8]) -> Result<Vec<usize>, AllocError>
     }
     note(&mut lasts, seen, at + 1)?;
     Ok(lasts)
+}
+
+/// Of each length the place after which no run of so many backquotes begins.
+///
+/// # Errors
+///
+/// Out of memory is the only error.
+pub fn last_runs(alloc: Global, text: &[u8]) -> Result<Vec<usize>, AllocError>
+    ensures { IfOk result (λ lasts. AreLasts lasts.items text.now) }
+{
+    if memchr(b'`', text).is_some() {
+        return runs_seen(alloc, text);
+    }
+    Ok(Vec::new(alloc))
 }
 
 // How many bytes are in front of the first run of so many backquotes.

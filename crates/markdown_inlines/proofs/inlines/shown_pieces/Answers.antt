@@ -18,8 +18,8 @@ loop-index-init c =
     record {
       cut = c.requires.cut;
       begin = IsCharBoundary-start c.args.text.now c.utf8.text;
-      shown = ap (λ (l : List Shown). l ++ whole) c.new-styled.ensures.nothing;
-      styled = c.new-styled.ensures.styled;
+      shown = ap (λ (l : List Shown). l ++ whole) c.in_ok-styled.ensures.nothing;
+      styled = c.in_ok-styled.ensures.styled;
       links = ap (λ (l : List LinkTarget). l ++ links_from 0 c.args.pieces.now) c.new-links.ensures.items;
     }
 

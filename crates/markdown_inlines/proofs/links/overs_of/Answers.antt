@@ -10,8 +10,8 @@ use Rattle.markdown_inlines.proofs.links.overs_of.Goals as goal
 pub loop-index-init : goal.loop-index-init
 loop-index-init c =
     let pieces : List Piece = c.args.pieces.now in
-    let nothing : record { overs = reverse c.new-overs.result.items; ahead = reverse c.new-ahead.result.items } ≡ overs_from (length pieces) c.link_count-number.result (drop (length pieces) pieces) =
-    ap (λ (l : List Over). record { overs = reverse l; ahead = reverse c.new-ahead.result.items }) c.new-overs.ensures.items
+    let nothing : record { overs = reverse c.in_ok-overs.overs.items; ahead = reverse c.new-ahead.result.items } ≡ overs_from (length pieces) c.link_count-number.result (drop (length pieces) pieces) =
+    ap (λ (l : List Over). record { overs = reverse l; ahead = reverse c.new-ahead.result.items }) c.in_ok-overs.ensures.items
     ∙ ap (λ (l : List Ahead). record { overs = []; ahead = reverse l }) c.new-ahead.ensures.items ∙ sym (overs_nil pieces (length pieces) c.link_count-number.result) in
     record { within = omega arith; number = omega (arith, c.link_count-number.ensures, count_nil pieces); so_far = nothing }
 

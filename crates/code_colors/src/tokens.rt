@@ -1,0 +1,117 @@
+//! A text of code as its tokens.
+
+ghost use Rattle.std.specs.Prelude.{◌≡◌, IfOk, OnOk};
+ghost use Rattle.code_colors.specs.Tokens.{turned, innermost, tokens_of, plain_tokens, tokens_by};
+
+use crate::places::{nothing_before, passed};
+use crate::rules::{Class, Language, Turn};
+use crate::token_at::token_at;
+use std::alloc::{AllocError, Global};
+
+/// A token of a byte and so many more.
+#[derive(Debug, Clone, Copy)]
+pub struct Token {
+    pub more: usize,
+    pub class: Class,
+}
+
+fn innermost(modes: &[usize]) -> usize
+    ensures { result ≡ innermost modes.now }
+{
+    if modes.is_empty() {
+        0
+    } else {
+        modes[modes.len() - 1]
+    }
+}
+
+// What a token does to the modes that are open.
+fn turn(modes: &mut Vec<usize>, turn: Turn) -> Result<(), AllocError>
+    ensures { OnOk result (modes.new.items ≡ turned turn modes.old.items) }
+{
+    match turn {
+        Turn::Stays => {}
+        Turn::Leaves => {
+            if modes.len() > 1 {
+                modes.pop();
+            }
+        }
+        Turn::Enters(n) => {
+            if modes.len() < 8 {
+                modes.push(n)?;
+            }
+        }
+        Turn::Becomes(n) => {
+            modes.pop();
+            modes.push(n)?;
+        }
+    }
+    Ok(())
+}
+
+/// A text of code as its tokens.
+///
+/// # Errors
+///
+/// Out of memory is the only error.
+#[tactic(auto, unfolding(crate::specs::Tokens::tokens_from))]
+pub fn tokens_of(alloc: Global, language: Language, text: &[u8]) -> Result<Vec<Token>, AllocError>
+    ensures { IfOk result (λ tokens. tokens.items ≡ tokens_of language text.now) }
+{
+    let mut tokens = Vec::new(alloc);
+    let mut modes = Vec::new(alloc);
+    modes.push(0)?;
+    let mut before = nothing_before();
+    let mut skip: usize = 0;
+    let mut rest = text;
+    while let [b, next @ ..] = rest {
+        if skip > 0 {
+            skip -= 1;
+            before = passed(*b, before);
+            rest = next;
+            continue;
+        }
+        let taken = token_at(language, innermost(&modes), before, rest);
+        tokens.push(Token {
+            more: taken.more,
+            class: taken.class,
+        })?;
+        turn(&mut modes, taken.turn)?;
+        skip = taken.more;
+        before = passed(*b, before);
+        rest = next;
+    }
+    Ok(tokens)
+}
+
+fn plain_tokens(alloc: Global, text: &[u8]) -> Result<Vec<Token>, AllocError>
+    ensures { IfOk result (λ tokens. tokens.items ≡ plain_tokens text.now) }
+{
+    let mut tokens = Vec::new(alloc);
+    if text.is_empty() {
+        return Ok(tokens);
+    }
+    tokens.push(Token {
+        more: text.len() - 1,
+        class: Class::Plain,
+    })?;
+    Ok(tokens)
+}
+
+/// A text as its tokens. Without a language all is plain.
+///
+/// # Errors
+///
+/// Out of memory is the only error.
+pub fn tokens_by(
+    alloc: Global,
+    language: Option<Language>,
+    text: &[u8],
+) -> Result<Vec<Token>, AllocError>
+    ensures { IfOk result (λ tokens. tokens.items ≡ tokens_by language text.now) }
+{
+    match language {
+        None => plain_tokens(alloc, text),
+        Some(language) => tokens_of(alloc, language, text),
+    }
+}

@@ -1,0 +1,17 @@
+use Rattle.std.proofs.Common.{◌≡◌, ◌+◌, ◌≤◌, ◌++◌, length}
+use Rattle.std.specs.Prelude.{replicate}
+use Rattle.mad_mark_runs.specs.Values.{AreRising, values_of}
+use Rattle.code_tones.specs.Cursor.{tones_left}
+use Rattle.code_tones.specs.Tones.{byte_tones}
+use Rattle.code_tones.proofs.WalkLemmas.{left_tones}
+use Rattle.code_tones.proofs.tones.push_token_tones.Given as goal
+
+abbrev pub invariant-loop-tones : goal.invariant-loop-tones
+invariant-loop-tones l = record {
+  rising : AreRising 0 l.runs.items;
+  few : l.count + length l.rest ≤ length l.text;
+  so_far : values_of l.runs.items ++ (replicate l.count l.value ++ left_tones (tones_left l.tones) l.rest) ≡ values_of l.fn.runs.items ++ left_tones (byte_tones l.tokens) l.text;
+}
+
+abbrev pub decreases-loop-tones : goal.decreases-loop-tones
+decreases-loop-tones l = length l.rest

@@ -1,0 +1,5 @@
+mod FrontHitLemmas
+mod PageLemmas
+mod PageStandLemmas
+mod RowStandLemmas
+mod StandLemmas

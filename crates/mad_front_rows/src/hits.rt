@@ -1,0 +1,192 @@
+//! The hits of what is sought, drawn over rows of a page that were drawn before: they begin behind the fronts' columns.
+
+ghost use Rattle.std.specs.List.{range_with_len};
+ghost use Rattle.std.specs.Prelude.{◌≡◌, ◌+◌, ◌-◌, ◌<◌, ◌^◌, ℕ, OnOk, length, map, min};
+ghost use Rattle.mad_term.specs.Trace.{TookWith};
+ghost use Rattle.mad_fit.specs.TextColumns.{columns};
+ghost use Rattle.mad_style.specs.StyledChars.{char_alone, char_style};
+ghost use Rattle.mad_term.specs.Styles.{IsStyle};
+ghost use Rattle.mad_wrap.specs.WrapLines.{capped};
+ghost use Rattle.mad_hits.specs.Drawn.{AreHitsShown, IsHitShown};
+ghost use Rattle.mad_hits.specs.Hits.{marked_of};
+ghost use Rattle.mad_front_rows.specs.FrontHits.{AreRowsMarked, IsRowMarked, hit_behind};
+
+use crate::columns::columns_in_front;
+use crate::rows::columns_left;
+use mad_columns::char_columns;
+use mad_draw::{Rows, draw_rows};
+use mad_fit::Area;
+use mad_format::FmtLine;
+use mad_fronts::{Front, front_at};
+use mad_hits::{Hit, row_hits};
+use mad_page_rows::faces::line_skin;
+use mad_rows::RowSkin;
+use mad_style::StyledChar;
+use mad_term::{Error, Out};
+use std::alloc::{AllocError, Global};
+
+/// Draws the hits of what is sought over rows of a page that were drawn in an area, those from the row `top` on, as many as its height. The page
+/// has `width` columns: those beside the scroll bar, if there is one. Nothing is flushed.
+///
+/// Sections of the page begin in the rows `starts`. What is sought is in the lines alone; a hit begins behind what stands in front of its line.
+///
+/// # Errors
+///
+/// A fault of the device, or out of memory. What went out by then is a beginning of the whole.
+pub fn draw_front_hits<O: Out>(
+    alloc: Global,
+    out: &mut O,
+    skin: &RowSkin,
+    lines: &[FmtLine],
+    fronts: &[Front],
+    starts: &[usize],
+    top: usize,
+    width: u16,
+    height: u16,
+    sought: &str,
+) -> Result<(), Error>
+    ensures { OnOk result (TookWith (O.seen out.old) (O.seen out.new) (AreRowsMarked skin.now width sought.now lines.now fronts.now starts.now 0 (range_with_len top (min height (length lines.now - top))))) }
+{
+    let count = usize::from(height).min(lines.len().saturating_sub(top));
+    let mut y: u16 = 0;
+    'rows: while usize::from(y) < count {
+        let row = top + usize::from(y);
+        draw_row(
+            alloc, out, skin, lines, fronts, starts, row, width, y, sought,
+        )?;
+        y += 1;
+    }
+    Ok(())
+}
+
+// Draws those of one row.
+fn draw_row<O: Out>(
+    alloc: Global,
+    out: &mut O,
+    skin: &RowSkin,
+    lines: &[FmtLine],
+    fronts: &[Front],
+    starts: &[usize],
+    row: usize,
+    width: u16,
+    y: u16,
+    sought: &str,
+) -> Result<(), Error>
+    requires low { y + 1 < 2 ^ 16 }
+    requires within { row < length lines.now }
+    ensures { OnOk result (TookWith (O.seen out.old) (O.seen out.new) (IsRowMarked skin.now width sought.now lines.now fronts.now starts.now y row)) }
+{
+    let gutters = front_at(fronts, row).gutters;
+    let rest = columns_left(skin, gutters, usize::from(width));
+    let hits = row_hits(
+        alloc,
+        &line_skin(skin, gutters),
+        lines,
+        starts,
+        row,
+        rest,
+        sought,
+    )?;
+    let front = columns_in_front(skin, gutters);
+    draw_each(alloc, out, hits.as_slice(), front, width, y)?;
+    Ok(())
+}
+
+// Draws hits, each where it is within the columns, behind so many.
+fn draw_each<O: Out>(
+    alloc: Global,
+    out: &mut O,
+    hits: &[Hit],
+    front: usize,
+    width: u16,
+    y: u16,
+) -> Result<(), Error>
+    requires { y + 1 < 2 ^ 16 }
+    ensures { OnOk result (TookWith (O.seen out.old) (O.seen out.new) (AreHitsShown width y (map (hit_behind front) (map marked_of hits.now)))) }
+{
+    for hit in hits {
+        draw_hit(alloc, out, hit, front, width, y)?;
+    }
+    Ok(())
+}
+
+// Draws a hit, where it is within the columns.
+fn draw_hit<O: Out>(
+    alloc: Global,
+    out: &mut O,
+    hit: &Hit,
+    front: usize,
+    width: u16,
+    y: u16,
+) -> Result<(), Error>
+    requires { y + 1 < 2 ^ 16 }
+    ensures { OnOk result (TookWith (O.seen out.old) (O.seen out.new) (IsHitShown width y (hit_behind front (marked_of hit.now)))) }
+{
+    let column = front.saturating_add(hit.column);
+    draw_chars(alloc, out, hit.chars.as_slice(), column, width, y)?;
+    Ok(())
+}
+
+// Draws characters from a column on, where they are within the columns.
+fn draw_chars<O: Out>(
+    alloc: Global,
+    out: &mut O,
+    chars: &[StyledChar],
+    column: usize,
+    width: u16,
+    y: u16,
+) -> Result<(), Error>
+    requires { y + 1 < 2 ^ 16 }
+    ensures { OnOk result (TookWith (O.seen out.old) (O.seen out.new) (IsHitShown width y (record { column = column; chars = chars.now }))) }
+{
+    let columns = columns_of(chars);
+    if column.saturating_add(columns) > usize::from(width) {
+        return Ok(());
+    }
+    let area = Area {
+        left: column as u16,
+        top: y,
+        width: columns as u16,
+        height: 1,
+    };
+    draw_rows(alloc, out, &Chars { chars }, &area)?;
+    Ok(())
+}
+
+// The columns that characters take.
+fn columns_of(text: &[StyledChar]) -> usize
+    ensures { result ≡ capped (columns (map char_alone text.now)) }
+{
+    let mut columns: usize = 0;
+    for c in text {
+        columns = columns.saturating_add(char_columns(c.nude_char()));
+    }
+    columns
+}
+
+// Characters in a row, each in its style.
+#[derive(Clone, Copy)]
+struct Chars<'c> {
+    chars: &'c [StyledChar],
+}
+
+impl Rows for Chars<'_> {
+    ghost use Rattle.std.specs.Prelude.{map};
+    ghost use Rattle.mad_draw.specs.Pieces.{char_piece};
+
+    ghost pieces = { λ row _. map char_piece row.chars.now };
+
+    fn push_row(&self, bytes: &mut String, _y: u16) -> Result<(), AllocError> {
+        for c in self.chars {
+            // Nothing is done: this only says that the colors of the character are known.
+            know_char(*c);
+            write!(bytes, "{c}")?;
+        }
+        Ok(())
+    }
+}
+
+// The numbers of a character's colors are bytes. Nothing is done.
+fn know_char(c: StyledChar)
+    ensures { IsStyle (char_style c).object_style }
+{}

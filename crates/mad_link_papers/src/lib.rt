@@ -1,0 +1,4 @@
+//! Links on a terminal that scrolls.
+#![tactic(auto)]
+
+pub mod laws;

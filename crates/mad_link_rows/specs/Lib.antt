@@ -1,0 +1,3 @@
+pub mod AreaLaws
+pub mod LinkedAreas
+pub mod LinkedLines

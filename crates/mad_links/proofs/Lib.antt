@@ -1,0 +1,10 @@
+pub mod AddressLemmas
+pub mod BesideLemmas
+pub mod CalmLemmas
+pub mod LinkAreaLemmas
+pub mod LinkRowLemmas
+pub mod LinkTextLemmas
+pub mod PlainLemmas
+pub mod PutEach
+pub mod TerminalLemmas
+pub mod WritingLemmas

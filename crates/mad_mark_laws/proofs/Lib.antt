@@ -1,0 +1,4 @@
+pub mod LayoutLemmas
+pub mod NumberedLemmas
+pub mod TableLemmas
+pub mod TextLemmas

@@ -1,0 +1,3 @@
+pub mod SeenLemmas
+pub mod ShownLemmas
+pub mod WrittenLemmas

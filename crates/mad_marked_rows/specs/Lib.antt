@@ -1,0 +1,4 @@
+pub mod Laws
+pub mod LinkLaws
+pub mod LinkedRows
+pub mod MarkedRows

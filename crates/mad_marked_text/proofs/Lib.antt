@@ -1,0 +1,4 @@
+pub mod CursorLemmas
+pub mod OpeningLemmas
+pub mod PartLemmas
+pub mod SeenLemmas

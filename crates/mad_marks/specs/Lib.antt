@@ -1,0 +1,3 @@
+pub mod LineMarks
+pub mod RowMarks
+pub mod RowNumbers

@@ -1,0 +1,106 @@
+-- Lines in a box are drawn as they are elsewhere, but for their style.
+use Rattle.std.proofs.Common.{◌≡◌, ℕ, zero, suc, ◌+◌, Bool, true, false, List, [], ◌∷◌, ◌++◌, map, chars, refl, ap, sym, ◌∙◌, subst, arith, if◌then◌else◌}
+use Rattle.std.specs.List.{AllByRecursion}
+use Rattle.std.specs.Str.{IsUtf8}
+use Rattle.std.proofs.lemmas.List.{map-append}
+use Rattle.mad_md.specs.declared.compound.Compound.{Compound}
+use Rattle.mad_screen.specs.Painting.{IsShown}
+use Rattle.mad_style.specs.declared.compound_styles.CompoundStyle.{CompoundStyle}
+use Rattle.mad_style.specs.declared.kinds.CompositeKind.{CompositeKind}
+use Rattle.mad_style.specs.declared.kinds.CompositeKind.TheVariants.{Paragraph, Header, ListItem, ListItemFollowUp, OrderedListItem, OrderedListItemFollowUp, Code, Quote}
+use Rattle.mad_style.specs.declared.line_styles.LineStyle.{LineStyle}
+use Rattle.mad_style.specs.OrderedItems.{ordered_indent}
+use Rattle.mad_fit.specs.TextColumns.{columns}
+use Rattle.mad_draw.specs.Pieces.{RowPiece, IsShownPiece, AreShownPieces, pieces_columns, single_spaces}
+use Rattle.mad_format.specs.Indents.{later_indent}
+use Rattle.mad_format.specs.declared.composite.FmtComposite.{FmtComposite}
+use Rattle.mad_format.specs.declared.line.FmtLine.{FmtLine}
+use Rattle.mad_format.specs.declared.line.FmtLine.TheVariants.{Normal, TableRow, TableRule, HorizontalRule}
+use Rattle.mad_rows.specs.Rows.{prefix_pieces, compound_piece}
+use Rattle.mad_rows.specs.RowStyles.{line_style}
+use Rattle.mad_rows.specs.declared.row_skin.RowSkin.{RowSkin}
+use Rattle.mad_layout.specs.Drawable.{FillsItsPlace, IsDrawable, IsDrawableLine, AreDrawable}
+use Rattle.mad_sections.specs.declared.gutters.Gutter.{Gutter}
+use Rattle.mad_page_rows.specs.Faces.{in_box, line_skin}
+
+-- the texts of pieces
+abbrev texts : List RowPiece → List (List ℕ)
+texts ps = map (λ (p : RowPiece). p.text) ps
+
+same_shown : (ps qs : List RowPiece) → texts ps ≡ texts qs → AreShownPieces ps → AreShownPieces qs
+same_shown [] [] e h = tt
+same_shown [] (q ∷ qs) e h = absurd cc
+same_shown (p ∷ ps) [] e h = absurd cc
+same_shown (p ∷ ps) (q ∷ qs) e h =
+    let one : p.text ≡ q.text = cc in
+    let more : texts ps ≡ texts qs = cc in
+    (record { utf8 = subst IsUtf8 one h.0.utf8; shown = subst (λ (t : List ℕ). IsShown (chars t)) one h.0.shown }, same_shown ps qs more h.1)
+
+same_columns : (ps qs : List RowPiece) → texts ps ≡ texts qs → pieces_columns ps ≡ pieces_columns qs
+same_columns [] [] e = refl
+same_columns [] (q ∷ qs) e = absurd cc
+same_columns (p ∷ ps) [] e = absurd cc
+same_columns (p ∷ ps) (q ∷ qs) e =
+    let one : p.text ≡ q.text = cc in
+    let more : texts ps ≡ texts qs = cc in
+    let own = ap (λ (t : List ℕ). columns (chars t)) one in
+    let rest = same_columns ps qs more in
+    omega (arith, own, rest)
+
+same_spaces : (style other : CompoundStyle) (n : ℕ) → texts (single_spaces style n) ≡ texts (single_spaces other n)
+same_spaces style other zero = refl
+same_spaces style other (suc n) = ap (λ (ts : List (List ℕ)). (32 ∷ []) ∷ ts) (same_spaces style other n)
+
+both_same : (ds bs ps qs : List RowPiece) → texts ds ≡ texts bs → texts ps ≡ texts qs → texts (ds ++ ps) ≡ texts (bs ++ qs)
+both_same ds bs ps qs e f =
+    map-append (λ (p : RowPiece). p.text) ds ps ∙ ap (λ (ts : List (List ℕ)). ts ++ texts ps) e ∙ ap (λ (ts : List (List ℕ)). texts bs ++ ts) f ∙ sym (map-append (λ (p : RowPiece). p.text) bs qs)
+
+-- the skin of a box
+abbrev boxed : RowSkin → RowSkin
+boxed skin = record skin { paragraph = skin.code_block }
+
+same_prefix : (skin : RowSkin) (kind : CompositeKind) → texts (prefix_pieces skin kind) ≡ texts (prefix_pieces (boxed skin) kind)
+same_prefix skin Paragraph = refl
+same_prefix skin (Header level) = refl
+same_prefix skin (ListItem depth) = both_same (single_spaces skin.paragraph.compound_style depth) (single_spaces skin.code_block.compound_style depth) _ _ (same_spaces skin.paragraph.compound_style skin.code_block.compound_style depth) refl
+same_prefix skin (ListItemFollowUp depth) = same_spaces skin.paragraph.compound_style skin.code_block.compound_style (later_indent skin.list_items_indentation_mode (2 + depth))
+same_prefix skin (OrderedListItem level index) = both_same (single_spaces skin.paragraph.compound_style level) (single_spaces skin.code_block.compound_style level) _ _ (same_spaces skin.paragraph.compound_style skin.code_block.compound_style level) refl
+same_prefix skin (OrderedListItemFollowUp level index) = same_spaces skin.paragraph.compound_style skin.code_block.compound_style (later_indent skin.list_items_indentation_mode (ordered_indent level index))
+same_prefix skin Code = refl
+same_prefix skin Quote = refl
+
+same_compounds : (skin : RowSkin) (style other : LineStyle) (ps : List Compound) → texts (map (compound_piece skin style) ps) ≡ texts (map (compound_piece (boxed skin) other) ps)
+same_compounds skin style other [] = refl
+same_compounds skin style other (p ∷ ps) = ap (λ (ts : List (List ℕ)). p.src.now ∷ ts) (same_compounds skin style other ps)
+
+fills_boxed : (skin : RowSkin) (l : FmtComposite) → FillsItsPlace skin l → FillsItsPlace (boxed skin) l
+fills_boxed skin l h = record {
+  measured = h.measured;
+  place = h.place;
+  prefix = same_shown (prefix_pieces skin l.kind) (prefix_pieces (boxed skin) l.kind) (same_prefix skin l.kind) h.prefix;
+  indent_is = sym (same_columns (prefix_pieces skin l.kind) (prefix_pieces (boxed skin) l.kind) (same_prefix skin l.kind)) ∙ h.indent_is;
+  text = same_shown (map (compound_piece skin (line_style skin l.kind)) l.compounds.items) (map (compound_piece (boxed skin) (line_style (boxed skin) l.kind)) l.compounds.items)
+      (same_compounds skin (line_style skin l.kind) (line_style (boxed skin) l.kind) l.compounds.items) h.text;
+}
+
+cells_boxed : (skin : RowSkin) (ls : List FmtComposite) → AllByRecursion (FillsItsPlace skin) ls → AllByRecursion (FillsItsPlace (boxed skin)) ls
+cells_boxed skin [] h = tt
+cells_boxed skin (l ∷ ls) h = (fills_boxed skin l h.0, cells_boxed skin ls h.1)
+
+line_boxed : (skin : RowSkin) (width : ℕ) (l : FmtLine) → IsDrawableLine skin width l → IsDrawableLine (boxed skin) width l
+line_boxed skin width (Normal l) h = record { margins = h.margins; margins_are = h.margins_are; fits = h.fits; fills = fills_boxed skin l h.fills }
+line_boxed skin width (TableRow row) h = record { fits = h.fits; each = cells_boxed skin row.cells.items h.each; border = h.border }
+line_boxed skin width (TableRule rule) h = record { fits = h.fits; chars = record { left = h.chars.left; horizontal = h.chars.horizontal; between = h.chars.between; right = h.chars.right } }
+line_boxed skin width HorizontalRule h = h
+
+all_boxed : (skin : RowSkin) (width : ℕ) (ls : List FmtLine) → AreDrawable skin width ls → AreDrawable (boxed skin) width ls
+all_boxed skin width [] h = tt
+all_boxed skin width (l ∷ ls) h = (line_boxed skin width l h.0, all_boxed skin width ls h.1)
+
+by_bool : (P : Bool → Type 0) (b : Bool) → P true → P false → P b
+by_bool P true on off = on
+by_bool P false on off = off
+
+-- so they are in the skin of a row behind any gutters
+pub drawable_behind : (skin : RowSkin) (gutters : List Gutter) (width : ℕ) (ls : List FmtLine) → AreDrawable skin width ls → AreDrawable (line_skin skin gutters) width ls
+drawable_behind skin gutters width ls h = by_bool (λ t. AreDrawable (if t then boxed skin else skin) width ls) (in_box skin gutters) (all_boxed skin width ls h) h

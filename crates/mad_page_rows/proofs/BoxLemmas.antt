@@ -1,0 +1,21 @@
+-- Gutters of code among others.
+use Rattle.std.proofs.Common.{◌≡◌, ℕ, ◌+◌, ◌<◌, Bool, false, List, [], ◌∷◌, length, drop, get_or, refl, ap, sym, ◌∙◌}
+use Rattle.std.proofs.lemmas.List.{at_drop_more}
+use Rattle.mad_sections.specs.declared.gutters.Gutter.{Gutter}
+use Rattle.mad_page_rows.specs.Faces.{is_code, ends_in_code}
+
+-- what the last of gutters is, where it was so before them
+abbrev pub ends_from : Bool → List Gutter → Bool
+ends_from last [] = last
+ends_from last (g ∷ gs) = ends_in_code (g ∷ gs)
+
+pub ends_none : (gs : List Gutter) → ends_from false gs ≡ ends_in_code gs
+ends_none [] = refl
+ends_none (g ∷ gs) = refl
+
+next_ends : (last : Bool) (g : Gutter) (gs : List Gutter) → ends_from (is_code g) gs ≡ ends_from last (g ∷ gs)
+next_ends last g [] = refl
+next_ends last g (h ∷ gs) = refl
+
+pub ends_on : (last : Bool) (gs : List Gutter) (i : ℕ) (g : Gutter) → i < length gs → ends_from (is_code (get_or gs i g)) (drop (i + 1) gs) ≡ ends_from last (drop i gs)
+ends_on last gs i g inside = next_ends last (get_or gs i g) (drop (i + 1) gs) ∙ sym (at_drop_more (ends_from last) gs i g inside)

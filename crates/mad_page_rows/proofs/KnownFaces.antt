@@ -1,0 +1,54 @@
+-- The numbers of the colors of a page's rows are bytes.
+use Rattle.std.proofs.Common.{ℕ, ◌-◌, Bool, true, false, List, [], ◌∷◌, length, take, drop, Some, if◌then◌else◌}
+use Rattle.std.specs.List.{flat_map}
+use Rattle.mad_draw.specs.Pieces.{RowPiece, AreKnown}
+use Rattle.mad_draw.proofs.PieceLemmas.{known_both, spaces_known}
+use Rattle.mad_rows.specs.Rows.{line_pieces, row_pieces}
+use Rattle.mad_rows.specs.declared.row_skin.RowSkin.{RowSkin}
+use Rattle.mad_sections.specs.Gutters.{gutter_columns, columns_of}
+use Rattle.mad_sections.specs.declared.gutters.Gutter.{Gutter}
+use Rattle.mad_sections.specs.declared.gutters.Gutter.TheVariants.{Bar, Bullet, Number, Task, Code}
+use Rattle.mad_pages.specs.PageRows.{RowContent}
+use Rattle.mad_page_rows.specs.AreaRows.{AreKnownFaces}
+use Rattle.mad_page_rows.specs.Faces.{has_boxes, blanks, code_blanks, code_face, first_face, other_face, face, faces, back_columns, backs, behind_pieces, page_row_pieces}
+
+blanks_known : (skin : RowSkin) (n : ℕ) → AreKnownFaces skin → AreKnown (blanks skin n)
+blanks_known skin n h = spaces_known skin.paragraph.compound_style n h.parts.paragraph
+
+sides_known : (skin : RowSkin) (n : ℕ) → AreKnownFaces skin → AreKnown (code_blanks skin n)
+sides_known skin n h = spaces_known skin.code_block.compound_style n h.parts.code_block
+
+by_bool : (P : Bool → Type 0) (b : Bool) → P true → P false → P b
+by_bool P true on off = on
+by_bool P false on off = off
+
+code_known : (skin : RowSkin) → AreKnownFaces skin → AreKnown (code_face skin)
+code_known skin h = by_bool (λ t. AreKnown (if t then code_blanks skin 1 else blanks skin 2)) (has_boxes skin) (sides_known skin 1 h) (blanks_known skin 2 h)
+
+first_known : (skin : RowSkin) (g : Gutter) → AreKnownFaces skin → AreKnown (first_face skin g)
+first_known skin Bar h = (h.parts.quote_mark, blanks_known skin 1 h)
+first_known skin Bullet h = (h.parts.bullet, blanks_known skin 1 h)
+first_known skin (Number n) h = (h.item.0, (h.item.1, blanks_known skin 1 h))
+first_known skin (Task done) h = (h.parts.bullet, blanks_known skin 1 h)
+first_known skin Code h = code_known skin h
+
+other_known : (skin : RowSkin) (g : Gutter) → AreKnownFaces skin → AreKnown (other_face skin g)
+other_known skin Bar h = (h.parts.quote_mark, blanks_known skin 1 h)
+other_known skin Bullet h = blanks_known skin 2 h
+other_known skin (Number n) h = blanks_known skin _ h
+other_known skin (Task done) h = blanks_known skin _ h
+other_known skin Code h = code_known skin h
+
+face_known : (skin : RowSkin) (first : Bool) (g : Gutter) → AreKnownFaces skin → AreKnown (face skin first g)
+face_known skin true g h = first_known skin g h
+face_known skin false g h = other_known skin g h
+
+all_known : (skin : RowSkin) (first : Bool) (gs : List Gutter) → AreKnownFaces skin → AreKnown (flat_map (face skin first) gs)
+all_known skin first [] h = tt
+all_known skin first (g ∷ gs) h = known_both (face skin first g) (flat_map (face skin first) gs) (face_known skin first g h) (all_known skin first gs h)
+
+pub row_known : (skin : RowSkin) (width : ℕ) (row : RowContent) → AreKnownFaces skin → AreKnown (behind_pieces skin (Some width) true row) → AreKnown (page_row_pieces skin (Some width) true row)
+row_known skin width row h line =
+    let k : ℕ = length row.gutters - row.fresh in
+    known_both (faces skin row.gutters row.fresh) _ (known_both (flat_map (face skin false) (take k row.gutters)) (flat_map (face skin true) (drop k row.gutters)) (all_known skin false (take k row.gutters) h) (all_known skin true (drop k row.gutters) h))
+    (known_both (behind_pieces skin (Some width) true row) (backs skin row.gutters) line (sides_known skin (back_columns skin row.gutters) h))

@@ -1,0 +1,5 @@
+pub mod BoxLemmas
+pub mod FaceLemmas
+pub mod FillLemmas
+pub mod KnownFaces
+pub mod NumberLemmas

@@ -1,0 +1,119 @@
+-- What is written of a page's rows, piece by piece.
+use Rattle.std.specs.Prelude.{ℕ, ◌+◌, ◌-◌, nat_lt, is_some, ◌&&◌, ◌||◌, Bool, true, false, List, [], ◌∷◌, ◌++◌, take, drop, length, Option, Some, None, if◌then◌else◌}
+use Rattle.std.specs.List.{flat_map}
+use Rattle.mad_style.specs.StyledChars.{char_style, char_alone}
+use Rattle.mad_draw.specs.Pieces.{RowPiece, pieces_bytes, char_piece, spaces}
+use Rattle.mad_rows.specs.Rows.{number_piece, line_pieces}
+use Rattle.mad_rows.specs.RowStyles.{ordered_item_style}
+use Rattle.mad_rows.specs.declared.row_skin.RowSkin.{RowSkin}
+use Rattle.mad_sections.specs.Gutters.{gutter_columns, columns_of}
+use Rattle.mad_sections.specs.declared.gutters.Gutter.{Gutter}
+use Rattle.mad_sections.specs.declared.gutters.Gutter.TheVariants.{Bar, Bullet, Number, Task, Code}
+use Rattle.mad_pages.specs.PageRows.{RowContent, row_content}
+use Rattle.mad_pages.specs.declared.page_rows.PageRow.{PageRow}
+
+-- the boxes of tasks are of ASCII characters where the skin's bullet is one
+abbrev pub has_ascii_boxes : RowSkin → Bool
+has_ascii_boxes skin = nat_lt (char_alone skin.bullet) 128
+
+-- the box of a task, in bytes: ☐, ☑, or in ASCII [ ], [x]
+abbrev pub box_text : Bool → Bool → List ℕ
+box_text false false = 226 ∷ 152 ∷ 144 ∷ []
+box_text false true = 226 ∷ 152 ∷ 145 ∷ []
+box_text true false = 91 ∷ 32 ∷ 93 ∷ []
+box_text true true = 91 ∷ 120 ∷ 93 ∷ []
+
+-- the box of a task, in the bullet's style
+abbrev pub box_piece : RowSkin → Bool → RowPiece
+box_piece skin done = record { style = (char_style skin.bullet).object_style; text = box_text (has_ascii_boxes skin) done }
+
+-- blanks in the paragraph's style
+abbrev pub blanks : RowSkin → ℕ → List RowPiece
+blanks skin n = spaces skin.paragraph.compound_style n
+
+-- code is drawn in boxes: it has a background of its own
+abbrev pub has_boxes : RowSkin → Bool
+has_boxes skin = is_some skin.code_block.compound_style.object_style.background_color
+
+-- blanks in the style of code
+abbrev pub code_blanks : RowSkin → ℕ → List RowPiece
+code_blanks skin n = spaces skin.code_block.compound_style n
+
+-- in front of each row of code: the side of its box, or where there are no boxes two blanks
+abbrev pub code_face : RowSkin → List RowPiece
+code_face skin = if has_boxes skin then code_blanks skin 1 else blanks skin 2
+
+-- what a gutter shows in front of its first row
+abbrev pub first_face : RowSkin → Gutter → List RowPiece
+first_face skin Bar = char_piece skin.quote_mark ∷ blanks skin 1
+first_face skin Bullet = char_piece skin.bullet ∷ blanks skin 1
+first_face skin (Number n) = number_piece (ordered_item_style skin 0).index_style n ∷ char_piece (ordered_item_style skin 0).index_suffix ∷ blanks skin 1
+first_face skin (Task done) = box_piece skin done ∷ blanks skin 1
+first_face skin Code = code_face skin
+
+-- and in front of all others: a bar is there again, and the side of a box, all else is blank
+abbrev pub other_face : RowSkin → Gutter → List RowPiece
+other_face skin Bar = char_piece skin.quote_mark ∷ blanks skin 1
+other_face skin Code = code_face skin
+other_face skin g = blanks skin (gutter_columns (has_ascii_boxes skin) g)
+
+-- one of both
+abbrev pub face : RowSkin → Bool → Gutter → List RowPiece
+face skin first g = if first then first_face skin g else other_face skin g
+
+-- the faces of gutters in a row: the last so many have their first one
+abbrev pub faces : RowSkin → List Gutter → ℕ → List RowPiece
+faces skin gs fresh = flat_map (face skin false) (take (length gs - fresh) gs) ++ flat_map (face skin true) (drop (length gs - fresh) gs)
+
+-- the columns that gutters leave of an outer width
+abbrev pub columns_behind : Bool → Option ℕ → List Gutter → Option ℕ
+columns_behind ascii None gs = None
+columns_behind ascii (Some width) gs = Some (width - columns_of ascii gs)
+
+-- the gutter is that of code
+abbrev pub is_code : Gutter → Bool
+is_code Code = true
+is_code g = false
+
+-- the count of the gutters that are
+abbrev pub codes : List Gutter → ℕ
+codes [] = 0
+codes (g ∷ gs) = (if is_code g then 1 else 0) + codes gs
+
+-- the columns behind a row: one for each box
+abbrev pub back_columns : RowSkin → List Gutter → ℕ
+back_columns skin gs = if has_boxes skin then codes gs else 0
+
+-- what gutters show behind a row: the other sides of boxes
+abbrev pub backs : RowSkin → List Gutter → List RowPiece
+backs skin gs = code_blanks skin (back_columns skin gs)
+
+-- the last gutter is that of code
+abbrev pub ends_in_code : List Gutter → Bool
+ends_in_code [] = false
+ends_in_code (g ∷ []) = is_code g
+ends_in_code (g ∷ h ∷ gs) = ends_in_code (h ∷ gs)
+
+-- rows behind these gutters are in a box
+abbrev pub in_box : RowSkin → List Gutter → Bool
+in_box skin gs = has_boxes skin && ends_in_code gs
+
+-- the skin of a row's line: in a box what is beside its text looks as code
+abbrev pub line_skin : RowSkin → List Gutter → RowSkin
+line_skin skin gs = if in_box skin gs then record skin { paragraph = skin.code_block } else skin
+
+-- the pieces of a row's line, in the columns that its gutters leave; in a box it fills them
+abbrev pub behind_pieces : RowSkin → Option ℕ → Bool → RowContent → List RowPiece
+behind_pieces skin outer filled row = line_pieces (line_skin skin row.gutters) (columns_behind (has_ascii_boxes skin) outer row.gutters) (filled || in_box skin row.gutters) row.line
+
+-- the pieces of a row at an outer width: the faces of its gutters, its line in the columns that they leave, and the other sides of boxes
+abbrev pub page_row_pieces : RowSkin → Option ℕ → Bool → RowContent → List RowPiece
+page_row_pieces skin outer filled row = faces skin row.gutters row.fresh ++ (behind_pieces skin outer filled row ++ backs skin row.gutters)
+
+-- a row at an outer width, and a newline; what is right of it isn't filled up
+abbrev pub page_row_bytes : RowSkin → Option ℕ → RowContent → List ℕ
+page_row_bytes skin outer row = pieces_bytes (page_row_pieces skin outer false row) ++ 10 ∷ []
+
+-- the rows of a page, one after another
+abbrev pub page_bytes : RowSkin → Option ℕ → List PageRow → List ℕ
+page_bytes skin outer rows = flat_map (λ (row : PageRow). page_row_bytes skin outer (row_content row)) rows

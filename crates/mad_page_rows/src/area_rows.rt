@@ -1,0 +1,126 @@
+//! The rows of a page in an area of the screen.
+
+ghost use Rattle.std.specs.Prelude.{◌≡◌, ◌++◌, ◌-◌, Some, true, OnOk, string_bytes, slice_get};
+ghost use Rattle.std.specs.Option.{option_copied};
+ghost use Rattle.mad_draw.specs.Pieces.{AreKnown, pieces_bytes};
+ghost use Rattle.mad_sections.specs.Gutters.{columns_of};
+ghost use Rattle.mad_rows.specs.RowStyles.{AreKnownParts, IsKnownItem};
+ghost use Rattle.mad_pages.specs.PageRows.{row_content};
+ghost use Rattle.mad_page_rows.specs.AreaRows.{AreKnownFaces, row_shown};
+ghost use Rattle.mad_page_rows.specs.Faces.{behind_pieces, blanks, has_ascii_boxes, page_row_pieces};
+
+use crate::faces::{blanks, columns_behind, has_ascii_boxes, line_skin};
+use crate::page_rows::PlacedPageRow;
+use mad_draw::Rows;
+use mad_pages::PageRow;
+use mad_rows::{RowSkin, know_row};
+use mad_sections::Gutter;
+use mad_style::OrderedItemStyle;
+use std::alloc::AllocError;
+
+/// The rows of a page in a place: each shows the row of its number, and past the last one spaces in the paragraph's style.
+#[derive(Clone, Copy)]
+pub struct PageTextRows<'a, 's> {
+    /// The skin that they are drawn in.
+    pub skin: &'a RowSkin,
+    /// The rows.
+    pub rows: &'a [PageRow<'s>],
+    /// The columns of each row.
+    pub width: usize,
+}
+
+impl Rows for PageTextRows<'_, '_> {
+    ghost use Rattle.mad_page_rows.specs.AreaRows.{row_shown};
+
+    ghost pieces = { λ rows y. row_shown rows.skin.now rows.width (slice_get rows.rows.now y) };
+
+    fn push_row(&self, bytes: &mut String, y: u16) -> Result<(), AllocError> {
+        push_shown(bytes, self.skin, row_at(self.rows, y), self.width)
+    }
+}
+
+// The row of this number, if there is one.
+fn row_at<'a, 's>(rows: &'a [PageRow<'s>], y: u16) -> Option<&'a PageRow<'s>>
+    ensures { option_copied result ≡ slice_get rows.entry.now y }
+{
+    rows.get(usize::from(y))
+}
+
+// What a place of this width shows: a row, or past the last one spaces.
+fn push_shown(
+    bytes: &mut String,
+    skin: &RowSkin,
+    row: Option<&PageRow>,
+    width: usize,
+) -> Result<(), AllocError>
+    ensures writes { OnOk result (string_bytes bytes.new ≡ string_bytes bytes.old ++ pieces_bytes (row_shown skin.now width (option_copied row.entry))) }
+    ensures known { AreKnown (row_shown skin.now width (option_copied row.entry)) }
+{
+    match row {
+        Some(row) => push_placed(bytes, skin, row, width),
+        None => push_blanks(bytes, skin, width),
+    }
+}
+
+// A row of a page in a place of this width.
+fn push_placed(
+    bytes: &mut String,
+    skin: &RowSkin,
+    row: &PageRow,
+    width: usize,
+) -> Result<(), AllocError>
+    ensures writes { OnOk result (string_bytes bytes.new ≡ string_bytes bytes.old ++ pieces_bytes (page_row_pieces skin.now (Some width) true (row_content row.now))) }
+    ensures known { AreKnown (page_row_pieces skin.now (Some width) true (row_content row.now)) }
+{
+    know_faces(skin);
+    know_behind(skin, row, width);
+    let placed = PlacedPageRow {
+        skin,
+        row,
+        outer: Some(width),
+        filled: true,
+    };
+    write!(bytes, "{placed}")
+}
+
+fn push_blanks(bytes: &mut String, skin: &RowSkin, width: usize) -> Result<(), AllocError>
+    ensures writes { OnOk result (string_bytes bytes.new ≡ string_bytes bytes.old ++ pieces_bytes (blanks skin.now width)) }
+    ensures known { AreKnown (blanks skin.now width) }
+{
+    know_row(skin, None, width);
+    let indent = blanks(skin, width);
+    write!(bytes, "{indent}")
+}
+
+// The numbers of the colors of a row's line are bytes, behind its gutters.
+fn know_behind(skin: &RowSkin, row: &PageRow, width: usize)
+    ensures { AreKnown (behind_pieces skin.now (Some width) true (row_content row.now)) }
+{
+    let rest = rest_behind(skin, row.gutters, width);
+    know_row(&line_skin(skin, row.gutters), Some(&row.line), rest);
+}
+
+// The columns behind gutters in a place of this width.
+fn rest_behind(skin: &RowSkin, gutters: &[Gutter], width: usize) -> usize
+    ensures { result ≡ width - columns_of (has_ascii_boxes skin.now) gutters.now }
+{
+    columns_behind(gutters, Some(width), has_ascii_boxes(skin)).unwrap_or(0)
+}
+
+/// The numbers of the colors of faces are bytes. Nothing is done.
+pub fn know_faces(skin: &RowSkin)
+    ensures { AreKnownFaces skin.now }
+{
+    know_parts(*skin);
+    know_item(*skin.ordered_item_style(0));
+}
+
+// So they are in the styles of a skin's parts.
+fn know_parts(skin: RowSkin)
+    ensures { AreKnownParts skin }
+{}
+
+// So they are in the styles of items.
+fn know_item(item: OrderedItemStyle)
+    ensures { IsKnownItem item }
+{}

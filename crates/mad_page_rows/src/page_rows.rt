@@ -1,0 +1,136 @@
+//! Rows of a page as displayed values: piece by piece, without memory.
+
+ghost use Rattle.std.specs.Prelude.{Some};
+ghost use Rattle.mad_draw.specs.Pieces.{pieces_bytes};
+
+use crate::faces::{Faces, backs, columns_behind, has_ascii_boxes, is_filled, line_skin};
+use mad_pages::PageRow;
+use mad_rows::{PlacedLine, RowSkin};
+use mad_sections::Gutter;
+use std::fmt::{self, Display};
+
+/// A row of a page at an outer width: the faces of its gutters, and its line behind them.
+#[derive(Clone, Copy)]
+pub struct PlacedPageRow<'a, 's> {
+    /// The skin that it is drawn in.
+    pub skin: &'a RowSkin,
+    /// The row.
+    pub row: &'a PageRow<'s>,
+    /// The columns that it has, if there is a width.
+    pub outer: Option<usize>,
+    /// Whether the columns right of it are filled up.
+    pub filled: bool,
+}
+
+impl fmt::Display for PlacedPageRow<'_, '_> {
+    ghost use Rattle.mad_pages.specs.PageRows.{row_content};
+    ghost use Rattle.mad_page_rows.specs.Faces.{page_row_pieces};
+
+    ghost output = { λ r. Some (pieces_bytes (page_row_pieces r.skin.now r.outer r.filled (row_content r.row.now))) };
+
+    fn fmt<W: fmt::Write>(&self, f: &mut fmt::Formatter<W>) -> fmt::Result {
+        let row = self.row;
+        let others = row.gutters.len().saturating_sub(row.fresh);
+        let (others, fresh) = row.gutters.split_at(others);
+        let others = Faces {
+            skin: self.skin,
+            gutters: others,
+            first: false,
+        };
+        let fresh = Faces {
+            skin: self.skin,
+            gutters: fresh,
+            first: true,
+        };
+        let line = LineBehind {
+            skin: self.skin,
+            row,
+            outer: self.outer,
+            filled: self.filled,
+        };
+        let sides = Backs {
+            skin: self.skin,
+            gutters: row.gutters,
+        };
+        others.fmt(f)?;
+        fresh.fmt(f)?;
+        line.fmt(f)?;
+        sides.fmt(f)
+    }
+}
+
+// A row's line, in the columns that its gutters leave.
+#[derive(Clone, Copy)]
+struct LineBehind<'a, 's> {
+    skin: &'a RowSkin,
+    row: &'a PageRow<'s>,
+    outer: Option<usize>,
+    filled: bool,
+}
+
+impl fmt::Display for LineBehind<'_, '_> {
+    ghost use Rattle.mad_pages.specs.PageRows.{row_content};
+    ghost use Rattle.mad_page_rows.specs.Faces.{behind_pieces};
+
+    ghost output = { λ r. Some (pieces_bytes (behind_pieces r.skin.now r.outer r.filled (row_content r.row.now))) };
+
+    fn fmt<W: fmt::Write>(&self, f: &mut fmt::Formatter<W>) -> fmt::Result {
+        let row = self.row;
+        let skin = line_skin(self.skin, row.gutters);
+        let line = PlacedLine {
+            skin: &skin,
+            line: &row.line,
+            outer: columns_behind(row.gutters, self.outer, has_ascii_boxes(self.skin)),
+            filled: is_filled(self.skin, row.gutters, self.filled),
+        };
+        line.fmt(f)
+    }
+}
+
+// The other sides of boxes, behind a row.
+#[derive(Clone, Copy)]
+struct Backs<'a> {
+    skin: &'a RowSkin,
+    gutters: &'a [Gutter],
+}
+
+impl fmt::Display for Backs<'_> {
+    ghost use Rattle.mad_page_rows.specs.Faces.{backs};
+
+    ghost output = { λ b. Some (pieces_bytes (backs b.skin.now b.gutters.now)) };
+
+    fn fmt<W: fmt::Write>(&self, f: &mut fmt::Formatter<W>) -> fmt::Result {
+        let sides = backs(self.skin, self.gutters);
+        sides.fmt(f)
+    }
+}
+
+/// Rows of a page at an outer width, each ended by a newline.
+#[derive(Clone, Copy)]
+pub struct PlacedPageRows<'a, 's> {
+    /// The skin that they are drawn in.
+    pub skin: &'a RowSkin,
+    /// The rows.
+    pub rows: &'a [PageRow<'s>],
+    /// The columns of each row, if there is a width.
+    pub outer: Option<usize>,
+}
+
+impl fmt::Display for PlacedPageRows<'_, '_> {
+    ghost use Rattle.mad_page_rows.specs.Faces.{page_bytes};
+
+    ghost output = { λ p. Some (page_bytes p.skin.now p.outer p.rows.now) };
+
+    fn fmt<W: fmt::Write>(&self, f: &mut fmt::Formatter<W>) -> fmt::Result {
+        for row in self.rows {
+            let placed = PlacedPageRow {
+                skin: self.skin,
+                row,
+                outer: self.outer,
+                filled: false,
+            };
+            write!(f, "{placed}\n")?;
+        }
+        Ok(())
+    }
+}

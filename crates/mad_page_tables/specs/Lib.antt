@@ -1,0 +1,2 @@
+pub mod WholeTables
+pub mod WholeWords

@@ -1,0 +1,185 @@
+-- Pages laid out section by section.
+use Rattle.std.proofs.Common.{◌≡◌, ℕ, ◌<◌, Bool, List, [], ◌∷◌, ◌++◌, map, length, Option, Some, None, refl, ap, sym, ◌∙◌, subst, arith, append_assoc, append-nil}
+use Rattle.std.specs.List.{AllByRecursion}
+use Rattle.std.proofs.lemmas.List.{map-append}
+use Rattle.mad_md.specs.Lines.{LineContent}
+use Rattle.mad_format.specs.LineRules.{LineRules}
+use Rattle.mad_format.specs.Lists.{EachBecomes}
+use Rattle.mad_format.specs.declared.line.FmtLine.{FmtLine}
+use Rattle.mad_format.proofs.ListLemmas.{both_become}
+use Rattle.mad_blocks.specs.Layouts.{IsLayoutAt}
+use Rattle.mad_sections.specs.Gutters.{room, shown}
+use Rattle.mad_sections.specs.Sections.{SectionContent}
+use Rattle.mad_sections.specs.declared.gutters.Gutter.{Gutter}
+use Rattle.mad_unfolded.specs.Unfolded.{unfolded}
+use Rattle.mad_pages.specs.PageCursors.{LaidSection}
+use Rattle.mad_pages.specs.PageLaws.{plain_rows, ArePlain, PlainIsLayout, PagesJoin, SectionsAreLayouts, LaterRowsAreOther}
+use Rattle.mad_pages.specs.PageLayouts.{IsSectionAt, BecomesAt, IsPageAt}
+use Rattle.mad_pages.specs.PageRows.{RowContent, row_content, rest_behind, behind}
+use Rattle.mad_pages.specs.declared.page_rows.PageRow.{PageRow}
+
+-- ---- rows behind gutters
+
+rest_is : (gutters : List Gutter) (lines : List FmtLine) → behind gutters 0 lines ≡ rest_behind gutters lines
+rest_is gutters [] = refl
+rest_is gutters (line ∷ lines) = refl
+
+-- a row more; the rows from here on are the same
+pub row_more : (rows new : List PageRow) (row : PageRow) (rest : List FmtLine) → new ≡ rows ++ row ∷ [] → map row_content new ++ behind row.gutters.now 0 rest ≡ map row_content rows ++ behind row.gutters.now row.fresh (row.line ∷ rest)
+row_more rows new row rest h =
+    ap (λ (all : List PageRow). map row_content all ++ behind row.gutters.now 0 rest) h
+    ∙ ap (λ (all : List RowContent). all ++ behind row.gutters.now 0 rest) (map-append row_content rows (row ∷ []))
+    ∙ append_assoc (map row_content rows) (row_content row ∷ []) (behind row.gutters.now 0 rest)
+    ∙ ap (λ (all : List RowContent). map row_content rows ++ row_content row ∷ all) (rest_is row.gutters.now rest)
+
+-- ---- sections
+
+one_section : (rules : LineRules) (ascii : Bool) (width : Option ℕ) (section : SectionContent) (own : List RowContent) → IsSectionAt rules ascii width section own → EachBecomes (IsSectionAt rules ascii width) (section ∷ []) own
+one_section rules ascii width section own h = (own, [], sym (append-nil own), h, refl)
+
+-- a section that is shown as it is
+pub section_alone : (rules : LineRules) (ascii : Bool) (width : Option ℕ) (section shown : SectionContent) (own : List RowContent) → shown ∷ [] ≡ unfolded rules.whole_words ascii width section → IsSectionAt rules ascii width shown own → BecomesAt rules ascii width section own
+section_alone rules ascii width section shown own is h = subst (λ (all : List SectionContent). EachBecomes (IsSectionAt rules ascii width) all own) is (one_section rules ascii width shown own h)
+
+-- one that is shown as a list
+pub section_list : (rules : LineRules) (ascii : Bool) (width : Option ℕ) (section : SectionContent) (items : List SectionContent) (own : List RowContent) → items ≡ unfolded rules.whole_words ascii width section → EachBecomes (IsSectionAt rules ascii width) items own → BecomesAt rules ascii width section own
+section_list rules ascii width section items own is h = subst (λ (all : List SectionContent). EachBecomes (IsSectionAt rules ascii width) all own) is h
+
+-- ---- the items of a list, one after the other
+
+-- The rows that were there, and those of the items up to what is left.
+pub record ItemsLaid (rules : LineRules) (ascii : Bool) (width : Option ℕ) (all left : List SectionContent) (before rows : List RowContent) : Type 0 where
+  pub front : List SectionContent
+  pub joins : all ≡ front ++ left
+  pub own : List RowContent
+  pub added : rows ≡ before ++ own
+  pub layout : EachBecomes (IsSectionAt rules ascii width) front own
+
+pub no_item : (rules : LineRules) (ascii : Bool) (width : Option ℕ) (all : List SectionContent) (before : List RowContent) → ItemsLaid rules ascii width all all before before
+no_item rules ascii width all before = record { front = []; joins = refl; own = []; added = sym (append-nil before); layout = refl }
+
+pub item_more : (rules : LineRules) (ascii : Bool) (width : Option ℕ) (all left : List SectionContent) (item : SectionContent) (before rows new own : List RowContent) → ItemsLaid rules ascii width all (item ∷ left) before rows → new ≡ rows ++ own → IsSectionAt rules ascii width item own → ItemsLaid rules ascii width all left before new
+item_more rules ascii width all left item before rows new own h is s = record {
+  front = h.front ++ item ∷ [];
+  joins = h.joins ∙ sym (append_assoc h.front (item ∷ []) left);
+  own = h.own ++ own;
+  added = is ∙ ap (λ (l : List RowContent). l ++ own) h.added ∙ append_assoc before h.own own;
+  layout = both_become (IsSectionAt rules ascii width) h.front (item ∷ []) h.own own h.layout (one_section rules ascii width item own s);
+}
+
+pub items_whole : (rules : LineRules) (ascii : Bool) (width : Option ℕ) (all left : List SectionContent) (before rows : List RowContent) → ItemsLaid rules ascii width all left before rows → left ≡ []
+    → (own : List RowContent) × (rows ≡ before ++ own) × EachBecomes (IsSectionAt rules ascii width) all own
+items_whole rules ascii width all left before rows h none =
+    let front : h.front ≡ all = sym (h.joins ∙ ap (λ (s : List SectionContent). h.front ++ s) none ∙ append-nil h.front) in
+    (h.own, h.added, subst (λ (s : List SectionContent). EachBecomes (IsSectionAt rules ascii width) s h.own) front h.layout)
+
+-- ---- one section after the other
+
+-- The rows are those of the page up to what is left.
+pub record LaidSoFar (rules : LineRules) (ascii : Bool) (width : Option ℕ) (all left : List SectionContent) (rows : List RowContent) : Type 0 where
+  pub front : List SectionContent
+  pub joins : all ≡ front ++ left
+  pub layout : IsPageAt rules ascii width front rows
+
+pub laid_none : (rules : LineRules) (ascii : Bool) (width : Option ℕ) (all : List SectionContent) → LaidSoFar rules ascii width all all []
+laid_none rules ascii width all = record { front = []; joins = refl; layout = refl }
+
+pub laid_on : (rules : LineRules) (ascii : Bool) (width : Option ℕ) (all left after : List SectionContent) (rows new : List RowContent) → LaidSoFar rules ascii width all left rows → LaidSection rules ascii width left rows after new → LaidSoFar rules ascii width all after new
+laid_on rules ascii width all left after rows new h p =
+    let one : IsPageAt rules ascii width (p.first ∷ []) p.own = (p.own, [], sym (append-nil p.own), p.layout, refl) in
+    record {
+      front = h.front ++ p.first ∷ [];
+      joins = h.joins ∙ ap (λ (s : List SectionContent). h.front ++ s) p.joins ∙ sym (append_assoc h.front (p.first ∷ []) after);
+      layout = subst (IsPageAt rules ascii width (h.front ++ p.first ∷ [])) (sym p.added) (both_become (BecomesAt rules ascii width) h.front (p.first ∷ []) rows p.own h.layout one);
+    }
+
+pub laid_shorter : (rules : LineRules) (ascii : Bool) (width : Option ℕ) (left after : List SectionContent) (rows new : List RowContent) → LaidSection rules ascii width left rows after new → length after < length left
+laid_shorter rules ascii width left after rows new p = omega (arith, ap length p.joins)
+
+pub laid_whole : (rules : LineRules) (ascii : Bool) (width : Option ℕ) (all left : List SectionContent) (rows new : List RowContent) → LaidSoFar rules ascii width all left rows → left ≡ [] → new ≡ rows → IsPageAt rules ascii width all new
+laid_whole rules ascii width all left rows new h none same =
+    let front : h.front ≡ all = sym (h.joins ∙ ap (λ (s : List SectionContent). h.front ++ s) none ∙ append-nil h.front) in
+    subst (IsPageAt rules ascii width all) (sym same) (subst (λ (s : List SectionContent). IsPageAt rules ascii width s rows) front h.layout)
+
+-- ---- laws
+
+rest_lines : (gutters : List Gutter) (lines : List FmtLine) → map (λ (row : RowContent). row.line) (rest_behind gutters lines) ≡ lines
+rest_lines gutters [] = refl
+rest_lines gutters (line ∷ lines) = ap (λ (ls : List FmtLine). line ∷ ls) (rest_lines gutters lines)
+
+lines_behind : (gutters : List Gutter) (fresh : ℕ) (lines : List FmtLine) → map (λ (row : RowContent). row.line) (behind gutters fresh lines) ≡ lines
+lines_behind gutters fresh [] = refl
+lines_behind gutters fresh (line ∷ lines) = ap (λ (ls : List FmtLine). line ∷ ls) (rest_lines gutters lines)
+
+rest_gutters : (gutters : List Gutter) (lines : List FmtLine) → AllByRecursion (λ (row : RowContent). row.gutters ≡ gutters) (rest_behind gutters lines)
+rest_gutters gutters [] = tt
+rest_gutters gutters (line ∷ lines) = (refl, rest_gutters gutters lines)
+
+gutters_behind : (gutters : List Gutter) (fresh : ℕ) (lines : List FmtLine) → AllByRecursion (λ (row : RowContent). row.gutters ≡ gutters) (behind gutters fresh lines)
+gutters_behind gutters fresh [] = tt
+gutters_behind gutters fresh (line ∷ lines) = (refl, rest_gutters gutters lines)
+
+pub sections_are_layouts : SectionsAreLayouts
+sections_are_layouts rules ascii width section rows s =
+    let ends = shown ascii width section.gutters in
+    let lines : map (λ (row : RowContent). row.line) rows ≡ s.lines = ap (λ (l : List RowContent). map (λ (row : RowContent). row.line) l) s.rows_are ∙ lines_behind ends section.fresh s.lines in
+    record {
+      layout = subst (IsLayoutAt rules (room ascii width section.gutters) section.lines) (sym lines) s.layout;
+      gutters = subst (AllByRecursion (λ (row : RowContent). row.gutters ≡ ends)) (sym s.rows_are) (gutters_behind ends section.fresh s.lines);
+    }
+
+rest_fresh : (gutters : List Gutter) (lines : List FmtLine) → AllByRecursion (λ (row : RowContent). row.fresh ≡ 0) (rest_behind gutters lines)
+rest_fresh gutters [] = tt
+rest_fresh gutters (line ∷ lines) = (refl, rest_fresh gutters lines)
+
+-- rows of which the first has so many first faces, and the others none
+abbrev OnlyFirst : ℕ → List RowContent → Type 0
+OnlyFirst fresh [] = Unit {0}
+OnlyFirst fresh (row ∷ rows) = (row.fresh ≡ fresh) × AllByRecursion (λ (row : RowContent). row.fresh ≡ 0) rows
+
+only_first : (gutters : List Gutter) (fresh : ℕ) (lines : List FmtLine) → OnlyFirst fresh (behind gutters fresh lines)
+only_first gutters fresh [] = tt
+only_first gutters fresh (line ∷ lines) = (refl, rest_fresh gutters lines)
+
+pub later_rows : LaterRowsAreOther
+later_rows rules ascii width section first others s = subst (OnlyFirst section.fresh) (sym s.rows_are) (only_first (shown ascii width section.gutters) section.fresh s.lines)
+
+pub pages_join : PagesJoin
+pages_join rules ascii width page more rows others h m = both_become (BecomesAt rules ascii width) page more rows others h m
+
+no_gutters : (ascii : Bool) (width : Option ℕ) → shown ascii width [] ≡ []
+no_gutters ascii None = refl
+no_gutters ascii (Some width) = refl
+
+whole_room : (ascii : Bool) (width : Option ℕ) → room ascii width [] ≡ width
+whole_room ascii None = refl
+whole_room ascii (Some width) = ap Some (omega arith)
+
+rows_plain : (lines : List FmtLine) → behind [] 0 lines ≡ plain_rows lines
+rows_plain [] = refl
+rows_plain (line ∷ lines) = refl
+
+plain_joined : (lines others : List FmtLine) → plain_rows (lines ++ others) ≡ plain_rows lines ++ plain_rows others
+plain_joined [] others = refl
+plain_joined (line ∷ lines) others = ap (λ (rows : List RowContent). record { gutters = []; fresh = 0; line = line } ∷ rows) (plain_joined lines others)
+
+-- a section without gutters, which is told no gutters of a list, is shown as it is
+plain_one : (rules : LineRules) (ascii : Bool) (width : Option ℕ) (text : List LineContent) (own : List RowContent) → BecomesAt rules ascii width (record { gutters = []; fresh = 0; list = None; lines = text }) own → EachBecomes (IsSectionAt rules ascii width) (record { gutters = []; fresh = 0; list = None; lines = text } ∷ []) own
+plain_one rules ascii None text own h = h
+plain_one rules ascii (Some width) text own h = h
+
+plain_first : (rules : LineRules) (ascii : Bool) (width : Option ℕ) (text : List LineContent) (texts : List (List LineContent)) (rows own others : List RowContent) → rows ≡ own ++ others
+    → EachBecomes (IsSectionAt rules ascii width) (record { gutters = []; fresh = 0; list = None; lines = text } ∷ []) own → ArePlain rules width texts others → ArePlain rules width (text ∷ texts) rows
+plain_first rules ascii width text texts rows own others joins (one, none, own_is, s, none_is) rest =
+    let rows_of : one ≡ plain_rows s.lines = s.rows_are ∙ ap (λ (gs : List Gutter). behind gs 0 s.lines) (no_gutters ascii width) ∙ rows_plain s.lines in
+    let own_rows : own ≡ plain_rows s.lines = own_is ∙ ap (λ (l : List RowContent). one ++ l) none_is ∙ append-nil one ∙ rows_of in
+    record {
+      lines = s.lines ++ rest.lines;
+      rows_are = joins ∙ ap (λ (l : List RowContent). l ++ others) own_rows ∙ ap (λ (l : List RowContent). plain_rows s.lines ++ l) rest.rows_are ∙ sym (plain_joined s.lines rest.lines);
+      laid = (s.lines, rest.lines, refl, subst (λ (w : Option ℕ). IsLayoutAt rules w text s.lines) (whole_room ascii width) s.layout, rest.laid);
+    }
+
+pub plain : PlainIsLayout
+plain rules ascii width [] rows h = record { lines = []; rows_are = h; laid = refl }
+plain rules ascii width (text ∷ texts) rows (own, others, joins, becomes, more) =
+    plain_first rules ascii width text texts rows own others joins (plain_one rules ascii width text own becomes) (plain rules ascii width texts others more)

@@ -1,0 +1,10 @@
+pub mod CommandLemmas
+pub mod ExampleLemmas
+pub mod LawLemmas
+pub mod LineLemmas
+pub mod PenLemmas
+pub mod RowLawLemmas
+pub mod RowLemmas
+pub mod RunLemmas
+pub mod TextLemmas
+pub mod TakenLemmas

@@ -1,0 +1,10 @@
+pub mod Commands
+pub mod Examples
+pub mod Laws
+pub mod Lines
+pub mod Pens
+pub mod Rows
+pub mod Runs
+pub mod Shown
+pub mod Styles
+pub mod Texts

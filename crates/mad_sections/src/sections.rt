@@ -1,0 +1,24 @@
+//! A page as its sections.
+
+use crate::gutters::Gutter;
+use mad_md::Text;
+
+/// The lines of one leaf of a text, behind the gutters of the quotes and items that it is in.
+#[derive(Debug, PartialEq, Drop)]
+pub struct Section<'s> {
+    /// The gutters, the outermost first.
+    pub gutters: &'s [Gutter],
+    /// How many of the last gutters begin here: these have their first face in front of its first row.
+    pub fresh: usize,
+    /// Of a table that may be shown as a list the gutters of the items: its own, and a bullet.
+    pub list: Option<&'s [Gutter]>,
+    /// Its lines.
+    pub text: Text<'s>,
+}
+
+/// A page, as its sections from the first to the last.
+#[derive(Debug, PartialEq, Drop)]
+pub struct Page<'s> {
+    /// The sections, in order.
+    pub sections: Vec<Section<'s>>,
+}

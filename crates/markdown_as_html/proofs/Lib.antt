@@ -1,0 +1,4 @@
+pub mod Computing
+pub mod LabelLemmas
+pub mod PartLemmas
+pub mod CodeLemmas

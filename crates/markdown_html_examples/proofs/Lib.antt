@@ -1,0 +1,17 @@
+pub mod Printed1
+pub mod Printed2
+pub mod Printed3
+pub mod Printed4
+pub mod Printed5
+pub mod Printed6
+pub mod Printed7
+pub mod Printed8
+pub mod Printed9
+pub mod Printed10
+pub mod Printed11
+pub mod Printed12
+pub mod Printed13
+pub mod Printed14
+pub mod Printed15
+pub mod Printed16
+pub mod Printed17

@@ -1,0 +1,30 @@
+-- Examples 1 to 25: each text with its html.
+use Rattle.std.specs.Prelude.{codes}
+use Rattle.markdown_as_html.specs.Prints.{IsPrinted}
+
+pub record ArePrinted1 : Type 0 where
+  pub e1 : IsPrinted (codes ">") (codes "<blockquote>\n</blockquote>\n")
+  pub e2 : IsPrinted (codes "\t*") (codes "<pre><code>*\n</code></pre>\n")
+  pub e3 : IsPrinted (codes "# ") (codes "<h1></h1>\n")
+  pub e4 : IsPrinted (codes "**") (codes "<p>**</p>\n")
+  pub e5 : IsPrinted (codes "- >") (codes "<ul>\n<li>\n<blockquote>\n</blockquote>\n</li>\n</ul>\n")
+  pub e6 : IsPrinted (codes "1. ") (codes "<ol>\n<li></li>\n</ol>\n")
+  pub e7 : IsPrinted (codes "- + ") (codes "<ul>\n<li>\n<ul>\n<li></li>\n</ul>\n</li>\n</ul>\n")
+  pub e8 : IsPrinted (codes "* [:a") (codes "<ul>\n<li>[:a</li>\n</ul>\n")
+  pub e9 : IsPrinted (codes "- \n\n'") (codes "<ul>\n<li></li>\n</ul>\n<p>'</p>\n")
+  pub e10 : IsPrinted (codes "- ~~~") (codes "<ul>\n<li>\n<pre><code></code></pre>\n</li>\n</ul>\n")
+  pub e11 : IsPrinted (codes "2) > ") (codes "<ol start=\"2\">\n<li>\n<blockquote>\n</blockquote>\n</li>\n</ol>\n")
+  pub e12 : IsPrinted (codes "<b>``") (codes "<p><b>``</p>\n")
+  pub e13 : IsPrinted (codes "> ---") (codes "<blockquote>\n<hr />\n</blockquote>\n")
+  pub e14 : IsPrinted (codes "> ```") (codes "<blockquote>\n<pre><code></code></pre>\n</blockquote>\n")
+  pub e15 : IsPrinted (codes ">1. \n") (codes "<blockquote>\n<ol>\n<li></li>\n</ol>\n</blockquote>\n")
+  pub e16 : IsPrinted (codes "(*|-|*") (codes "<p>(<em>|-|</em></p>\n")
+  pub e17 : IsPrinted (codes "*\n---\n") (codes "<ul>\n<li></li>\n</ul>\n<hr />\n")
+  pub e18 : IsPrinted (codes "+ > # ") (codes "<ul>\n<li>\n<blockquote>\n<h1></h1>\n</blockquote>\n</li>\n</ul>\n")
+  pub e19 : IsPrinted (codes "1. + '") (codes "<ol>\n<li>\n<ul>\n<li>'</li>\n</ul>\n</li>\n</ol>\n")
+  pub e20 : IsPrinted (codes "2) 2) ") (codes "<ol start=\"2\">\n<li>\n<ol start=\"2\">\n<li></li>\n</ol>\n</li>\n</ol>\n")
+  pub e21 : IsPrinted (codes "\n\n- 1. ") (codes "<ul>\n<li>\n<ol>\n<li></li>\n</ol>\n</li>\n</ul>\n")
+  pub e22 : IsPrinted (codes "# </a><") (codes "<h1></a>&lt;</h1>\n")
+  pub e23 : IsPrinted (codes "(\n\n!<a>") (codes "<p>(</p>\n<p>!<a></p>\n")
+  pub e24 : IsPrinted (codes "* > -->") (codes "<ul>\n<li>\n<blockquote>\n<p>--&gt;</p>\n</blockquote>\n</li>\n</ul>\n")
+  pub e25 : IsPrinted (codes "1. ## ]") (codes "<ol>\n<li>\n<h2>]</h2>\n</li>\n</ol>\n")

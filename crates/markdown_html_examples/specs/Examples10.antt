@@ -1,0 +1,30 @@
+-- Examples 226 to 250: each text with its html.
+use Rattle.std.specs.Prelude.{codes}
+use Rattle.markdown_as_html.specs.Prints.{IsPrinted}
+
+pub record ArePrinted10 : Type 0 where
+  pub e226 : IsPrinted (codes "* \n---\n# *~~~~~<div>") (codes "<ul>\n<li></li>\n</ul>\n<hr />\n<h1>*~~~~~<div></h1>\n")
+  pub e227 : IsPrinted (codes "1. ```rs\n[a]</a>|-|.") (codes "<ol>\n<li>\n<pre><code class=\"language-rs\"></code></pre>\n</li>\n</ol>\n<p>[a]</a>|-|.</p>\n")
+  pub e228 : IsPrinted (codes "<!--  a<&#35;\n|-|-|\n") (codes "<!--  a<&#35;\n|-|-|\n")
+  pub e229 : IsPrinted (codes "<!--)<a>_**</a>](/u)") (codes "<!--)<a>_**</a>](/u)\n")
+  pub e230 : IsPrinted (codes "<div>- ````rs\n>[ ] \t") (codes "<div>- ````rs\n>[ ] \t\n")
+  pub e231 : IsPrinted (codes "> [a]: /u\n+ ```\n===\n") (codes "<blockquote>\n</blockquote>\n<ul>\n<li>\n<pre><code></code></pre>\n</li>\n</ul>\n<p>===</p>\n")
+  pub e232 : IsPrinted (codes "[a]: /u\n## <a>[ ] <b") (codes "<h2><a>[ ] &lt;b</h2>\n")
+  pub e233 : IsPrinted (codes "](/u)~~<<!--\n---\n## ") (codes "<h2>](/u)~~&lt;&lt;!--</h2>\n<h2></h2>\n")
+  pub e234 : IsPrinted (codes "]<a>```rs\n</a>===```") (codes "<p>]<a><code>rs &lt;/a&gt;===</code></p>\n")
+  pub e235 : IsPrinted (codes "_> <</a><div>\n|-|-|\n") (codes "<p>_&gt; &lt;</a><div>\n|-|-|</p>\n")
+  pub e236 : IsPrinted (codes "a[a]<a>é](<http://a>") (codes "<p>a[a]<a>é](<a href=\"http://a\">http://a</a></p>\n")
+  pub e237 : IsPrinted (codes "é\n===\n## 1. [a]: /u\n") (codes "<h1>é</h1>\n<h2>1. [a]: /u</h2>\n")
+  pub e238 : IsPrinted (codes "![\\(<div>\n---\n```rs\n*") (codes "<h2>![(<div></h2>\n<pre><code class=\"language-rs\">*\n</code></pre>\n")
+  pub e239 : IsPrinted (codes "# 概http://x[a]: /u\n- ") (codes "<h1>概http://x[a]: /u</h1>\n<ul>\n<li></li>\n</ul>\n")
+  pub e240 : IsPrinted (codes "&#35;!<http://a><div>") (codes "<p>#!<a href=\"http://a\">http://a</a><div></p>\n")
+  pub e241 : IsPrinted (codes "* \n|-|-|\n\n<a>\n---\n===") (codes "<ul>\n<li></li>\n</ul>\n<p>|-|-|</p>\n<a>\n---\n===\n")
+  pub e242 : IsPrinted (codes "* ![<b\n---\n<!--(&amp;") (codes "<ul>\n<li>![&lt;b</li>\n</ul>\n<hr />\n<!--(&amp;\n")
+  pub e243 : IsPrinted (codes "+ >```rs\n## a[a]: /u\n") (codes "<ul>\n<li>\n<blockquote>\n<pre><code class=\"language-rs\"></code></pre>\n</blockquote>\n</li>\n</ul>\n<h2>a[a]: /u</h2>\n")
+  pub e244 : IsPrinted (codes "-->===*<div>*## &#35;") (codes "<p>--&gt;===<em><div></em>## #</p>\n")
+  pub e245 : IsPrinted (codes "<!--# foo<http://a>b ") (codes "<!--# foo<http://a>b \n")
+  pub e246 : IsPrinted (codes "> ## ]“![<div>\n|-|-|\n") (codes "<blockquote>\n<h2>]“![<div></h2>\n</blockquote>\n<p>|-|-|</p>\n")
+  pub e247 : IsPrinted (codes "[a]: /u\n</a>\n\n```<a>(") (codes "<p></a></p>\n<pre><code class=\"language-&lt;a&gt;(\"></code></pre>\n")
+  pub e248 : IsPrinted (codes "[a][a]: /u\na\n===\n<a>|") (codes "<h1>[a][a]: /u\na</h1>\n<p><a>|</p>\n")
+  pub e249 : IsPrinted (codes "__\n---\n<http://a>~2) ") (codes "<h2>__</h2>\n<p><a href=\"http://a\">http://a</a>~2)</p>\n")
+  pub e250 : IsPrinted (codes "__http://x|-|\n---\n---") (codes "<h2>__<a href=\"http://x%7C-%7C\">http://x|-|</a></h2>\n<hr />\n")

@@ -1,0 +1,30 @@
+-- Examples 251 to 275: each text with its html.
+use Rattle.std.specs.Prelude.{codes}
+use Rattle.markdown_as_html.specs.Prints.{IsPrinted}
+
+pub record ArePrinted11 : Type 0 where
+  pub e251 : IsPrinted (codes "\n---\n\n---\n|-|.```rs\né概") (codes "<hr />\n<hr />\n<p>|-|.```rs\né概</p>\n")
+  pub e252 : IsPrinted (codes "\n---\n# <http://a>-->* ") (codes "<hr />\n<h1><a href=\"http://a\">http://a</a>--&gt;*</h1>\n")
+  pub e253 : IsPrinted (codes "\n---\n<!--http://x[a]](") (codes "<hr />\n<!--http://x[a]](\n")
+  pub e254 : IsPrinted (codes "\n===\n<div>```~~~\\](/u)") (codes "<p>===</p>\n<div>```~~~\\](/u)\n")
+  pub e255 : IsPrinted (codes "  <a></a>    + ---[ ] ") (codes "<p><a></a>    + ---[ ]</p>\n")
+  pub e256 : IsPrinted (codes ")## <http://a>a\n\nfoo**") (codes "<p>)## <a href=\"http://a\">http://a</a>a</p>\n<p>foo**</p>\n")
+  pub e257 : IsPrinted (codes "*[a]: /u\n+ ---\n\\*&#35;") (codes "<p>*[a]: /u</p>\n<ul>\n<li>\n<hr />\n</li>\n</ul>\n<p>*#</p>\n")
+  pub e258 : IsPrinted (codes "1. ```rs\n===<http://a>") (codes "<ol>\n<li>\n<pre><code class=\"language-rs\"></code></pre>\n</li>\n</ol>\n<p>===<a href=\"http://a\">http://a</a></p>\n")
+  pub e259 : IsPrinted (codes "2) \t_<http://a>[ ] **.") (codes "<ol start=\"2\">\n<li>_<a href=\"http://a\">http://a</a>[ ] **.</li>\n</ol>\n")
+  pub e260 : IsPrinted (codes "2) <a>[a]* ](/u)`\n---\n") (codes "<ol start=\"2\">\n<li><a>[a]* ](/u)`</li>\n</ol>\n<hr />\n")
+  pub e261 : IsPrinted (codes "<div>**2) [ ] ~~```rs\n") (codes "<div>**2) [ ] ~~```rs\n")
+  pub e262 : IsPrinted (codes "<http://a>\n===\n](&#35;") (codes "<h1><a href=\"http://a\">http://a</a></h1>\n<p>](#</p>\n")
+  pub e263 : IsPrinted (codes "<http://a><http://a>\n!") (codes "<p><a href=\"http://a\">http://a</a><a href=\"http://a\">http://a</a>\n!</p>\n")
+  pub e264 : IsPrinted (codes "> >     foo.~~http://x") (codes "<blockquote>\n<blockquote>\n<pre><code>foo.~~http://x\n</code></pre>\n</blockquote>\n</blockquote>\n")
+  pub e265 : IsPrinted (codes "[ ] ``    \n---\n~~\n===\n") (codes "<h2>[ ] ``</h2>\n<h1>~~</h1>\n")
+  pub e266 : IsPrinted (codes "\n---\n<div>]<http://a>  ") (codes "<hr />\n<div>]<http://a>  \n")
+  pub e267 : IsPrinted (codes "1. <div>    \n|-|-|\n__)\n") (codes "<ol>\n<li>\n<div>    \n</li>\n</ol>\n<p>|-|-|\n__)</p>\n")
+  pub e268 : IsPrinted (codes "1. <foo======<http://a>") (codes "<ol>\n<li>&lt;foo======<a href=\"http://a\">http://a</a></li>\n</ol>\n")
+  pub e269 : IsPrinted (codes "><a><b&amp;<http://a>\\*") (codes "<blockquote>\n<p><a>&lt;b&amp;<a href=\"http://a\">http://a</a>*</p>\n</blockquote>\n")
+  pub e270 : IsPrinted (codes "[ ] __](/u)\n|-|-|\n\n---\n") (codes "<p>[ ] __](/u)\n|-|-|</p>\n<hr />\n")
+  pub e271 : IsPrinted (codes "|-|[a]: /u\n_:\n|-|-|\n\n* ") (codes "<p>|-|[a]: /u\n_:\n|-|-|</p>\n<ul>\n<li></li>\n</ul>\n")
+  pub e272 : IsPrinted (codes "\n|-|-|\n    > <div> \\*<a>") (codes "<p>|-|-|\n&gt; <div> *<a></p>\n")
+  pub e273 : IsPrinted (codes "'```rs\n1. - http://x'~~~") (codes "<p>'```rs</p>\n<ol>\n<li>\n<ul>\n<li><a href=\"http://x\">http://x</a>'~~~</li>\n</ul>\n</li>\n</ol>\n")
+  pub e274 : IsPrinted (codes "* foo\n|-|-|\n## <div><a>\\") (codes "<ul>\n<li>foo\n|-|-|</li>\n</ul>\n<h2><div><a>\\</h2>\n")
+  pub e275 : IsPrinted (codes "<!--<!--[a]: /u\n <a>[ ] ") (codes "<!--<!--[a]: /u\n <a>[ ] \n")

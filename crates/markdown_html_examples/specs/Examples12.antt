@@ -1,0 +1,30 @@
+-- Examples 276 to 300: each text with its html.
+use Rattle.std.specs.Prelude.{codes}
+use Rattle.markdown_as_html.specs.Prints.{IsPrinted}
+
+pub record ArePrinted12 : Type 0 where
+  pub e276 : IsPrinted (codes "](/u)2) \"* \n|-|-|\n\n---\n]") (codes "<p>](/u)2) &quot;*\n|-|-|</p>\n<hr />\n<p>]</p>\n")
+  pub e277 : IsPrinted (codes "](/u)\\*</a>!['<http://a>") (codes "<p>](/u)*</a>!['<a href=\"http://a\">http://a</a></p>\n")
+  pub e278 : IsPrinted (codes "```rs\n<a>>](/u)---&#35;é") (codes "<pre><code class=\"language-rs\">&lt;a&gt;&gt;](/u)---&amp;#35;é\n</code></pre>\n")
+  pub e279 : IsPrinted (codes "http://x* [a]\n\n](/u)</a>") (codes "<p><a href=\"http://x\">http://x</a>* [a]</p>\n<p>](/u)</a></p>\n")
+  pub e280 : IsPrinted (codes "~  ``<div>\\[a]: /u\n\n===\n") (codes "<p>~  ``<div>[a]: /u</p>\n<p>===</p>\n")
+  pub e281 : IsPrinted (codes "~~\n\nb .**<div><http://a>") (codes "<p>~~</p>\n<p>b .**<div><a href=\"http://a\">http://a</a></p>\n")
+  pub e282 : IsPrinted (codes "概```rs\n<!--1. \n|-|-|\n>  ") (codes "<p>概```rs</p>\n<!--1. \n|-|-|\n>  \n")
+  pub e283 : IsPrinted (codes "\n===\n]<div>\n:<http://a>b ") (codes "<p>===\n]<div>\n:<a href=\"http://a\">http://a</a>b</p>\n")
+  pub e284 : IsPrinted (codes "+ # ``<http://a>\\\n---\n2) ") (codes "<ul>\n<li>\n<h1>``<a href=\"http://a\">http://a</a>\\</h1>\n</li>\n</ul>\n<hr />\n<ol start=\"2\">\n<li></li>\n</ol>\n")
+  pub e285 : IsPrinted (codes "1. <b</a>](&amp;[a]: /u\n|") (codes "<ol>\n<li>&lt;b</a>](&amp;[a]: /u\n|</li>\n</ol>\n")
+  pub e286 : IsPrinted (codes "2) ~\n---\n<!--  <http://a>") (codes "<ol start=\"2\">\n<li>~</li>\n</ol>\n<hr />\n<!--  <http://a>\n")
+  pub e287 : IsPrinted (codes "# <!--    ---[a]: /u\n# [a]") (codes "<h1>&lt;!--    ---[a]: /u</h1>\n<h1>[a]</h1>\n")
+  pub e288 : IsPrinted (codes "<!--    &amp;\n---\n|-|é</a>") (codes "<!--    &amp;\n---\n|-|é</a>\n")
+  pub e289 : IsPrinted (codes "<!--\"<http://a>é\n\n\n===\n## ") (codes "<!--\"<http://a>é\n\n\n===\n## \n")
+  pub e290 : IsPrinted (codes "<!--<http://a>[ ] ```rs\n<b") (codes "<!--<http://a>[ ] ```rs\n<b\n")
+  pub e291 : IsPrinted (codes "</a>)\n===\n\n===\n<http://a>!") (codes "<h1></a>)</h1>\n<p>===\n<a href=\"http://a\">http://a</a>!</p>\n")
+  pub e292 : IsPrinted (codes "</a><div>“[a]: /u\n|](\n---\n") (codes "<h2></a><div>“[a]: /u\n|](</h2>\n")
+  pub e293 : IsPrinted (codes "<div>```rs\n!:[a]: /u\n<a>- ") (codes "<div>```rs\n!:[a]: /u\n<a>- \n")
+  pub e294 : IsPrinted (codes "===[<http://a>```<a>\"\n---\n") (codes "<h2>===[<a href=\"http://a\">http://a</a>```<a>&quot;</h2>\n")
+  pub e295 : IsPrinted (codes "<b    >  >\n|-|-|\n<http://a>") (codes "<p><b    >  &gt;\n|-|-|\n<a href=\"http://a\">http://a</a></p>\n")
+  pub e296 : IsPrinted (codes "\n\n|-|-|\n**[a]: /u\n\n|-|-|\n+ “") (codes "<p>|-|-|\n**[a]: /u</p>\n<p>|-|-|</p>\n<ul>\n<li>“</li>\n</ul>\n")
+  pub e297 : IsPrinted (codes "\n---\n<http://a>\n---\n`|-|[ ] ") (codes "<hr />\n<h2><a href=\"http://a\">http://a</a></h2>\n<p>`|-|[ ]</p>\n")
+  pub e298 : IsPrinted (codes "1. <a>概<http://a><http://x![") (codes "<ol>\n<li><a>概<a href=\"http://a\">http://a</a>&lt;http://x![</li>\n</ol>\n")
+  pub e299 : IsPrinted (codes "<!--===```* \n===\n\t<http://a>") (codes "<!--===```* \n===\n\t<http://a>\n")
+  pub e300 : IsPrinted (codes "===\n|-|-|\n+ :> <http://a>~~~") (codes "<p>===\n|-|-|</p>\n<ul>\n<li>:&gt; <a href=\"http://a\">http://a</a>~~~</li>\n</ul>\n")

@@ -1,0 +1,30 @@
+-- Examples 301 to 325: each text with its html.
+use Rattle.std.specs.Prelude.{codes}
+use Rattle.markdown_as_html.specs.Prints.{IsPrinted}
+
+pub record ArePrinted13 : Type 0 where
+  pub e301 : IsPrinted (codes "](/u)\"b <http://a>foofoo</a>") (codes "<p>](/u)&quot;b <a href=\"http://a\">http://a</a>foofoo</a></p>\n")
+  pub e302 : IsPrinted (codes "&#35;'---\n|-|-|\n|\n\n<http://a>") (codes "<p>#'---\n|-|-|\n|</p>\n<p><a href=\"http://a\">http://a</a></p>\n")
+  pub e303 : IsPrinted (codes "__<http://a>[a]: /u\n*\n|-|-|\n)") (codes "<p>__<a href=\"http://a\">http://a</a>[a]: /u\n*\n|-|-|\n)</p>\n")
+  pub e304 : IsPrinted (codes "| a | b |\n|-|-|\n| c | d |\n> 概") (codes "<table>\n<thead>\n<tr>\n<th>a</th>\n<th>b</th>\n</tr>\n</thead>\n<tbody>\n<tr>\n<td>c</td>\n<td>d</td>\n</tr>\n</tbody>\n</table>\n<blockquote>\n<p>概</p>\n</blockquote>\n")
+  pub e305 : IsPrinted (codes "<div><http://a>\\[a]|![http://x") (codes "<div><http://a>\\[a]|![http://x\n")
+  pub e306 : IsPrinted (codes "[a]: /u\n~## [a]: /u\n  <div>~~~") (codes "<p>~## <a href=\"/u\">a</a>: /u</p>\n  <div>~~~\n")
+  pub e307 : IsPrinted (codes "## <http://a>http://x2) \n``````") (codes "<h2><a href=\"http://a\">http://a</a>http://x2)</h2>\n<pre><code></code></pre>\n")
+  pub e308 : IsPrinted (codes "http://x\n---\n[a]<div><div>## - ") (codes "<h2><a href=\"http://x\">http://x</a></h2>\n<p>[a]<div><div>## -</p>\n")
+  pub e309 : IsPrinted (codes "| a | b |\n|-|-|\n| c | d |\n# b !") (codes "<table>\n<thead>\n<tr>\n<th>a</th>\n<th>b</th>\n</tr>\n</thead>\n<tbody>\n<tr>\n<td>c</td>\n<td>d</td>\n</tr>\n</tbody>\n</table>\n<h1>b !</h1>\n")
+  pub e310 : IsPrinted (codes "</a>\n| a | b |\n|-|-|\n| c | d |\n“") (codes "</a>\n| a | b |\n|-|-|\n| c | d |\n“\n")
+  pub e311 : IsPrinted (codes "| a | b |\n|-|-|\n| c | d |\n<div><b") (codes "<table>\n<thead>\n<tr>\n<th>a</th>\n<th>b</th>\n</tr>\n</thead>\n<tbody>\n<tr>\n<td>c</td>\n<td>d</td>\n</tr>\n</tbody>\n</table>\n<div><b\n")
+  pub e312 : IsPrinted (codes "> + **  | a | b |\n|-|-|\n| c | d |\n") (codes "<blockquote>\n<ul>\n<li>**  | a | b |\n|-|-|\n| c | d |</li>\n</ul>\n</blockquote>\n")
+  pub e313 : IsPrinted (codes "(**a\n---\n>| a | b |\n|-|-|\n| c | d |\n") (codes "<h2>(**a</h2>\n<blockquote>\n<p>| a | b |\n|-|-|\n| c | d |</p>\n</blockquote>\n")
+  pub e314 : IsPrinted (codes "<a><a>foo| a | b |\n|-|-|\n| c | d |\n“") (codes "<p><a><a>foo| a | b |\n|-|-|\n| c | d |\n“</p>\n")
+  pub e315 : IsPrinted (codes "## foo:<div>| a | b |\n|-|-|\n| c | d |\n") (codes "<h2>foo:<div>| a | b |</h2>\n<p>|-|-|\n| c | d |</p>\n")
+  pub e316 : IsPrinted (codes "\t-->|-|| a | b |\n|-|-|\n| c | d |\n\n1. \n\n") (codes "<pre><code>--&gt;|-|| a | b |\n</code></pre>\n<p>|-|-|\n| c | d |</p>\n<ol>\n<li></li>\n</ol>\n")
+  pub e317 : IsPrinted (codes "<div>[ ] - | a | b |\n|-|-|\n| c | d |\n'\\") (codes "<div>[ ] - | a | b |\n|-|-|\n| c | d |\n'\\\n")
+  pub e318 : IsPrinted (codes "| a | b |\n|-|-|\n| c | d |\n](/u)\n===\n<a>") (codes "<table>\n<thead>\n<tr>\n<th>a</th>\n<th>b</th>\n</tr>\n</thead>\n<tbody>\n<tr>\n<td>c</td>\n<td>d</td>\n</tr>\n<tr>\n<td>](/u)</td>\n<td></td>\n</tr>\n<tr>\n<td>===</td>\n<td></td>\n</tr>\n</tbody>\n</table>\n<a>\n")
+  pub e319 : IsPrinted (codes "概<]\n---\n| a | b |\n|-|-|\n| c | d |\n> foo") (codes "<h2>概&lt;]</h2>\n<table>\n<thead>\n<tr>\n<th>a</th>\n<th>b</th>\n</tr>\n</thead>\n<tbody>\n<tr>\n<td>c</td>\n<td>d</td>\n</tr>\n</tbody>\n</table>\n<blockquote>\n<p>foo</p>\n</blockquote>\n")
+  pub e320 : IsPrinted (codes "- ## <b\t&amp;| a | b |\n|-|-|\n| c | d |\n!") (codes "<ul>\n<li>\n<h2>&lt;b\t&amp;| a | b |</h2>\n</li>\n</ul>\n<p>|-|-|\n| c | d |\n!</p>\n")
+  pub e321 : IsPrinted (codes "| a | b |\n|-|-|\n| c | d |\n>\"&amp;![\n---\n") (codes "<table>\n<thead>\n<tr>\n<th>a</th>\n<th>b</th>\n</tr>\n</thead>\n<tbody>\n<tr>\n<td>c</td>\n<td>d</td>\n</tr>\n</tbody>\n</table>\n<blockquote>\n<p>&quot;&amp;![</p>\n</blockquote>\n<hr />\n")
+  pub e322 : IsPrinted (codes "| a | b |\n|-|-|\n| c | d |\n<http://a>`[a]`") (codes "<table>\n<thead>\n<tr>\n<th>a</th>\n<th>b</th>\n</tr>\n</thead>\n<tbody>\n<tr>\n<td>c</td>\n<td>d</td>\n</tr>\n<tr>\n<td><a href=\"http://a\">http://a</a><code>[a]</code></td>\n<td></td>\n</tr>\n</tbody>\n</table>\n")
+  pub e323 : IsPrinted (codes "1. | a | b |\n|-|-|\n| c | d |\n*   [a]: /u\n]") (codes "<ol>\n<li>| a | b |\n|-|-|\n| c | d |</li>\n</ol>\n<ul>\n<li>]</li>\n</ul>\n")
+  pub e324 : IsPrinted (codes "+ \n&#35;| a | b |\n|-|-|\n| c | d |\n](/u)</a>") (codes "<ul>\n<li></li>\n</ul>\n<p>#| a | b |\n|-|-|\n| c | d |\n](/u)</a></p>\n")
+  pub e325 : IsPrinted (codes "* \n===\n~<http://a>| a | b |\n|-|-|\n| c | d |\n") (codes "<ul>\n<li></li>\n</ul>\n<p>===\n~<a href=\"http://a\">http://a</a>| a | b |\n|-|-|\n| c | d |</p>\n")

@@ -1,0 +1,30 @@
+-- Examples 326 to 350: each text with its html.
+use Rattle.std.specs.Prelude.{codes}
+use Rattle.markdown_as_html.specs.Prints.{IsPrinted}
+
+pub record ArePrinted14 : Type 0 where
+  pub e326 : IsPrinted (codes "[a]: /u\na| a | b |\n|-|-|\n| c | d |\n<div>*\t~~") (codes "<p>a| a | b |\n|-|-|\n| c | d |</p>\n<div>*\t~~\n")
+  pub e327 : IsPrinted (codes "é[a]\n\n[a]: /u\n<a>| a | b |\n|-|-|\n| c | d |\n_") (codes "<p>é<a href=\"/u\">a</a></p>\n<p><a>| a | b |\n|-|-|\n| c | d |\n_</p>\n")
+  pub e328 : IsPrinted (codes "<a>[a]: /u\n\n| a | b |\n|-|-|\n| c | d |\n<div><!--") (codes "<p><a>[a]: /u</p>\n<table>\n<thead>\n<tr>\n<th>a</th>\n<th>b</th>\n</tr>\n</thead>\n<tbody>\n<tr>\n<td>c</td>\n<td>d</td>\n</tr>\n</tbody>\n</table>\n<div><!--\n")
+  pub e329 : IsPrinted (codes "“-->\n===\n\n|-|-|\n\n\n| a | b |\n|-|-|\n| c | d |\n    ") (codes "<h1>“--&gt;</h1>\n<p>|-|-|</p>\n<table>\n<thead>\n<tr>\n<th>a</th>\n<th>b</th>\n</tr>\n</thead>\n<tbody>\n<tr>\n<td>c</td>\n<td>d</td>\n</tr>\n</tbody>\n</table>\n")
+  pub e330 : IsPrinted (codes "| a | b |\n|-|-|\n| c | d |\n> | a | b |\n|-|-|\n| c | d |\n>\t\n===") (codes "<table>\n<thead>\n<tr>\n<th>a</th>\n<th>b</th>\n</tr>\n</thead>\n<tbody>\n<tr>\n<td>c</td>\n<td>d</td>\n</tr>\n</tbody>\n</table>\n<blockquote>\n<p>| a | b |\n|-|-|\n| c | d |</p>\n</blockquote>\n<p>===</p>\n")
+  pub e331 : IsPrinted (codes "**\n|-|") (codes "<table>\n<thead>\n<tr>\n<th>**</th>\n</tr>\n</thead>\n</table>\n")
+  pub e332 : IsPrinted (codes "- ~b~> |-|") (codes "<ul>\n<li><del>b</del>&gt; |-|</li>\n</ul>\n")
+  pub e333 : IsPrinted (codes "-|-\n*\n:-:\n") (codes "<p>-|-</p>\n<table>\n<thead>\n<tr>\n<th align=\"center\">*</th>\n</tr>\n</thead>\n</table>\n")
+  pub e334 : IsPrinted (codes "-|-\n -|-\n> - \n") (codes "<table>\n<thead>\n<tr>\n<th>-</th>\n<th>-</th>\n</tr>\n</thead>\n</table>\n<blockquote>\n<ul>\n<li></li>\n</ul>\n</blockquote>\n")
+  pub e335 : IsPrinted (codes "-|-\n|:-|-:|\n\n\n") (codes "<table>\n<thead>\n<tr>\n<th align=\"left\">-</th>\n<th align=\"right\">-</th>\n</tr>\n</thead>\n</table>\n")
+  pub e336 : IsPrinted (codes "| a | b |\n-|-\n") (codes "<table>\n<thead>\n<tr>\n<th>a</th>\n<th>b</th>\n</tr>\n</thead>\n</table>\n")
+  pub e337 : IsPrinted (codes " - ~~~-|-\n~|~\\|") (codes "<ul>\n<li>\n<pre><code class=\"language--|-\"></code></pre>\n</li>\n</ul>\n<p><del>|</del>|</p>\n")
+  pub e338 : IsPrinted (codes "*\n\n-|-\n-|-\n\n-|-\n") (codes "<ul>\n<li></li>\n</ul>\n<table>\n<thead>\n<tr>\n<th>-</th>\n<th>-</th>\n</tr>\n</thead>\n</table>\n<p>-|-</p>\n")
+  pub e339 : IsPrinted (codes "| a | b |\n-|-\n> ") (codes "<table>\n<thead>\n<tr>\n<th>a</th>\n<th>b</th>\n</tr>\n</thead>\n</table>\n<blockquote>\n</blockquote>\n")
+  pub e340 : IsPrinted (codes ":-:x | y\n:-:  |-|") (codes "<table>\n<thead>\n<tr>\n<th align=\"center\">:-:x</th>\n<th>y</th>\n</tr>\n</thead>\n</table>\n")
+  pub e341 : IsPrinted (codes "ax | y\n|:-|-:|\n> ") (codes "<table>\n<thead>\n<tr>\n<th align=\"left\">ax</th>\n<th align=\"right\">y</th>\n</tr>\n</thead>\n</table>\n<blockquote>\n</blockquote>\n")
+  pub e342 : IsPrinted (codes "b|*\n|-|-|\n- \\|\n\na") (codes "<table>\n<thead>\n<tr>\n<th>b</th>\n<th>*</th>\n</tr>\n</thead>\n</table>\n<ul>\n<li>|</li>\n</ul>\n<p>a</p>\n")
+  pub e343 : IsPrinted (codes ":-:\\|\n|-|\n\n\nx | y\n") (codes "<table>\n<thead>\n<tr>\n<th>:-:|</th>\n</tr>\n</thead>\n</table>\n<p>x | y</p>\n")
+  pub e344 : IsPrinted (codes "|:-|-:|\n-|-\n*:-:**") (codes "<table>\n<thead>\n<tr>\n<th>:-</th>\n<th>-:</th>\n</tr>\n</thead>\n<tbody>\n<tr>\n<td><em>:-:</em>*</td>\n<td></td>\n</tr>\n</tbody>\n</table>\n")
+  pub e345 : IsPrinted (codes "|:-|-:|\n-|-\n|~|:-:") (codes "<table>\n<thead>\n<tr>\n<th>:-</th>\n<th>-:</th>\n</tr>\n</thead>\n<tbody>\n<tr>\n<td>~</td>\n<td>:-:</td>\n</tr>\n</tbody>\n</table>\n")
+  pub e346 : IsPrinted (codes "||-|-|\n~|-|~~~\na~a") (codes "<p>||-|-|\n<del>|-|~~~\na</del>a</p>\n")
+  pub e347 : IsPrinted (codes "||:-|-:|\n:-:|-|-|\n") (codes "<table>\n<thead>\n<tr>\n<th align=\"center\"></th>\n<th>:-</th>\n<th>-:</th>\n</tr>\n</thead>\n</table>\n")
+  pub e348 : IsPrinted (codes "-|-\n-|-\n-|-\n\na\n\n b\n") (codes "<table>\n<thead>\n<tr>\n<th>-</th>\n<th>-</th>\n</tr>\n</thead>\n<tbody>\n<tr>\n<td>-</td>\n<td>-</td>\n</tr>\n</tbody>\n</table>\n<p>a</p>\n<p>b</p>\n")
+  pub e349 : IsPrinted (codes "|-|\n|-|\na\n\n**x | y\n") (codes "<table>\n<thead>\n<tr>\n<th>-</th>\n</tr>\n</thead>\n<tbody>\n<tr>\n<td>a</td>\n</tr>\n</tbody>\n</table>\n<p>**x | y</p>\n")
+  pub e350 : IsPrinted (codes "|-|-|\n|-|-|\n\n\n\n\n~~~") (codes "<table>\n<thead>\n<tr>\n<th>-</th>\n<th>-</th>\n</tr>\n</thead>\n</table>\n<pre><code></code></pre>\n")

@@ -1,0 +1,30 @@
+-- Examples 351 to 375: each text with its html.
+use Rattle.std.specs.Prelude.{codes}
+use Rattle.markdown_as_html.specs.Prints.{IsPrinted}
+
+pub record ArePrinted15 : Type 0 where
+  pub e351 : IsPrinted (codes ":-:|-|-|\n|-|-|-\nb**`") (codes "<table>\n<thead>\n<tr>\n<th>:-:</th>\n<th>-</th>\n<th>-</th>\n</tr>\n</thead>\n<tbody>\n<tr>\n<td>b**`</td>\n<td></td>\n<td></td>\n</tr>\n</tbody>\n</table>\n")
+  pub e352 : IsPrinted (codes "| a | b |\n|:-|-:|\n*\n") (codes "<table>\n<thead>\n<tr>\n<th align=\"left\">a</th>\n<th align=\"right\">b</th>\n</tr>\n</thead>\n</table>\n<ul>\n<li></li>\n</ul>\n")
+  pub e353 : IsPrinted (codes "|-|-|\n|:-|-:|\n`:-:\\|") (codes "<table>\n<thead>\n<tr>\n<th align=\"left\">-</th>\n<th align=\"right\">-</th>\n</tr>\n</thead>\n<tbody>\n<tr>\n<td align=\"left\">`:-:|</td>\n<td align=\"right\"></td>\n</tr>\n</tbody>\n</table>\n")
+  pub e354 : IsPrinted (codes "|:-|-:|\n-|-\n~~|\n\n-  ") (codes "<table>\n<thead>\n<tr>\n<th>:-</th>\n<th>-:</th>\n</tr>\n</thead>\n<tbody>\n<tr>\n<td>~~</td>\n<td></td>\n</tr>\n</tbody>\n</table>\n<ul>\n<li></li>\n</ul>\n")
+  pub e355 : IsPrinted (codes "|:-|-:|\n|:-|-:|\n`*\n~") (codes "<table>\n<thead>\n<tr>\n<th align=\"left\">:-</th>\n<th align=\"right\">-:</th>\n</tr>\n</thead>\n<tbody>\n<tr>\n<td align=\"left\">`*</td>\n<td align=\"right\"></td>\n</tr>\n<tr>\n<td align=\"left\">~</td>\n<td align=\"right\"></td>\n</tr>\n</tbody>\n</table>\n")
+  pub e356 : IsPrinted (codes "-|-\n|:-|-:|\n||-|-|\n- ") (codes "<table>\n<thead>\n<tr>\n<th align=\"left\">-</th>\n<th align=\"right\">-</th>\n</tr>\n</thead>\n<tbody>\n<tr>\n<td align=\"left\"></td>\n<td align=\"right\">-</td>\n</tr>\n</tbody>\n</table>\n<ul>\n<li></li>\n</ul>\n")
+  pub e357 : IsPrinted (codes "||:-|-:|\n|-|-|\n|-|-|\n") (codes "<p>||:-|-:|</p>\n<table>\n<thead>\n<tr>\n<th>-</th>\n<th>-</th>\n</tr>\n</thead>\n</table>\n")
+  pub e358 : IsPrinted (codes "~~\n\n\nb\nx | y\n|:-|-:|\n") (codes "<p>~~</p>\n<p>b</p>\n<table>\n<thead>\n<tr>\n<th align=\"left\">x</th>\n<th align=\"right\">y</th>\n</tr>\n</thead>\n</table>\n")
+  pub e359 : IsPrinted (codes "\nx | y\n|-|-\n~~~a\n\n-|-\n") (codes "<table>\n<thead>\n<tr>\n<th>x</th>\n<th>y</th>\n</tr>\n</thead>\n</table>\n<pre><code class=\"language-a\">\n-|-\n</code></pre>\n")
+  pub e360 : IsPrinted (codes "`|:-|-:|\n:-:|-|-|\n|-|b") (codes "<table>\n<thead>\n<tr>\n<th align=\"center\">`</th>\n<th>:-</th>\n<th>-:</th>\n</tr>\n</thead>\n<tbody>\n<tr>\n<td align=\"center\">-</td>\n<td>b</td>\n<td></td>\n</tr>\n</tbody>\n</table>\n")
+  pub e361 : IsPrinted (codes "| a | b |\n |-|-|\n\n\\|a\n") (codes "<table>\n<thead>\n<tr>\n<th>a</th>\n<th>b</th>\n</tr>\n</thead>\n</table>\n<p>|a</p>\n")
+  pub e362 : IsPrinted (codes "| a | b |\n> ~b~> \n\n:-:") (codes "<p>| a | b |</p>\n<blockquote>\n<p><del>b</del>&gt;</p>\n</blockquote>\n<p>:-:</p>\n")
+  pub e363 : IsPrinted (codes "|-||-|\n\n|-|-|\n|-|-|\n> ") (codes "<p>|-||-|</p>\n<table>\n<thead>\n<tr>\n<th>-</th>\n<th>-</th>\n</tr>\n</thead>\n</table>\n<blockquote>\n</blockquote>\n")
+  pub e364 : IsPrinted (codes "|:-|-:|\n|-|-|\n\n\n\n\n- > ") (codes "<table>\n<thead>\n<tr>\n<th>:-</th>\n<th>-:</th>\n</tr>\n</thead>\n</table>\n<ul>\n<li>\n<blockquote>\n</blockquote>\n</li>\n</ul>\n")
+  pub e365 : IsPrinted (codes ":-:x | y\n|:-|-:|\n\n\n||\\|") (codes "<table>\n<thead>\n<tr>\n<th align=\"left\">:-:x</th>\n<th align=\"right\">y</th>\n</tr>\n</thead>\n</table>\n<p>|||</p>\n")
+  pub e366 : IsPrinted (codes "\\|| a | b |\n\n-|-\n:-:|-|") (codes "<p>|| a | b |</p>\n<table>\n<thead>\n<tr>\n<th align=\"center\">-</th>\n<th>-</th>\n</tr>\n</thead>\n</table>\n")
+  pub e367 : IsPrinted (codes "| a | b |\n|-|-|\n~~~-|-\n") (codes "<table>\n<thead>\n<tr>\n<th>a</th>\n<th>b</th>\n</tr>\n</thead>\n</table>\n<pre><code class=\"language--|-\"></code></pre>\n")
+  pub e368 : IsPrinted (codes "\n\n|-|-|\n |:-|-:|\n\n\n\n> b ") (codes "<table>\n<thead>\n<tr>\n<th align=\"left\">-</th>\n<th align=\"right\">-</th>\n</tr>\n</thead>\n</table>\n<blockquote>\n<p>b</p>\n</blockquote>\n")
+  pub e369 : IsPrinted (codes "\n| a | b |\n|:-|-:|\n- \nbb") (codes "<table>\n<thead>\n<tr>\n<th align=\"left\">a</th>\n<th align=\"right\">b</th>\n</tr>\n</thead>\n</table>\n<ul>\n<li></li>\n</ul>\n<p>bb</p>\n")
+  pub e370 : IsPrinted (codes "**|-|-|\n:-:|:-|-:|\n b:-:") (codes "<table>\n<thead>\n<tr>\n<th align=\"center\">**</th>\n<th align=\"left\">-</th>\n<th align=\"right\">-</th>\n</tr>\n</thead>\n<tbody>\n<tr>\n<td align=\"center\">b:-:</td>\n<td align=\"left\"></td>\n<td align=\"right\"></td>\n</tr>\n</tbody>\n</table>\n")
+  pub e371 : IsPrinted (codes "`-|-\n|-|-|\n|-|-|\n\n\n~~~- ") (codes "<table>\n<thead>\n<tr>\n<th>`-</th>\n<th>-</th>\n</tr>\n</thead>\n<tbody>\n<tr>\n<td>-</td>\n<td>-</td>\n</tr>\n</tbody>\n</table>\n<pre><code class=\"language--\"></code></pre>\n")
+  pub e372 : IsPrinted (codes "| a | b |\n|:-|-:|\n> \n- `") (codes "<table>\n<thead>\n<tr>\n<th align=\"left\">a</th>\n<th align=\"right\">b</th>\n</tr>\n</thead>\n</table>\n<blockquote>\n</blockquote>\n<ul>\n<li>`</li>\n</ul>\n")
+  pub e373 : IsPrinted (codes "~**x | y\n|*\n|:-|-:|\n-|-\n") (codes "<p>~*<em>x | y\n|</em></p>\n<table>\n<thead>\n<tr>\n<th>:-</th>\n<th>-:</th>\n</tr>\n</thead>\n</table>\n")
+  pub e374 : IsPrinted (codes "|-|-|\n|-|-|\n\n\n`-|-\n*~~~**") (codes "<table>\n<thead>\n<tr>\n<th>-</th>\n<th>-</th>\n</tr>\n</thead>\n</table>\n<p>`-|-\n<em>~~~</em>*</p>\n")
+  pub e375 : IsPrinted (codes "*\\|\n|-|-|\n|:-|-:|\n|:-|-:|\n") (codes "<p>*|</p>\n<table>\n<thead>\n<tr>\n<th align=\"left\">-</th>\n<th align=\"right\">-</th>\n</tr>\n</thead>\n<tbody>\n<tr>\n<td align=\"left\">:-</td>\n<td align=\"right\">-:</td>\n</tr>\n</tbody>\n</table>\n")

@@ -1,0 +1,30 @@
+-- Examples 376 to 400: each text with its html.
+use Rattle.std.specs.Prelude.{codes}
+use Rattle.markdown_as_html.specs.Prints.{IsPrinted}
+
+pub record ArePrinted16 : Type 0 where
+  pub e376 : IsPrinted (codes "~|-|\n-|-\n:-:| a | b |\n-  *") (codes "<table>\n<thead>\n<tr>\n<th>~</th>\n<th>-</th>\n</tr>\n</thead>\n<tbody>\n<tr>\n<td>:-:</td>\n<td>a</td>\n</tr>\n</tbody>\n</table>\n<ul>\n<li>\n<ul>\n<li></li>\n</ul>\n</li>\n</ul>\n")
+  pub e377 : IsPrinted (codes "\n\n||-|-|\n|:-|-:|\n|-|-|\n**`~") (codes "<p>||-|-|</p>\n<table>\n<thead>\n<tr>\n<th>:-</th>\n<th>-:</th>\n</tr>\n</thead>\n<tbody>\n<tr>\n<td>**`~</td>\n<td></td>\n</tr>\n</tbody>\n</table>\n")
+  pub e378 : IsPrinted (codes "\n-|-\n-|-\n|-|\n> |-|x | y\n~~~") (codes "<table>\n<thead>\n<tr>\n<th>-</th>\n<th>-</th>\n</tr>\n</thead>\n<tbody>\n<tr>\n<td>-</td>\n<td></td>\n</tr>\n</tbody>\n</table>\n<blockquote>\n<p>|-|x | y</p>\n</blockquote>\n<pre><code></code></pre>\n")
+  pub e379 : IsPrinted (codes "a| a | b |\n|-|-|\n-|-\n\n|-|- ") (codes "<p>a| a | b |</p>\n<table>\n<thead>\n<tr>\n<th>-</th>\n<th>-</th>\n</tr>\n</thead>\n</table>\n<p>|-|-</p>\n")
+  pub e380 : IsPrinted (codes "| a | b |\n-|-\n\n**\n\n-|-\n~~`|") (codes "<table>\n<thead>\n<tr>\n<th>a</th>\n<th>b</th>\n</tr>\n</thead>\n</table>\n<p>**</p>\n<p>-|-\n~~`|</p>\n")
+  pub e381 : IsPrinted (codes "| a | b |\n|-|-|\n\n- |:-|-:|\n") (codes "<table>\n<thead>\n<tr>\n<th>a</th>\n<th>b</th>\n</tr>\n</thead>\n</table>\n<ul>\n<li>|:-|-:|</li>\n</ul>\n")
+  pub e382 : IsPrinted (codes "| a | b |\n|:-|-:|\n~~\n~~~~**") (codes "<table>\n<thead>\n<tr>\n<th align=\"left\">a</th>\n<th align=\"right\">b</th>\n</tr>\n</thead>\n<tbody>\n<tr>\n<td align=\"left\">~~</td>\n<td align=\"right\"></td>\n</tr>\n</tbody>\n</table>\n<pre><code class=\"language-**\"></code></pre>\n")
+  pub e383 : IsPrinted (codes "|-|-|\n- ~~:-:|:-|-:|\n|-|~~\n") (codes "<p>|-|-|</p>\n<ul>\n<li><del>:-:|:-|-:|\n|-|</del></li>\n</ul>\n")
+  pub e384 : IsPrinted (codes "|:-|-:|\n|-|-|\n|-|-|\n\n> |a> ") (codes "<table>\n<thead>\n<tr>\n<th>:-</th>\n<th>-:</th>\n</tr>\n</thead>\n<tbody>\n<tr>\n<td>-</td>\n<td>-</td>\n</tr>\n</tbody>\n</table>\n<blockquote>\n<p>|a&gt;</p>\n</blockquote>\n")
+  pub e385 : IsPrinted (codes "> bx | y\n\n\n|-|-|\n|:-|-:|\n|\\|") (codes "<blockquote>\n<p>bx | y</p>\n</blockquote>\n<table>\n<thead>\n<tr>\n<th align=\"left\">-</th>\n<th align=\"right\">-</th>\n</tr>\n</thead>\n<tbody>\n<tr>\n<td align=\"left\">|</td>\n<td align=\"right\"></td>\n</tr>\n</tbody>\n</table>\n")
+  pub e386 : IsPrinted (codes "\\|\n\n| a | b |\n|-|:-:|\nx | y\n") (codes "<p>|</p>\n<table>\n<thead>\n<tr>\n<th>a</th>\n<th align=\"center\">b</th>\n</tr>\n</thead>\n<tbody>\n<tr>\n<td>x</td>\n<td align=\"center\">y</td>\n</tr>\n</tbody>\n</table>\n")
+  pub e387 : IsPrinted (codes "|:-|-:|\n> |\n\n\nx | y\n-|-\n*~~~") (codes "<p>|:-|-:|</p>\n<blockquote>\n<p>|</p>\n</blockquote>\n<table>\n<thead>\n<tr>\n<th>x</th>\n<th>y</th>\n</tr>\n</thead>\n<tbody>\n<tr>\n<td>*~~~</td>\n<td></td>\n</tr>\n</tbody>\n</table>\n")
+  pub e388 : IsPrinted (codes " :-:|-|-|\nx | y\n|:-|-:|\na**\nb") (codes "<p>:-:|-|-|</p>\n<table>\n<thead>\n<tr>\n<th align=\"left\">x</th>\n<th align=\"right\">y</th>\n</tr>\n</thead>\n<tbody>\n<tr>\n<td align=\"left\">a**</td>\n<td align=\"right\"></td>\n</tr>\n<tr>\n<td align=\"left\">b</td>\n<td align=\"right\"></td>\n</tr>\n</tbody>\n</table>\n")
+  pub e389 : IsPrinted (codes "*|-|-|\n*x | y\n|x | y\n|:-|-:|\n") (codes "<p>*|-|-|\n*x | y</p>\n<table>\n<thead>\n<tr>\n<th align=\"left\">x</th>\n<th align=\"right\">y</th>\n</tr>\n</thead>\n</table>\n")
+  pub e390 : IsPrinted (codes "b\n| a | b |\n|-|-|\n~~~|:-|-:|\n") (codes "<p>b</p>\n<table>\n<thead>\n<tr>\n<th>a</th>\n<th>b</th>\n</tr>\n</thead>\n</table>\n<pre><code class=\"language-|:-|-:|\"></code></pre>\n")
+  pub e391 : IsPrinted (codes "|:-|-:|\n-|-\n> \nx | y\n|:-|-:|\n") (codes "<table>\n<thead>\n<tr>\n<th>:-</th>\n<th>-:</th>\n</tr>\n</thead>\n</table>\n<blockquote>\n</blockquote>\n<table>\n<thead>\n<tr>\n<th align=\"left\">x</th>\n<th align=\"right\">y</th>\n</tr>\n</thead>\n</table>\n")
+  pub e392 : IsPrinted (codes "| a | b |\n|-|- |:-|-:|\n\n\n`\n|-|") (codes "<p>| a | b |\n|-|- |:-|-:|</p>\n<table>\n<thead>\n<tr>\n<th>`</th>\n</tr>\n</thead>\n</table>\n")
+  pub e393 : IsPrinted (codes "`x | y\n|-|-|\n x | y\nb |:-|-:|\n\n") (codes "<table>\n<thead>\n<tr>\n<th>`x</th>\n<th>y</th>\n</tr>\n</thead>\n<tbody>\n<tr>\n<td>x</td>\n<td>y</td>\n</tr>\n<tr>\n<td>b</td>\n<td>:-</td>\n</tr>\n</tbody>\n</table>\n")
+  pub e394 : IsPrinted (codes "x | y\n|:-|-:|\n~~~|-|-|\n\n> x | y\n") (codes "<table>\n<thead>\n<tr>\n<th align=\"left\">x</th>\n<th align=\"right\">y</th>\n</tr>\n</thead>\n</table>\n<pre><code class=\"language-|-|-|\">\n&gt; x | y\n</code></pre>\n")
+  pub e395 : IsPrinted (codes "|:-|-:|\n|-|-\n|-|-|\n|:-|-:|\n\n~~**|") (codes "<table>\n<thead>\n<tr>\n<th>:-</th>\n<th>-:</th>\n</tr>\n</thead>\n<tbody>\n<tr>\n<td>-</td>\n<td>-</td>\n</tr>\n<tr>\n<td>:-</td>\n<td>-:</td>\n</tr>\n</tbody>\n</table>\n<p>~~**|</p>\n")
+  pub e396 : IsPrinted (codes "**\nx | y\n|:-|-:|\nx | y\n|:-|-:|\n- \n") (codes "<p>**</p>\n<table>\n<thead>\n<tr>\n<th align=\"left\">x</th>\n<th align=\"right\">y</th>\n</tr>\n</thead>\n<tbody>\n<tr>\n<td align=\"left\">x</td>\n<td align=\"right\">y</td>\n</tr>\n<tr>\n<td align=\"left\">:-</td>\n<td align=\"right\">-:</td>\n</tr>\n</tbody>\n</table>\n<ul>\n<li></li>\n</ul>\n")
+  pub e397 : IsPrinted (codes "x | y\n|:-|-:|\n|:-|-:|\n\n\n| a | b |\n") (codes "<table>\n<thead>\n<tr>\n<th align=\"left\">x</th>\n<th align=\"right\">y</th>\n</tr>\n</thead>\n<tbody>\n<tr>\n<td align=\"left\">:-</td>\n<td align=\"right\">-:</td>\n</tr>\n</tbody>\n</table>\n<p>| a | b |</p>\n")
+  pub e398 : IsPrinted (codes "~~|-|-|\n| a | b |\n|-|-|\n**x | y\n\\|") (codes "<p>~~|-|-|</p>\n<table>\n<thead>\n<tr>\n<th>a</th>\n<th>b</th>\n</tr>\n</thead>\n<tbody>\n<tr>\n<td>**x</td>\n<td>y</td>\n</tr>\n<tr>\n<td>|</td>\n<td></td>\n</tr>\n</tbody>\n</table>\n")
+  pub e399 : IsPrinted (codes "\n\n|-|-|\n|:-|-:|\n\\|-|-\n~*|:-|-:|\n:-:") (codes "<table>\n<thead>\n<tr>\n<th align=\"left\">-</th>\n<th align=\"right\">-</th>\n</tr>\n</thead>\n<tbody>\n<tr>\n<td align=\"left\">|-</td>\n<td align=\"right\">-</td>\n</tr>\n<tr>\n<td align=\"left\">~*</td>\n<td align=\"right\">:-</td>\n</tr>\n<tr>\n<td align=\"left\">:-:</td>\n<td align=\"right\"></td>\n</tr>\n</tbody>\n</table>\n")
+  pub e400 : IsPrinted (codes "x | y\n-|-\n~~x | y\n-|-\n- b| a | b |\n") (codes "<table>\n<thead>\n<tr>\n<th>x</th>\n<th>y</th>\n</tr>\n</thead>\n<tbody>\n<tr>\n<td>~~x</td>\n<td>y</td>\n</tr>\n<tr>\n<td>-</td>\n<td>-</td>\n</tr>\n</tbody>\n</table>\n<ul>\n<li>b| a | b |</li>\n</ul>\n")

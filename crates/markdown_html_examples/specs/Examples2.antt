@@ -1,0 +1,30 @@
+-- Examples 26 to 50: each text with its html.
+use Rattle.std.specs.Prelude.{codes}
+use Rattle.markdown_as_html.specs.Prints.{IsPrinted}
+
+pub record ArePrinted2 : Type 0 where
+  pub e26 : IsPrinted (codes "2) 1. )") (codes "<ol start=\"2\">\n<li>\n<ol>\n<li>)</li>\n</ol>\n</li>\n</ol>\n")
+  pub e27 : IsPrinted (codes "<!--*__") (codes "<!--*__\n")
+  pub e28 : IsPrinted (codes "<!--```") (codes "<!--```\n")
+  pub e29 : IsPrinted (codes "</a><a>") (codes "<p></a><a></p>\n")
+  pub e30 : IsPrinted (codes "<div>+ ") (codes "<div>+ \n")
+  pub e31 : IsPrinted (codes "## `<!--") (codes "<h2>`&lt;!--</h2>\n")
+  pub e32 : IsPrinted (codes "(<div>  ") (codes "<p>(<div></p>\n")
+  pub e33 : IsPrinted (codes "- # ~~~a") (codes "<ul>\n<li>\n<h1>~~~a</h1>\n</li>\n</ul>\n")
+  pub e34 : IsPrinted (codes "---*<a>*") (codes "<p>---<em><a></em></p>\n")
+  pub e35 : IsPrinted (codes "2) + 概`é") (codes "<ol start=\"2\">\n<li>\n<ul>\n<li>概`é</li>\n</ul>\n</li>\n</ol>\n")
+  pub e36 : IsPrinted (codes "<!--\n!- ") (codes "<!--\n!- \n")
+  pub e37 : IsPrinted (codes "<div>![a") (codes "<div>![a\n")
+  pub e38 : IsPrinted (codes "<div>'((") (codes "<div>'((\n")
+  pub e39 : IsPrinted (codes "<div>2) ") (codes "<div>2) \n")
+  pub e40 : IsPrinted (codes "<div>\\)'") (codes "<div>\\)'\n")
+  pub e41 : IsPrinted (codes "<div>].]") (codes "<div>].]\n")
+  pub e42 : IsPrinted (codes "> 2) -->") (codes "<blockquote>\n<ol start=\"2\">\n<li>--&gt;</li>\n</ol>\n</blockquote>\n")
+  pub e43 : IsPrinted (codes ">|<a>===") (codes "<blockquote>\n<p>|<a>===</p>\n</blockquote>\n")
+  pub e44 : IsPrinted (codes "_</a>\n\n:") (codes "<p>_</a></p>\n<p>:</p>\n")
+  pub e45 : IsPrinted (codes "`\\*`“\n\na") (codes "<p><code>\\*</code>“</p>\n<p>a</p>\n")
+  pub e46 : IsPrinted (codes "\n---\n2) ~") (codes "<hr />\n<ol start=\"2\">\n<li>~</li>\n</ol>\n")
+  pub e47 : IsPrinted (codes "# <a>*.- ") (codes "<h1><a>*.-</h1>\n")
+  pub e48 : IsPrinted (codes "- \\*<div>") (codes "<ul>\n<li>*<div></li>\n</ul>\n")
+  pub e49 : IsPrinted (codes "1. ```rs\n") (codes "<ol>\n<li>\n<pre><code class=\"language-rs\"></code></pre>\n</li>\n</ol>\n")
+  pub e50 : IsPrinted (codes "2) 'b ---") (codes "<ol start=\"2\">\n<li>'b ---</li>\n</ol>\n")

@@ -1,0 +1,30 @@
+-- Examples 51 to 75: each text with its html.
+use Rattle.std.specs.Prelude.{codes}
+use Rattle.markdown_as_html.specs.Prints.{IsPrinted}
+
+pub record ArePrinted3 : Type 0 where
+  pub e51 : IsPrinted (codes "<!--===''") (codes "<!--===''\n")
+  pub e52 : IsPrinted (codes "</a>)\n\n# ") (codes "<p></a>)</p>\n<h1></h1>\n")
+  pub e53 : IsPrinted (codes "<div>~~~\n") (codes "<div>~~~\n")
+  pub e54 : IsPrinted (codes "\n---\n+ ---") (codes "<hr />\n<ul>\n<li>\n<hr />\n</li>\n</ul>\n")
+  pub e55 : IsPrinted (codes "\n---\n> )<\\") (codes "<hr />\n<blockquote>\n<p>)&lt;\\</p>\n</blockquote>\n")
+  pub e56 : IsPrinted (codes "# 1. “*|*(") (codes "<h1>1. “<em>|</em>(</h1>\n")
+  pub e57 : IsPrinted (codes "'<a>~*<b'*") (codes "<p>'<a>~<em>&lt;b'</em></p>\n")
+  pub e58 : IsPrinted (codes "*\n---\n:===") (codes "<ul>\n<li></li>\n</ul>\n<hr />\n<p>:===</p>\n")
+  pub e59 : IsPrinted (codes "- ~~~2) ~~") (codes "<ul>\n<li>\n<pre><code class=\"language-2)\"></code></pre>\n</li>\n</ul>\n")
+  pub e60 : IsPrinted (codes "1. é:\n\n\"\"é") (codes "<ol>\n<li>é:</li>\n</ol>\n<p>&quot;&quot;é</p>\n")
+  pub e61 : IsPrinted (codes "2) ~~~>---") (codes "<ol start=\"2\">\n<li>\n<pre><code class=\"language-&gt;---\"></code></pre>\n</li>\n</ol>\n")
+  pub e62 : IsPrinted (codes ":__<a>__* ") (codes "<p>:<strong><a></strong>*</p>\n")
+  pub e63 : IsPrinted (codes "<!--+ 2) .") (codes "<!--+ 2) .\n")
+  pub e64 : IsPrinted (codes "<a>* \n```*") (codes "<p><a>*</p>\n<pre><code class=\"language-*\"></code></pre>\n")
+  pub e65 : IsPrinted (codes "<a>- [ ] )") (codes "<p><a>- [ ] )</p>\n")
+  pub e66 : IsPrinted (codes "<div>2) é[") (codes "<div>2) é[\n")
+  pub e67 : IsPrinted (codes "<div>``]__") (codes "<div>``]__\n")
+  pub e68 : IsPrinted (codes "> - \n](/u)") (codes "<blockquote>\n<ul>\n<li></li>\n</ul>\n</blockquote>\n<p>](/u)</p>\n")
+  pub e69 : IsPrinted (codes ">&#35;</a>") (codes "<blockquote>\n<p>#</a></p>\n</blockquote>\n")
+  pub e70 : IsPrinted (codes "\\\n</a>````") (codes "<p><br />\n</a>````</p>\n")
+  pub e71 : IsPrinted (codes "\n\n\n---\n+ :[") (codes "<hr />\n<ul>\n<li>:[</li>\n</ul>\n")
+  pub e72 : IsPrinted (codes "\n---\n~~~\\\\*") (codes "<hr />\n<pre><code class=\"language-\\*\"></code></pre>\n")
+  pub e73 : IsPrinted (codes "    # \n[ ] ") (codes "<pre><code># \n</code></pre>\n<p>[ ]</p>\n")
+  pub e74 : IsPrinted (codes "  ]\n===\n---") (codes "<h1>]</h1>\n<hr />\n")
+  pub e75 : IsPrinted (codes "*<_\n---\n~~~") (codes "<h2>*&lt;_</h2>\n<pre><code></code></pre>\n")

@@ -1,0 +1,30 @@
+-- Examples 76 to 100: each text with its html.
+use Rattle.std.specs.Prelude.{codes}
+use Rattle.markdown_as_html.specs.Prints.{IsPrinted}
+
+pub record ArePrinted4 : Type 0 where
+  pub e76 : IsPrinted (codes "- -   \n===\n") (codes "<ul>\n<li>\n<ul>\n<li></li>\n</ul>\n</li>\n</ul>\n<p>===</p>\n")
+  pub e77 : IsPrinted (codes "<!--\t\\+ [a]") (codes "<!--\t\\+ [a]\n")
+  pub e78 : IsPrinted (codes "<!--    [* ") (codes "<!--    [* \n")
+  pub e79 : IsPrinted (codes "<!--<!--\t\\*") (codes "<!--<!--\t\\*\n")
+  pub e80 : IsPrinted (codes "<!--|*.[ ] ") (codes "<!--|*.[ ] \n")
+  pub e81 : IsPrinted (codes "<!--|-|[ ] ") (codes "<!--|-|[ ] \n")
+  pub e82 : IsPrinted (codes "</a>\n|-|-|\n") (codes "</a>\n|-|-|\n")
+  pub e83 : IsPrinted (codes "<div>*\n---\n") (codes "<div>*\n---\n")
+  pub e84 : IsPrinted (codes "<div>b b - ") (codes "<div>b b - \n")
+  pub e85 : IsPrinted (codes "> )```'``]:") (codes "<blockquote>\n<p>)```'``]:</p>\n</blockquote>\n")
+  pub e86 : IsPrinted (codes "><!--<b\\*> ") (codes "<blockquote>\n<!--<b\\*> \n</blockquote>\n")
+  pub e87 : IsPrinted (codes ">~\n \n|-|-|\n") (codes "<blockquote>\n<p>~</p>\n</blockquote>\n<p>|-|-|</p>\n")
+  pub e88 : IsPrinted (codes "|-|<a>!\n\n[[") (codes "<p>|-|<a>!</p>\n<p>[[</p>\n")
+  pub e89 : IsPrinted (codes "\n|-|-|\n## é'") (codes "<p>|-|-|</p>\n<h2>é'</h2>\n")
+  pub e90 : IsPrinted (codes "\n|-|-|\n<div>") (codes "<p>|-|-|</p>\n<div>\n")
+  pub e91 : IsPrinted (codes "*  ```rs\n___") (codes "<ul>\n<li>\n<pre><code class=\"language-rs\"></code></pre>\n</li>\n</ul>\n<hr />\n")
+  pub e92 : IsPrinted (codes "+ >   \t\n===\n") (codes "<ul>\n<li>\n<blockquote>\n</blockquote>\n</li>\n</ul>\n<p>===</p>\n")
+  pub e93 : IsPrinted (codes "1. **\"<div>\n") (codes "<ol>\n<li>**&quot;<div></li>\n</ol>\n")
+  pub e94 : IsPrinted (codes "2) ```rs\n## ") (codes "<ol start=\"2\">\n<li>\n<pre><code class=\"language-rs\"></code></pre>\n</li>\n</ol>\n<h2></h2>\n")
+  pub e95 : IsPrinted (codes "<!--http://x") (codes "<!--http://x\n")
+  pub e96 : IsPrinted (codes "</a>-->>_é_~") (codes "<p></a>--&gt;&gt;<em>é</em>~</p>\n")
+  pub e97 : IsPrinted (codes "<a>\n===\n`b )") (codes "<a>\n===\n`b )\n")
+  pub e98 : IsPrinted (codes ">\n---\n\n===\n\n") (codes "<blockquote>\n</blockquote>\n<hr />\n<p>===</p>\n")
+  pub e99 : IsPrinted (codes "> ```\n===\n``") (codes "<blockquote>\n<pre><code></code></pre>\n</blockquote>\n<p>===\n``</p>\n")
+  pub e100 : IsPrinted (codes ">~~~概\"\n---\n|") (codes "<blockquote>\n<pre><code class=\"language-概&quot;\"></code></pre>\n</blockquote>\n<hr />\n<p>|</p>\n")

@@ -1,0 +1,30 @@
+-- Examples 101 to 125: each text with its html.
+use Rattle.std.specs.Prelude.{codes}
+use Rattle.markdown_as_html.specs.Prints.{IsPrinted}
+
+pub record ArePrinted5 : Type 0 where
+  pub e101 : IsPrinted (codes "\\*> \n===\n2) ") (codes "<h1>*&gt;</h1>\n<ol start=\"2\">\n<li></li>\n</ol>\n")
+  pub e102 : IsPrinted (codes "\\*b \n .\n\n-->") (codes "<p>*b\n.</p>\n<p>--&gt;</p>\n")
+  pub e103 : IsPrinted (codes "``\n\n<!--' \n_") (codes "<p>``</p>\n<!--' \n_\n")
+  pub e104 : IsPrinted (codes "“__```rs\n```") (codes "<p>“__```rs</p>\n<pre><code></code></pre>\n")
+  pub e105 : IsPrinted (codes "![```rs\n](/u)") (codes "<p><img src=\"/u\" alt=\"```rs \" /></p>\n")
+  pub e106 : IsPrinted (codes "*  <!--\\\n\na* ") (codes "<ul>\n<li>\n<!--\\\n\n</li>\n</ul>\n<p>a*</p>\n")
+  pub e107 : IsPrinted (codes "* ```__```'\na") (codes "<ul>\n<li><code>__</code>'\na</li>\n</ul>\n")
+  pub e108 : IsPrinted (codes "+ \n- http://x") (codes "<ul>\n<li></li>\n</ul>\n<ul>\n<li><a href=\"http://x\">http://x</a></li>\n</ul>\n")
+  pub e109 : IsPrinted (codes ".<a>\n---\n:|-|") (codes "<h2>.<a></h2>\n<p>:|-|</p>\n")
+  pub e110 : IsPrinted (codes "2) [a]: /u\n# ") (codes "<ol start=\"2\">\n<li></li>\n</ol>\n<h1></h1>\n")
+  pub e111 : IsPrinted (codes "<!--é~<a>\n\n\\!") (codes "<!--é~<a>\n\n\\!\n")
+  pub e112 : IsPrinted (codes "<div>(<[a]|-|") (codes "<div>(<[a]|-|\n")
+  pub e113 : IsPrinted (codes "<div>[a]`_<a>") (codes "<div>[a]`_<a>\n")
+  pub e114 : IsPrinted (codes "[a]~概\t_> </a>") (codes "<p>[a]~概\t_&gt; </a></p>\n")
+  pub e115 : IsPrinted (codes "]概\n---\n>*</a>") (codes "<h2>]概</h2>\n<blockquote>\n<p>*</a></p>\n</blockquote>\n")
+  pub e116 : IsPrinted (codes "_\n===\n\n---\n_~") (codes "<h1>_</h1>\n<hr />\n<p>_~</p>\n")
+  pub e117 : IsPrinted (codes "\n---\n[```rs\n+ ") (codes "<hr />\n<p>[```rs\n+</p>\n")
+  pub e118 : IsPrinted (codes "\n<div>[a]: /u\n") (codes "<div>[a]: /u\n")
+  pub e119 : IsPrinted (codes "![]\n\n# \n|-|-|\n") (codes "<p>![]</p>\n<h1></h1>\n<p>|-|-|</p>\n")
+  pub e120 : IsPrinted (codes "---```* ```rs\n") (codes "<p>---<code>* </code>rs</p>\n")
+  pub e121 : IsPrinted (codes "2) + \n---* foo") (codes "<ol start=\"2\">\n<li>\n<ul>\n<li></li>\n</ul>\n</li>\n</ol>\n<p>---* foo</p>\n")
+  pub e122 : IsPrinted (codes "2) -->`<b\n---\n") (codes "<ol start=\"2\">\n<li>--&gt;`&lt;b</li>\n</ol>\n<hr />\n")
+  pub e123 : IsPrinted (codes "2) <div>&#35;\t") (codes "<ol start=\"2\">\n<li>\n<div>&#35;\t\n</li>\n</ol>\n")
+  pub e124 : IsPrinted (codes "<!--\n---\nb -->") (codes "<!--\n---\nb -->\n")
+  pub e125 : IsPrinted (codes "<!--(```: \nfoo") (codes "<!--(```: \nfoo\n")

@@ -1,0 +1,30 @@
+-- Examples 126 to 150: each text with its html.
+use Rattle.std.specs.Prelude.{codes}
+use Rattle.markdown_as_html.specs.Prints.{IsPrinted}
+
+pub record ArePrinted6 : Type 0 where
+  pub e126 : IsPrinted (codes "<!--<http://a>") (codes "<!--<http://a>\n")
+  pub e127 : IsPrinted (codes "<!--__2) <div>") (codes "<!--__2) <div>\n")
+  pub e128 : IsPrinted (codes "</a>](/u)</a>'") (codes "<p></a>](/u)</a>'</p>\n")
+  pub e129 : IsPrinted (codes "</a>é\\\n<!-->**") (codes "<p></a>é\\</p>\n<!-->**\n")
+  pub e130 : IsPrinted (codes "[) .\n---\n<div>") (codes "<h2>[) .</h2>\n<div>\n")
+  pub e131 : IsPrinted (codes "_<a>\"  __<div>") (codes "<p>_<a>&quot;  __<div></p>\n")
+  pub e132 : IsPrinted (codes "__“\n<div>-->[~") (codes "<p>__“</p>\n<div>-->[~\n")
+  pub e133 : IsPrinted (codes "概>\n|-|-|\n\n\n2) ") (codes "<p>概&gt;\n|-|-|</p>\n<ol start=\"2\">\n<li></li>\n</ol>\n")
+  pub e134 : IsPrinted (codes "\t![é[a]: /u\n<a>") (codes "<pre><code>![é[a]: /u\n</code></pre>\n<a>\n")
+  pub e135 : IsPrinted (codes "\n---\n- \\*\\*<a>|") (codes "<hr />\n<ul>\n<li>**<a>|</li>\n</ul>\n")
+  pub e136 : IsPrinted (codes "\n---\nb ---<a>::") (codes "<hr />\n<p>b ---<a>::</p>\n")
+  pub e137 : IsPrinted (codes "!\n|-|-|\n> _:![_") (codes "<p>!\n|-|-|</p>\n<blockquote>\n<p><em>:![</em></p>\n</blockquote>\n")
+  pub e138 : IsPrinted (codes "* '## ===</a>!|") (codes "<ul>\n<li>'## ===</a>!|</li>\n</ul>\n")
+  pub e139 : IsPrinted (codes "* ](/u)\\\n    __") (codes "<ul>\n<li>](/u)<br />\n__</li>\n</ul>\n")
+  pub e140 : IsPrinted (codes "---\n.![](/u):\\*") (codes "<hr />\n<p>.<img src=\"/u\" alt=\"\" />:*</p>\n")
+  pub e141 : IsPrinted (codes "1. \n'&#35;\n---\n") (codes "<ol>\n<li></li>\n</ol>\n<h2>'#</h2>\n")
+  pub e142 : IsPrinted (codes "1. <</a>* `</a>") (codes "<ol>\n<li>&lt;</a>* `</a></li>\n</ol>\n")
+  pub e143 : IsPrinted (codes "1. <b\n---\nfoo\\*") (codes "<ol>\n<li>&lt;b</li>\n</ol>\n<hr />\n<p>foo*</p>\n")
+  pub e144 : IsPrinted (codes "<!--<!--- ~~é\\*") (codes "<!--<!--- ~~é\\*\n")
+  pub e145 : IsPrinted (codes "<!--<div>a<div>") (codes "<!--<div>a<div>\n")
+  pub e146 : IsPrinted (codes "</a>\n---\n:\"\\*``") (codes "</a>\n---\n:\"\\*``\n")
+  pub e147 : IsPrinted (codes "<a>## <a><a>~!!") (codes "<p><a>## <a><a>~!!</p>\n")
+  pub e148 : IsPrinted (codes "<b> foo|*``</a>") (codes "<p><b> foo|*``</a></p>\n")
+  pub e149 : IsPrinted (codes "<div>## _[ ] \n\n") (codes "<div>## _[ ] \n")
+  pub e150 : IsPrinted (codes "> **~~~\n---\n**!") (codes "<blockquote>\n<p>**~~~</p>\n</blockquote>\n<hr />\n<p>**!</p>\n")

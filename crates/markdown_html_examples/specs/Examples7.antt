@@ -1,0 +1,30 @@
+-- Examples 151 to 175: each text with its html.
+use Rattle.std.specs.Prelude.{codes}
+use Rattle.markdown_as_html.specs.Prints.{IsPrinted}
+
+pub record ArePrinted7 : Type 0 where
+  pub e151 : IsPrinted (codes "\n===\n1. ***![|# ") (codes "<p>===</p>\n<ol>\n<li>***![|#</li>\n</ol>\n")
+  pub e152 : IsPrinted (codes "\n|-|-|\n\n===\n\n](\n") (codes "<p>|-|-|</p>\n<p>===</p>\n<p>](</p>\n")
+  pub e153 : IsPrinted (codes "'\n\n===\n\\\n===\n<a>") (codes "<p>'</p>\n<h1>===\n\\</h1>\n<a>\n")
+  pub e154 : IsPrinted (codes "+ |-|<a>*[ ] 2) ") (codes "<ul>\n<li>|-|<a>*[ ] 2)</li>\n</ul>\n")
+  pub e155 : IsPrinted (codes "--><!---->```rs\n") (codes "<p>--&gt;<!---->```rs</p>\n")
+  pub e156 : IsPrinted (codes "2) *![\n\n- <!--<b") (codes "<ol start=\"2\">\n<li>*![</li>\n</ol>\n<ul>\n<li>\n<!--<b\n</li>\n</ul>\n")
+  pub e157 : IsPrinted (codes "<!--![```rs\n---(") (codes "<!--![```rs\n---(\n")
+  pub e158 : IsPrinted (codes "<!--*foo~!<!--**") (codes "<!--*foo~!<!--**\n")
+  pub e159 : IsPrinted (codes "<!--- \n===\n<div>") (codes "<!--- \n===\n<div>\n")
+  pub e160 : IsPrinted (codes "<a></a><b</a>(- ") (codes "<p><a></a>&lt;b</a>(-</p>\n")
+  pub e161 : IsPrinted (codes "<div>\n\nhttp://x<") (codes "<div>\n<p><a href=\"http://x\">http://x</a>&lt;</p>\n")
+  pub e162 : IsPrinted (codes "<div>](/u)(\t  |~") (codes "<div>](/u)(\t  |~\n")
+  pub e163 : IsPrinted (codes "> ## a\n===\n![> é") (codes "<blockquote>\n<h2>a</h2>\n</blockquote>\n<p>===\n![&gt; é</p>\n")
+  pub e164 : IsPrinted (codes "[ ] \n---\n><a>- |") (codes "<h2>[ ]</h2>\n<blockquote>\n<p><a>- |</p>\n</blockquote>\n")
+  pub e165 : IsPrinted (codes "[ ] ~~\n===\n*</a>") (codes "<h1>[ ] ~~</h1>\n<p>*</a></p>\n")
+  pub e166 : IsPrinted (codes "[a]: /u\n \n===\n> ") (codes "<p>===</p>\n<blockquote>\n</blockquote>\n")
+  pub e167 : IsPrinted (codes "[a]<div>> \n\n\n~~~") (codes "<p>[a]<div>&gt;</p>\n<pre><code></code></pre>\n")
+  pub e168 : IsPrinted (codes "]__<http://a>__[") (codes "<p>]<strong><a href=\"http://a\">http://a</a></strong>[</p>\n")
+  pub e169 : IsPrinted (codes "_<b\n~~~&#35;<b](") (codes "<p>_&lt;b</p>\n<pre><code class=\"language-#&lt;b](\"></code></pre>\n")
+  pub e170 : IsPrinted (codes "__&amp;]\"__<!--\t") (codes "<p><strong>&amp;]&quot;</strong>&lt;!--</p>\n")
+  pub e171 : IsPrinted (codes "_é    ---\n---\n![") (codes "<h2>_é    ---</h2>\n<p>![</p>\n")
+  pub e172 : IsPrinted (codes "\t_\n---\n~b # ](/u)") (codes "<pre><code>_\n</code></pre>\n<hr />\n<p>~b # ](/u)</p>\n")
+  pub e173 : IsPrinted (codes "![\n\n**é2) \n---\n> ") (codes "<p>![</p>\n<h2>**é2)</h2>\n<blockquote>\n</blockquote>\n")
+  pub e174 : IsPrinted (codes "'](\n\n_:\n|-|-|\n~~~") (codes "<p>'](</p>\n<p>_:\n|-|-|</p>\n<pre><code></code></pre>\n")
+  pub e175 : IsPrinted (codes "(---\n\n概```rs\n<!--") (codes "<p>(---</p>\n<p>概```rs</p>\n<!--\n")

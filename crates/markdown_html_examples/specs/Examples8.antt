@@ -1,0 +1,30 @@
+-- Examples 176 to 200: each text with its html.
+use Rattle.std.specs.Prelude.{codes}
+use Rattle.markdown_as_html.specs.Prints.{IsPrinted}
+
+pub record ArePrinted8 : Type 0 where
+  pub e176 : IsPrinted (codes "* <http://a>## <b") (codes "<ul>\n<li><a href=\"http://a\">http://a</a>## &lt;b</li>\n</ul>\n")
+  pub e177 : IsPrinted (codes "- ```+ [a]: /u\n](") (codes "<ul>\n<li>\n<pre><code class=\"language-+\"></code></pre>\n</li>\n</ul>\n<p>](</p>\n")
+  pub e178 : IsPrinted (codes "---~~~\n===\n    ](") (codes "<h1>---~~~</h1>\n<pre><code>](\n</code></pre>\n")
+  pub e179 : IsPrinted (codes "<!--(<b(http://x>") (codes "<!--(<b(http://x>\n")
+  pub e180 : IsPrinted (codes "</a>é</a>\n===\n```") (codes "<h1></a>é</a></h1>\n<pre><code></code></pre>\n")
+  pub e181 : IsPrinted (codes "<a>\n|-|-|\n\n|-|-|\n") (codes "<a>\n|-|-|\n<p>|-|-|</p>\n")
+  pub e182 : IsPrinted (codes ">1. ](&#35;<div>~") (codes "<blockquote>\n<ol>\n<li>](#<div>~</li>\n</ol>\n</blockquote>\n")
+  pub e183 : IsPrinted (codes ">```---](/u).]1. ") (codes "<blockquote>\n<pre><code class=\"language----](/u).]1.\"></code></pre>\n</blockquote>\n")
+  pub e184 : IsPrinted (codes "[\t<div><div>*:```") (codes "<p>[\t<div><div>*:```</p>\n")
+  pub e185 : IsPrinted (codes "__<b__<http://a>~") (codes "<p><strong>&lt;b</strong><a href=\"http://a\">http://a</a>~</p>\n")
+  pub e186 : IsPrinted (codes "foo“2) 1. \n---\n+ ") (codes "<h2>foo“2) 1.</h2>\n<ul>\n<li></li>\n</ul>\n")
+  pub e187 : IsPrinted (codes "\n===\n\n---\n<div>概.概") (codes "<p>===</p>\n<hr />\n<div>概.概\n")
+  pub e188 : IsPrinted (codes "\n===\n## \\*!\n```rs\n") (codes "<p>===</p>\n<h2>*!</h2>\n<pre><code class=\"language-rs\"></code></pre>\n")
+  pub e189 : IsPrinted (codes "![](/u)<b\n---\n\\*# ") (codes "<h2><img src=\"/u\" alt=\"\" />&lt;b</h2>\n<p>*#</p>\n")
+  pub e190 : IsPrinted (codes "## \n---\n`&#35;[ ] ") (codes "<h2></h2>\n<hr />\n<p>`#[ ]</p>\n")
+  pub e191 : IsPrinted (codes "'</a>![```rs\n\n\n\n\n*") (codes "<p>'</a>![```rs</p>\n<ul>\n<li></li>\n</ul>\n")
+  pub e192 : IsPrinted (codes "+ \t![<div>foo</a>)") (codes "<ul>\n<li>![<div>foo</a>)</li>\n</ul>\n")
+  pub e193 : IsPrinted (codes "- 1. > **\n---\n--><") (codes "<ul>\n<li>\n<ol>\n<li>\n<blockquote>\n<p>**</p>\n</blockquote>\n</li>\n</ol>\n</li>\n</ul>\n<hr />\n<p>--&gt;&lt;</p>\n")
+  pub e194 : IsPrinted (codes "<!--<div>|-|&#35;'") (codes "<!--<div>|-|&#35;'\n")
+  pub e195 : IsPrinted (codes "<div>概\"~~~](/u)\\*~") (codes "<div>概\"~~~](/u)\\*~\n")
+  pub e196 : IsPrinted (codes "<http://a><a>](|-|") (codes "<p><a href=\"http://a\">http://a</a><a>](|-|</p>\n")
+  pub e197 : IsPrinted (codes ">* 2) - ~~&#35;2) ") (codes "<blockquote>\n<ul>\n<li>\n<ol start=\"2\">\n<li>\n<ul>\n<li>~~#2)</li>\n</ul>\n</li>\n</ol>\n</li>\n</ul>\n</blockquote>\n")
+  pub e198 : IsPrinted (codes "[ ] \\**\n===\n*&amp;") (codes "<h1>[ ] **</h1>\n<p>*&amp;</p>\n")
+  pub e199 : IsPrinted (codes "[a]: /u\n  <div>===") (codes "  <div>===\n")
+  pub e200 : IsPrinted (codes "\\*\"\n<div>```rs\n2) ") (codes "<p>*&quot;</p>\n<div>```rs\n2) \n")

@@ -1,0 +1,30 @@
+-- Examples 201 to 225: each text with its html.
+use Rattle.std.specs.Prelude.{codes}
+use Rattle.markdown_as_html.specs.Prints.{IsPrinted}
+
+pub record ArePrinted9 : Type 0 where
+  pub e201 : IsPrinted (codes "\\b ```rs\n+ ~~~    ") (codes "<p>\\b ```rs</p>\n<ul>\n<li>\n<pre><code></code></pre>\n</li>\n</ul>\n")
+  pub e202 : IsPrinted (codes "foo\n---\n</a>[  2) ") (codes "<h2>foo</h2>\n<p></a>[  2)</p>\n")
+  pub e203 : IsPrinted (codes "\n===\n1. - 2) ```rs\n") (codes "<p>===</p>\n<ol>\n<li>\n<ul>\n<li>\n<ol start=\"2\">\n<li>\n<pre><code class=\"language-rs\"></code></pre>\n</li>\n</ol>\n</li>\n</ul>\n</li>\n</ol>\n")
+  pub e204 : IsPrinted (codes " >   ```rs\nfoo`````") (codes "<blockquote>\n<pre><code class=\"language-rs\"></code></pre>\n</blockquote>\n<p>foo`````</p>\n")
+  pub e205 : IsPrinted (codes "## ~~<b]</a>\t```rs\n") (codes "<h2>~~&lt;b]</a>\t```rs</h2>\n")
+  pub e206 : IsPrinted (codes "'<div></a>](/u)===a") (codes "<p>'<div></a>](/u)===a</p>\n")
+  pub e207 : IsPrinted (codes "(](![``\n|-|-|\n <!--") (codes "<p>(](![``\n|-|-|</p>\n <!--\n")
+  pub e208 : IsPrinted (codes "- b [a]: /u\n```# __") (codes "<ul>\n<li>b [a]: /u</li>\n</ul>\n<pre><code class=\"language-#\"></code></pre>\n")
+  pub e209 : IsPrinted (codes "---\n|-|-|\n![概\t\n===\n") (codes "<hr />\n<h1>|-|-|\n![概</h1>\n")
+  pub e210 : IsPrinted (codes ".\n\n|-|<div>~~~~~|-|") (codes "<p>.</p>\n<p>|-|<div>~~~~~|-|</p>\n")
+  pub e211 : IsPrinted (codes "1.       __\n---\nb !") (codes "<ol>\n<li>\n<pre><code>  __\n</code></pre>\n</li>\n</ol>\n<hr />\n<p>b !</p>\n")
+  pub e212 : IsPrinted (codes "<!--.# <a><!--_</a>") (codes "<!--.# <a><!--_</a>\n")
+  pub e213 : IsPrinted (codes "<!--```rs\n``\n![[a]\t") (codes "<!--```rs\n``\n![[a]\t\n")
+  pub e214 : IsPrinted (codes "</a>2) ](/u)\n---\n![") (codes "<h2></a>2) ](/u)</h2>\n<p>![</p>\n")
+  pub e215 : IsPrinted (codes "</a>``“\n===\n](/u)~~") (codes "<h1></a>``“</h1>\n<p>](/u)~~</p>\n")
+  pub e216 : IsPrinted (codes "<div>\t> \n===\n===](\\") (codes "<div>\t> \n===\n===](\\\n")
+  pub e217 : IsPrinted (codes "<div>..\n===\n>[a]## ") (codes "<div>..\n===\n>[a]## \n")
+  pub e218 : IsPrinted (codes "<http://a>“\\*.\n---\n") (codes "<h2><a href=\"http://a\">http://a</a>“*.</h2>\n")
+  pub e219 : IsPrinted (codes "> \n\n\n|-|-|\n\n\n&#35;>") (codes "<blockquote>\n</blockquote>\n<p>|-|-|</p>\n<p>#&gt;</p>\n")
+  pub e220 : IsPrinted (codes ">[a]: /u\nb **[](/u)") (codes "<blockquote>\n<p>b **<a href=\"/u\"></a></p>\n</blockquote>\n")
+  pub e221 : IsPrinted (codes "_[\n===\n```rs\n**foo“") (codes "<h1>_[</h1>\n<pre><code class=\"language-rs\">**foo“\n</code></pre>\n")
+  pub e222 : IsPrinted (codes "__<a>~~>\n===\n<div>\n") (codes "<h1>__<a>~~&gt;</h1>\n<div>\n")
+  pub e223 : IsPrinted (codes "\n---\n</a>\t__http://x") (codes "<hr />\n<p></a>\t__<a href=\"http://x\">http://x</a></p>\n")
+  pub e224 : IsPrinted (codes "\n|-|-|\n<div>```<div>") (codes "<p>|-|-|</p>\n<div>```<div>\n")
+  pub e225 : IsPrinted (codes "# <http://a>http://x") (codes "<h1><a href=\"http://a\">http://a</a>http://x</h1>\n")

@@ -1,0 +1,17 @@
+pub mod Examples1
+pub mod Examples2
+pub mod Examples3
+pub mod Examples4
+pub mod Examples5
+pub mod Examples6
+pub mod Examples7
+pub mod Examples8
+pub mod Examples9
+pub mod Examples10
+pub mod Examples11
+pub mod Examples12
+pub mod Examples13
+pub mod Examples14
+pub mod Examples15
+pub mod Examples16
+pub mod Examples17

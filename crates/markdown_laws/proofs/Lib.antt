@@ -1,0 +1,5 @@
+pub mod LineLemmas
+pub mod PlainLemmas
+pub mod BehindLemmas
+pub mod FenceLemmas
+pub mod MarkLemmas

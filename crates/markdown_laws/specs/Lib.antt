@@ -1,0 +1,4 @@
+pub mod Fences
+pub mod Lines
+pub mod Marks
+pub mod Plain

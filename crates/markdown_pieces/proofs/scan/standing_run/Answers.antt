@@ -1,0 +1,17 @@
+use Rattle.std.proofs.Common.{refl, arith}
+use Rattle.std.proofs.lemmas.Simd.{zip2_splat, length-chunk}
+use lib.Lanes.{chunk}
+use Rattle.markdown_pieces.specs.Scan.{stands}
+use Rattle.markdown_pieces.proofs.LaneLemmas.{joined, passes_in}
+use Rattle.markdown_pieces.proofs.scan.standing_run.Goals as goal
+
+pub returns : goal.returns
+returns c =
+    let v = chunk c.args.at 16 c.args.bytes.now in
+    let long = length-chunk c.args.at 16 c.args.bytes.now c.requires in
+    let passes =
+    passes_in c.args.bytes.now c.args.at 16 _ _ c.requires (omega arith) c.type_inv.bytes c.first_set.ensures _
+    (joined _ _ _ v (joined _ _ _ v (joined _ _ _ v (joined _ _ _ v (joined _ _ _ v (joined _ _ _ v (joined _ _ _ v (joined _ _ _ v (joined _ _ _ v (joined _ _ _ v
+    (zip2_splat _ v 16 96 long) (zip2_splat _ v 16 42 long)) (zip2_splat _ v 16 95 long)) (zip2_splat _ v 16 126 long)) (zip2_splat _ v 16 92 long)) (zip2_splat _ v 16 38 long))
+    (zip2_splat _ v 16 60 long)) (zip2_splat _ v 16 91 long)) (zip2_splat _ v 16 93 long)) (zip2_splat _ v 16 33 long)) (zip2_splat _ v 16 10 long)) stands refl in
+    record { standing = passes.0; within = passes.1 }

@@ -1,0 +1,6 @@
+pub mod ShowingOf
+pub mod Streamed
+pub mod Readings
+pub mod Streaming
+pub mod Known
+pub mod Laws

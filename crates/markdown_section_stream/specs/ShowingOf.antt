@@ -1,0 +1,8 @@
+-- What a showing has shown, and its definitions.
+use Rattle.markdown_lines.specs.LinksOf.{defined_of}
+use Rattle.markdown_sections.specs.MappingOf.{mapping_of}
+use Rattle.markdown_section_stream.specs.Streamed.{Streamed}
+use Rattle.markdown_section_stream.specs.declared.showing.Showing.{Showing}
+
+abbrev pub streamed_of : Showing → Streamed
+streamed_of s = record { defined = defined_of s.definitions; mapping = mapping_of s.mapper }

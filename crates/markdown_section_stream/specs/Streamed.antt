@@ -1,0 +1,37 @@
+-- What a text is shown as that comes in pieces: each part by the definitions up to it.
+use Rattle.std.specs.Prelude.{ℕ, List, [], ◌∷◌}
+use Rattle.mad_sections.specs.Sections.{SectionContent}
+use Rattle.markdown_leaves.specs.Parts.{PartContent}
+use Rattle.markdown_leaves.specs.Told.{parts_of}
+use Rattle.markdown_lines.specs.Links.{Defined}
+use Rattle.markdown_sections.specs.Definitions.{part_defined, nothing_defined}
+use Rattle.markdown_sections.specs.Mapping.{LinkSaid, Mapping, nothing_shown, shown_part}
+
+-- The definitions so far, and what the parts so far are shown as.
+pub record Streamed : Type 0 where
+  pub defined : Defined
+  pub mapping : Mapping
+
+abbrev pub nothing_streamed : Streamed
+nothing_streamed = record { defined = nothing_defined; mapping = nothing_shown }
+
+-- a part is shown by these definitions
+abbrev pub shown_by : Defined → PartContent → Mapping → Streamed
+shown_by defined part m = record { defined = defined; mapping = shown_part defined part m }
+
+-- a part comes: its own definitions count too
+abbrev pub part_streamed : PartContent → Streamed → Streamed
+part_streamed part s = shown_by (part_defined s.defined part) part s.mapping
+
+-- parts come, one after the other
+unfoldable pub parts_streamed : List PartContent → Streamed → Streamed
+parts_streamed [] s = s
+parts_streamed (part ∷ parts) s = parts_streamed parts (part_streamed part s)
+
+-- what a text is shown as that comes in pieces
+unfoldable pub streamed_sections : List ℕ → List SectionContent
+streamed_sections source = (parts_streamed (parts_of source) nothing_streamed).mapping.sections
+
+-- its links
+unfoldable pub streamed_links : List ℕ → List LinkSaid
+streamed_links source = (parts_streamed (parts_of source) nothing_streamed).mapping.links

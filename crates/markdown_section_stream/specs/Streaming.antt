@@ -1,0 +1,63 @@
+-- A text whose lines come in groups: after each group what is complete is shown, and isn't kept.
+use Rattle.std.specs.Prelude.{ℕ, ◌+◌, List, [], ◌∷◌, ◌++◌, map, length}
+use Rattle.std.specs.List.{flat_map}
+use Rattle.mad_sections.specs.Sections.{SectionContent}
+use Rattle.markdown_sections.specs.Mapping.{LinkSaid, Mapping}
+use Rattle.markdown_section_stream.specs.Readings.{Reading, nothing_read, lines_read, parts_read, parts_at_end, handed_on}
+use Rattle.markdown_section_stream.specs.Streamed.{Streamed, nothing_streamed, parts_streamed}
+
+-- what the next sections depend on: the sections and links so far were taken
+abbrev pub taken : Mapping → Mapping
+taken m = record m { sections = []; links = [] }
+
+abbrev pub taken_from : Streamed → Streamed
+taken_from s = record s { mapping = taken s.mapping }
+
+-- a link after so many sections more
+abbrev pub link_after : ℕ → LinkSaid → LinkSaid
+link_after count link = record link { section = count + link.section }
+
+-- these sections and links, and then what is shown here
+abbrev pub shown_after : List SectionContent → List LinkSaid → Mapping → Mapping
+shown_after sections links m = record m { sections = sections ++ m.sections; links = links ++ map (link_after (length sections)) m.links }
+
+-- A text of which lines were read and sections taken: what is open, and what the next sections depend on.
+pub record Streaming : Type 0 where
+  pub reading : Reading
+  pub streamed : Streamed
+
+abbrev pub nothing_come : Streaming
+nothing_come = record { reading = nothing_read; streamed = nothing_streamed }
+
+-- the parts that these lines complete are shown
+abbrev pub shown_from : Streaming → Reading → Streamed
+shown_from s read = parts_streamed (parts_read read) s.streamed
+
+abbrev pub lines_shown : Streaming → List (List ℕ) → Streamed
+lines_shown s lines = shown_from s (lines_read s.reading lines)
+
+-- and taken: this is kept
+abbrev pub kept_after : Streaming → List (List ℕ) → Streaming
+kept_after s lines = record { reading = handed_on (lines_read s.reading lines); streamed = taken_from (lines_shown s lines) }
+
+-- the text ends here
+abbrev pub end_shown : Streaming → Streamed
+end_shown s = parts_streamed (parts_at_end s.reading) s.streamed
+
+-- the sections that are shown of each of these groups of lines, and at last those that are shown where the text ends
+unfoldable pub pieces_shown : Streaming → List (List (List ℕ)) → List (List SectionContent)
+pieces_shown s [] = (end_shown s).mapping.sections ∷ []
+pieces_shown s (lines ∷ groups) = (lines_shown s lines).mapping.sections ∷ pieces_shown (kept_after s lines) groups
+
+-- all of these, one after the other
+abbrev pub sections_shown : Streaming → List (List (List ℕ)) → List SectionContent
+sections_shown s groups = flat_map (λ piece. piece) (pieces_shown s groups)
+
+-- a group's links, and those after it: their sections come after the group's
+abbrev pub links_joined : Mapping → List LinkSaid → List LinkSaid
+links_joined m links = m.links ++ map (link_after (length m.sections)) links
+
+-- the links
+unfoldable pub links_shown : Streaming → List (List (List ℕ)) → List LinkSaid
+links_shown s [] = (end_shown s).mapping.links
+links_shown s (lines ∷ groups) = links_joined (lines_shown s lines).mapping (links_shown (kept_after s lines) groups)

@@ -1,0 +1,14 @@
+pub mod Definitions
+pub mod Faces
+pub mod ListedSections
+pub mod Mapping
+pub mod MappingOf
+pub mod Markdown
+pub mod MarkdownSays
+pub mod Nested
+pub mod Printed
+pub mod SectionsLeft
+pub mod SectionsSaid
+pub mod Signs
+pub mod Steadied
+pub mod Steady

@@ -1,0 +1,271 @@
+-- What the parts of a text are shown as: sections behind gutters.
+use Rattle.std.specs.Prelude.{ℕ, ◌+◌, ◌-◌, Bool, true, false, ◌||◌, ◌&&◌, ◌==◌, nat_lt, List, [], ◌∷◌, ◌++◌, map, length, take, drop, min, slice_index_or, Option, Some, None, if◌then◌else◌}
+use Rattle.std.specs.List.{suffix_len}
+use Rattle.std.specs.Str.Lossy.{utf8_lossy}
+use Rattle.markdown_marks.specs.Headings.{without_end}
+use Rattle.markdown_marks.specs.Remaining.{Remaining}
+use Rattle.markdown_blocks.specs.declared.containers.Container.{Container}
+use Rattle.markdown_blocks.specs.declared.containers.Container.TheVariants.{Quote, Item}
+use Rattle.markdown_leaves.specs.Defining.{joined}
+use Rattle.markdown_leaves.specs.Parts.{PartContent, begins, ends, block}
+use Rattle.markdown_leaves.specs.declared.parts.Kind.{Kind}
+use Rattle.markdown_leaves.specs.declared.parts.Kind.TheVariants.{Paragraph as ParagraphKind, Heading, Indented, Fenced, Html, Table, Rule}
+use Rattle.mad_md.specs.Flagged.{Flags}
+use Rattle.mad_md.specs.Lines.{LineContent, normal, horizontal_rule}
+use Rattle.mad_md.specs.declared.composite.CompositeStyle.{CompositeStyle}
+use Rattle.mad_md.specs.declared.composite.CompositeStyle.TheVariants.{Paragraph, Header}
+use Rattle.mad_sections.specs.Sections.{SectionContent}
+use Rattle.mad_sections.specs.declared.gutters.Gutter.{Gutter}
+use Rattle.mad_sections.specs.declared.gutters.Gutter.TheVariants.{Bar, Bullet, Number, Task, Code}
+use Rattle.markdown_lines.specs.Code.{code_lines}
+use Rattle.markdown_lines.specs.Leaf.{leaf_rows, html_lines}
+use Rattle.markdown_lines.specs.Links as line_links
+use Rattle.markdown_lines.specs.Links.{Defined, leaf_addresses}
+use Rattle.markdown_lines.specs.Restyled.{restyled, empty_line}
+use Rattle.markdown_lines.specs.Tables.{table_lines, table_links}
+use Rattle.markdown_sections.specs.Signs.{after_box, box_of, after_line, alert_word, alert_of}
+use Rattle.markdown_sections.specs.declared.forms.Form.{Form}
+use Rattle.markdown_sections.specs.declared.forms.Form.TheVariants.{Words, Large, Listed, Boxed}
+use Rattle.markdown_sections.specs.declared.lists.Counted.{Counted}
+use Rattle.markdown_sections.specs.declared.signs.Alert.{Alert}
+
+-- a link: the number of a section, and the address to which the link leads
+pub record LinkSaid : Type 0 where
+  pub section : ℕ
+  pub address : List ℕ
+
+-- The sections so far with their links, and what the next ones depend on: the gutters of the open containers, the outermost first; of how many of them, the
+-- outermost, something is shown; outside and for each of them the list whose item began last; whether blank lines came before the last item, since it began,
+-- and since something was shown last; whether anything was, and whether that wants blank rows beside it.
+pub record Mapping : Type 0 where
+  pub sections : List SectionContent
+  pub links : List LinkSaid
+  pub gutters : List Gutter
+  pub seen : ℕ
+  pub lists : List Counted
+  pub item_apart : Bool
+  pub since : Bool
+  pub apart : Bool
+  pub some : Bool
+  pub big : Bool
+
+-- ---- lists
+
+-- no list, or one that has ended
+abbrev pub no_list : Counted
+no_list = record { sign = 0; next = 0 }
+
+abbrev pub nothing_shown : Mapping
+nothing_shown = record { sections = []; links = []; gutters = []; seen = 0; lists = no_list ∷ []; item_apart = false; since = false; apart = false; some = false; big = false }
+
+-- the list in the innermost open container
+abbrev pub last_list : List Counted → Counted
+last_list lists = slice_index_or lists (length lists - 1) no_list
+
+-- the lists of the containers around it, and this one there
+abbrev pub with_list : List Counted → Counted → List Counted
+with_list lists list = take (length lists - 1) lists ++ list ∷ []
+
+-- the number of an item: the next one of its list, or the one that it has, if it begins a list
+abbrev pub number_in : Counted → ℕ → ℕ → ℕ
+number_in list sign number = if list.sign == sign then list.next else number
+
+abbrev pub list_after : ℕ → ℕ → Counted
+list_after sign number = record { sign = sign; next = min (number + 1) 4294967295 }
+
+-- ---- gutters
+
+abbrev pub is_number : ℕ → Bool
+is_number sign = (sign == 46) || (sign == 41)
+
+abbrev pub item_gutter : ℕ → ℕ → Gutter
+item_gutter sign number = if is_number sign then Number number else Bullet
+
+-- it is an item's, so its other face is blank
+abbrev pub is_item : Gutter → Bool
+is_item Bar = false
+is_item Code = false
+is_item _ = true
+
+-- without the items behind the last bar
+abbrev pub up_to_bar : List Gutter → List Gutter
+up_to_bar gutters = take (length gutters - suffix_len is_item gutters) gutters
+
+abbrev pub last_gutter : List Gutter → Option Gutter
+last_gutter gutters = if length gutters == 0 then None else Some (slice_index_or gutters (length gutters - 1) Bar)
+
+-- the gutter of the innermost open container, if nothing of that is shown yet
+abbrev pub new_gutter : Mapping → Option Gutter
+new_gutter m = if nat_lt m.seen (length m.gutters) then last_gutter m.gutters else None
+
+-- a box in the place of the last gutter
+abbrev pub boxed : Bool → Mapping → Mapping
+boxed done m = record m { gutters = take (length m.gutters - 1) m.gutters ++ Task done ∷ [] }
+
+-- ---- sections
+
+-- all but words wants blank rows beside it
+abbrev pub is_big : Form → Bool
+is_big Words = false
+is_big _ = true
+
+-- the gutters in front of a leaf: those of the open containers, and of code its box
+abbrev pub leaf_gutters : Form → List Gutter → List Gutter
+leaf_gutters Boxed gutters = gutters ++ Code ∷ []
+leaf_gutters _ gutters = gutters
+
+-- of a table those of its items, if it is shown as a list: a bullet stands behind those of the open containers
+abbrev pub items_gutters : Form → List Gutter → Option (List Gutter)
+items_gutters Listed gutters = Some (gutters ++ Bullet ∷ [])
+items_gutters _ gutters = None
+
+-- lines behind the gutters of all open containers; those begin with them of which nothing is shown yet, and the box of code
+abbrev pub section_of : Form → List LineContent → Mapping → SectionContent
+section_of form lines m = record { gutters = leaf_gutters form m.gutters; fresh = length (leaf_gutters form m.gutters) - m.seen; list = items_gutters form m.gutters; lines = lines }
+
+abbrev pub with_section : Form → List LineContent → Mapping → Mapping
+with_section form lines m = record m { sections = m.sections ++ section_of form lines m ∷ []; seen = length m.gutters }
+
+-- A blank row is behind the gutters of the containers that both neighbours are in, up to the last bar: what is behind that is blank. No blank row is in a box.
+abbrev pub blank_row : Mapping → SectionContent
+blank_row m = record { gutters = up_to_bar (take m.seen m.gutters); fresh = 0; list = None; lines = empty_line Paragraph ∷ [] }
+
+abbrev pub is_spaced : Bool → Bool → Mapping → Bool
+is_spaced apart big m = m.some && (apart || big || m.big)
+
+-- a blank row where blank lines are in the source, and beside what is big
+abbrev pub spaced : Bool → Bool → Mapping → Mapping
+spaced apart big m = if is_spaced apart big m then record m { sections = m.sections ++ blank_row m ∷ [] } else m
+
+-- links of the next section
+abbrev pub link_at : ℕ → List ℕ → LinkSaid
+link_at section address = record { section = section; address = address }
+
+abbrev pub linked : List (List ℕ) → Mapping → Mapping
+linked addresses m = record m { links = m.links ++ map (link_at (length m.sections)) addresses }
+
+abbrev pub added : Form → List LineContent → List (List ℕ) → Mapping → Mapping
+added form lines addresses m = record (with_section form lines (linked addresses m)) { apart = false; some = true; big = is_big form }
+
+-- the lines of a leaf, and where its links lead; a leaf without lines isn't shown
+abbrev pub put : Form → List LineContent → List (List ℕ) → Mapping → Mapping
+put form lines addresses m = if length lines == 0 then m else added form lines addresses (spaced m.apart (is_big form) m)
+
+-- ---- containers
+
+-- blank lines came, or didn't
+abbrev pub passed : Bool → Mapping → Mapping
+passed apart m = record m { apart = m.apart || apart; since = m.since || apart }
+
+-- what isn't an item ends the list beside it
+abbrev pub list_ended : Mapping → Mapping
+list_ended m = record m { lists = with_list m.lists no_list }
+
+abbrev pub quote_begun : Mapping → Mapping
+quote_begun m = record m { gutters = m.gutters ++ Bar ∷ []; lists = with_list m.lists no_list ++ no_list ∷ [] }
+
+abbrev pub numbered : ℕ → ℕ → Mapping → Mapping
+numbered sign number m = record m {
+  gutters = m.gutters ++ item_gutter sign number ∷ [];
+  lists = with_list m.lists (list_after sign number) ++ no_list ∷ [];
+  item_apart = m.apart;
+  since = false;
+}
+
+abbrev pub begun : Container → Mapping → Mapping
+begun Quote m = quote_begun m
+begun (Item sign number content) m = numbered sign (number_in (last_list m.lists) sign number) m
+
+abbrev pub nothing_since : Mapping → Mapping
+nothing_since m = record m { apart = m.since; some = true; big = false }
+
+-- an item of which nothing was shown has a row where it began
+abbrev pub item_ended : Mapping → Mapping
+item_ended m = nothing_since (with_section Words (empty_line Paragraph ∷ []) (spaced m.item_apart false m))
+
+abbrev pub ended_by : Option Gutter → Mapping → Mapping
+ended_by None m = m
+ended_by (Some gutter) m = if is_item gutter then item_ended m else m
+
+abbrev pub closed : Mapping → Mapping
+closed m = record m { gutters = take (length m.gutters - 1) m.gutters; lists = take (length m.lists - 1) m.lists; seen = min m.seen (length m.gutters - 1) }
+
+abbrev pub ended : Mapping → Mapping
+ended m = closed (ended_by (new_gutter m) m)
+
+-- ---- leaves
+
+-- the text of a leaf, without blanks at the end
+abbrev pub text_of : List ℕ → List ℕ
+text_of bytes = utf8_lossy (without_end 32 9 bytes)
+
+abbrev pub words : Defined → List ℕ → List LineContent
+words defined bytes = leaf_rows defined.labels (text_of bytes)
+
+abbrev pub addresses_in : Defined → List ℕ → List (List ℕ)
+addresses_in defined bytes = leaf_addresses defined (text_of bytes)
+
+abbrev pub words_shown : Defined → List ℕ → Mapping → Mapping
+words_shown defined bytes m = put Words (words defined bytes) (addresses_in defined bytes) m
+
+-- the first paragraph of an item with a bullet: the box in front of it is the item's gutter
+abbrev pub task_by : Option Bool → Defined → List ℕ → Mapping → Mapping
+task_by None defined bytes m = words_shown defined bytes m
+task_by (Some done) defined bytes m = words_shown defined (after_box bytes) (boxed done m)
+
+abbrev pub bold : Flags
+bold = record { bold = true; italic = false; code = false; strikeout = false; link = false }
+
+-- the row of an alert
+abbrev pub alert_line : Alert → LineContent
+alert_line alert = normal (record { style = Paragraph; runs = record { flags = bold; text = alert_word alert } ∷ [] })
+
+-- the first paragraph of a quote: the alert that its first line is has a row of its own
+abbrev pub alert_by : Option Alert → Defined → List ℕ → Mapping → Mapping
+alert_by None defined bytes m = words_shown defined bytes m
+alert_by (Some alert) defined bytes m = put Words (alert_line alert ∷ restyled Paragraph Paragraph (words defined (after_line bytes))) (addresses_in defined (after_line bytes)) m
+
+-- a paragraph, by the gutter that is new in front of it
+abbrev pub paragraph_by : Option Gutter → Defined → List ℕ → Mapping → Mapping
+paragraph_by (Some Bullet) defined bytes m = task_by (box_of bytes) defined bytes m
+paragraph_by (Some Bar) defined bytes m = alert_by (alert_of bytes) defined bytes m
+paragraph_by _ defined bytes m = words_shown defined bytes m
+
+abbrev pub heading_style : ℕ → CompositeStyle
+heading_style level = Header (min level 255)
+
+abbrev pub heading_shown : Defined → ℕ → List ℕ → Mapping → Mapping
+heading_shown defined level bytes m = put Large (restyled (heading_style level) (heading_style level) (words defined bytes)) (addresses_in defined bytes) m
+
+-- where the links of a table lead
+abbrev pub address_said : line_links.LinkSaid → List ℕ
+address_said link = link.address
+
+abbrev pub table_addresses : Defined → ℕ → List Remaining → List (List ℕ)
+table_addresses defined columns lines = map address_said (table_links defined columns 0 lines)
+
+abbrev pub code_shown : List Remaining → Mapping → Mapping
+code_shown lines m = put Boxed (code_lines 0 lines) [] m
+
+abbrev pub leaf_shown : Defined → Kind → List Remaining → Mapping → Mapping
+leaf_shown defined ParagraphKind lines m = paragraph_by (new_gutter m) defined (joined [] lines) m
+leaf_shown defined Html lines m = put Words (html_lines (joined [] lines)) [] m
+leaf_shown defined (Heading level) lines m = heading_shown defined level (joined [] lines) m
+leaf_shown defined Indented lines m = code_shown lines m
+leaf_shown defined Fenced lines m = code_shown (drop 1 lines) m
+leaf_shown defined (Table columns) lines m = put Listed (table_lines defined.labels columns lines) (table_addresses defined columns lines) m
+leaf_shown defined Rule lines m = put Large (horizontal_rule ∷ []) [] m
+leaf_shown defined _ lines m = m
+
+-- ---- parts
+
+-- a part of the text
+unfoldable pub shown_part : Defined → PartContent → Mapping → Mapping
+shown_part defined (begins container apart) m = begun container (passed apart m)
+shown_part defined ends m = ended m
+shown_part defined (block leaf) m = leaf_shown defined leaf.kind leaf.lines (list_ended (passed leaf.apart m))
+
+-- parts of the text, one after the other
+unfoldable pub shown_parts : Defined → List PartContent → Mapping → Mapping
+shown_parts defined [] m = m
+shown_parts defined (part ∷ parts) m = shown_parts defined parts (shown_part defined part m)

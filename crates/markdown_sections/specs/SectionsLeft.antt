@@ -1,0 +1,8 @@
+-- The sections in front of a cursor.
+use Rattle.std.specs.Prelude.{List, map}
+use Rattle.mad_sections.specs.Sections.{SectionContent}
+use Rattle.markdown_sections.specs.SectionsSaid.{section_said}
+use Rattle.markdown_sections.specs.declared.markdown.Sections.{Sections}
+
+abbrev pub sections_left : Sections → List SectionContent
+sections_left cursor = map section_said cursor.rest.now

@@ -1,0 +1,629 @@
+//! What the parts of a text are shown as.
+
+ghost use Rattle.std.specs.Prelude.{◌≡◌, ◌||◌, true, false, Some, [], ◌∷◌, ◌++◌, IfOk, OnOk, map, drop, string_bytes};
+ghost use Rattle.markdown_marks.specs.Remaining.{remaining};
+ghost use Rattle.markdown_leaves.specs.Defining.{joined};
+ghost use Rattle.markdown_leaves.specs.Parts.{part_of};
+ghost use Rattle.mad_md.specs.Lines.{horizontal_rule};
+ghost use Rattle.markdown_lines.specs.Code.{code_lines};
+ghost use Rattle.markdown_lines.specs.Leaf.{html_lines};
+ghost use Rattle.markdown_lines.specs.LinksOf.{defined_of};
+ghost use Rattle.markdown_lines.specs.Restyled.{restyled};
+ghost use Rattle.markdown_lines.specs.Shown.{shown};
+ghost use Rattle.markdown_lines.specs.Tables.{table_lines};
+ghost use Rattle.markdown_sections.specs.Signs.{alert_of, box_of};
+ghost use Rattle.markdown_sections.specs.Mapping.{nothing_shown, with_list, new_gutter, boxed, with_section, blank_row, is_spaced, spaced, linked, added, put, passed, list_ended, quote_begun, numbered, begun, item_ended, ended_by, closed, ended, text_of, words_shown, task_by, alert_line, alert_by, paragraph_by, heading_style, heading_shown, code_shown, table_addresses, leaf_shown, shown_part, shown_parts};
+ghost use Rattle.markdown_sections.specs.MappingOf.{mapping_of};
+ghost use Rattle.markdown_sections.specs.SectionsSaid.{lines_said, link_said, section_said};
+
+use crate::forms::{Form, is_big, items_gutters, leaf_gutters};
+use crate::lists::{
+    Counted, first_gutters, is_item, item_gutter, last_gutter, last_list, list_after, no_list,
+    number_in, up_to_bar,
+};
+use crate::sections::{Link, MarkdownSection, addresses_of, push_links};
+use crate::signs::{Alert, after_box, after_line, alert_of, alert_word, box_of};
+use mad_md::CompositeStyle;
+use mad_sections::Gutter;
+use markdown_blocks::Container;
+use markdown_leaves::defining::joined;
+use markdown_leaves::{Kind, Part};
+use markdown_lines::code::push_code_lines;
+use markdown_lines::leaf::{html_lines, read_leaf};
+use markdown_lines::lines::Lines;
+use markdown_lines::links::Definitions;
+use markdown_lines::places::{RunFlags, RunRange};
+use markdown_lines::runs::Runs;
+use markdown_lines::tables::push_table;
+use markdown_marks::headings::without_end;
+use markdown_marks::rest::Rest;
+use std::alloc::{AllocError, Global};
+use std::mem::replace;
+
+/// The sections so far, and what the next ones depend on.
+#[derive(Debug, Drop)]
+pub struct Mapper {
+    pub(crate) sections: Vec<MarkdownSection>,
+    pub(crate) links: Vec<Link>,
+    // of the open containers, the outermost first
+    gutters: Vec<Gutter>,
+    // of how many of these, the outermost, something is shown
+    seen: usize,
+    // outside, and in each open container: the list whose item began last
+    lists: Vec<Counted>,
+    // whether blank lines are before the last item
+    item_apart: bool,
+    // whether blank lines came since it began
+    since: bool,
+    // whether blank lines came since something was shown last
+    apart: bool,
+    // whether anything was shown
+    some: bool,
+    // whether what was shown last wants blank rows beside it
+    big: bool,
+}
+
+fn either(first: bool, second: bool) -> bool
+    ensures { result ≡ (first || second) }
+{
+    first || second
+}
+
+fn heading_style(level: usize) -> CompositeStyle
+    ensures { result ≡ heading_style level }
+{
+    CompositeStyle::Header(level.min(255) as u8)
+}
+
+// The text of a leaf.
+fn text_of(alloc: Global, bytes: &[u8]) -> Result<String, AllocError>
+    ensures { IfOk result (λ text. string_bytes text ≡ text_of bytes.now) }
+{
+    let text = String::from_utf8_lossy(alloc, without_end(b' ', b'\t', bytes))?;
+    Ok(text)
+}
+
+// Rows in another style.
+fn restyled(alloc: Global, style: CompositeStyle, rows: &Lines) -> Result<Lines, AllocError>
+    ensures { IfOk result (λ made. shown made ≡ restyled style style (shown rows.now)) }
+{
+    let mut made = Lines::new(alloc);
+    made.push_rows(style, style, rows)?;
+    Ok(made)
+}
+
+// A rule across the page.
+fn rule_row(alloc: Global) -> Result<Lines, AllocError>
+    ensures { IfOk result (λ made. shown made ≡ horizontal_rule ∷ []) }
+{
+    let mut made = Lines::new(alloc);
+    made.push_horizontal_rule()?;
+    Ok(made)
+}
+
+// The row of an alert.
+fn alert_row(alloc: Global, alert: Alert) -> Result<Lines, AllocError>
+    ensures { IfOk result (λ made. shown made ≡ alert_line alert ∷ []) }
+{
+    let mut word = Runs::new(alloc);
+    word.push(
+        RunFlags {
+            bold: true,
+            ..RunFlags::NONE
+        },
+        alert_word(alert),
+    )?;
+    let mut made = Lines::new(alloc);
+    made.push_row(
+        CompositeStyle::Paragraph,
+        &word,
+        RunRange { start: 0, count: 1 },
+    )?;
+    Ok(made)
+}
+
+// The row of an alert, and rows below it.
+fn alert_rows(alloc: Global, alert: Alert, rows: &Lines) -> Result<Lines, AllocError>
+    ensures { IfOk result (λ made. shown made ≡ alert_line alert ∷ restyled CompositeStyle.Paragraph CompositeStyle.Paragraph (shown rows.now)) }
+{
+    let mut made = alert_row(alloc, alert)?;
+    made.push_rows(CompositeStyle::Paragraph, CompositeStyle::Paragraph, rows)?;
+    Ok(made)
+}
+
+// Lines of code.
+fn code_rows(alloc: Global, lines: &[Rest<'_>]) -> Result<Lines, AllocError>
+    ensures { IfOk result (λ made. shown made ≡ code_lines 0 (map remaining lines.now)) }
+{
+    let mut made = Lines::new(alloc);
+    push_code_lines(alloc, &mut made, 0, lines)?;
+    Ok(made)
+}
+
+fn after_first<'l, 's>(lines: &'l [Rest<'s>]) -> &'l [Rest<'s>]
+    ensures { map remaining result.now ≡ drop 1 (map remaining lines.now) }
+{
+    match lines {
+        [] => lines,
+        [_, rest @ ..] => rest,
+    }
+}
+
+impl Mapper {
+    /// Nothing is shown.
+    ///
+    /// # Errors
+    ///
+    /// Out of memory is the only error.
+    pub fn new(alloc: Global) -> Result<Mapper, AllocError>
+        ensures { IfOk result (λ made. mapping_of made ≡ nothing_shown) }
+    {
+        let mut lists = Vec::new(alloc);
+        lists.push(no_list())?;
+        Ok(Mapper {
+            sections: Vec::new(alloc),
+            links: Vec::new(alloc),
+            gutters: Vec::new(alloc),
+            seen: 0,
+            lists,
+            item_apart: false,
+            since: false,
+            apart: false,
+            some: false,
+            big: false,
+        })
+    }
+
+    // ---- sections
+
+    // The gutter of the innermost open container, if nothing of that is shown yet.
+    fn new_gutter(&self) -> Option<Gutter>
+        ensures { result ≡ new_gutter (mapping_of self.now) }
+    {
+        if self.seen < self.gutters.as_slice().len() {
+            last_gutter(self.gutters.as_slice())
+        } else {
+            None
+        }
+    }
+
+    // Lines behind the gutters of all open containers.
+    fn add_section(
+        &mut self,
+        alloc: Global,
+        form: Form,
+        lines: Option<Lines>,
+    ) -> Result<(), AllocError>
+        ensures { OnOk result (mapping_of self.new ≡ with_section form (lines_said lines) (mapping_of self.old)) }
+    {
+        let gutters = leaf_gutters(alloc, form, self.gutters.as_slice())?;
+        let list = items_gutters(alloc, form, self.gutters.as_slice())?;
+        let fresh = gutters.as_slice().len().saturating_sub(self.seen);
+        self.sections.push(MarkdownSection {
+            gutters,
+            fresh,
+            list,
+            lines,
+        })?;
+        self.seen = self.gutters.as_slice().len();
+        Ok(())
+    }
+
+    // A blank row, behind the gutters of the containers that both neighbours are in, up to the last bar.
+    fn add_blank(&mut self, alloc: Global) -> Result<(), AllocError>
+        ensures { OnOk result (mapping_of self.new ≡ record (mapping_of self.old) { sections = (mapping_of self.old).sections ++ blank_row (mapping_of self.old) ∷ [] }) }
+    {
+        let both = first_gutters(self.gutters.as_slice(), self.seen);
+        let gutters = Vec::from_slice(alloc, up_to_bar(both))?;
+        self.sections.push(MarkdownSection {
+            gutters,
+            fresh: 0,
+            list: None,
+            lines: None,
+        })?;
+        Ok(())
+    }
+
+    // Whether a blank row comes next.
+    fn is_spaced(&self, apart: bool, big: bool) -> bool
+        ensures { result ≡ is_spaced apart big (mapping_of self.now) }
+    {
+        self.some && (apart || big || self.big)
+    }
+
+    // A blank row, where one comes next.
+    fn space(&mut self, alloc: Global, apart: bool, big: bool) -> Result<(), AllocError>
+        ensures { OnOk result (mapping_of self.new ≡ spaced apart big (mapping_of self.old)) }
+    {
+        if self.is_spaced(apart, big) {
+            self.add_blank(alloc)
+        } else {
+            Ok(())
+        }
+    }
+
+    // Adds links of the next section.
+    fn link(&mut self, addresses: Vec<String>) -> Result<(), AllocError>
+        ensures { OnOk result (mapping_of self.new ≡ linked (map string_bytes addresses.items) (mapping_of self.old)) }
+    {
+        let section = self.sections.as_slice().len();
+        push_links(&mut self.links, section, addresses)
+    }
+
+    // Lines of a leaf, and where its links lead.
+    fn add(
+        &mut self,
+        alloc: Global,
+        form: Form,
+        lines: Lines,
+        addresses: Vec<String>,
+    ) -> Result<(), AllocError>
+        ensures { OnOk result (mapping_of self.new ≡ added form (shown lines) (map string_bytes addresses.items) (mapping_of self.old)) }
+    {
+        self.link(addresses)?;
+        self.add_section(alloc, form, Some(lines))?;
+        self.apart = false;
+        self.some = true;
+        self.big = is_big(form);
+        Ok(())
+    }
+
+    // The same after a blank row, where one comes next. A leaf without lines isn't shown.
+    fn put(
+        &mut self,
+        alloc: Global,
+        form: Form,
+        lines: Lines,
+        addresses: Vec<String>,
+    ) -> Result<(), AllocError>
+        ensures { OnOk result (mapping_of self.new ≡ put form (shown lines) (map string_bytes addresses.items) (mapping_of self.old)) }
+    {
+        if lines.is_empty() {
+            return Ok(());
+        }
+        self.space(alloc, self.apart, is_big(form))?;
+        self.add(alloc, form, lines, addresses)
+    }
+
+    // ---- containers
+
+    // Blank lines came, or didn't.
+    fn pass(&mut self, apart: bool)
+        ensures { mapping_of self.new ≡ passed apart (mapping_of self.old) }
+    {
+        self.apart = either(self.apart, apart);
+        self.since = either(self.since, apart);
+    }
+
+    // The list in the innermost open container is this one.
+    fn set_list(&mut self, list: Counted) -> Result<(), AllocError>
+        ensures { OnOk result (mapping_of self.new ≡ record (mapping_of self.old) { lists = with_list (mapping_of self.old).lists list }) }
+    {
+        let count = self.lists.as_slice().len().saturating_sub(1);
+        self.lists.truncate(count);
+        self.lists.push(list)?;
+        Ok(())
+    }
+
+    // What isn't an item ends the list beside it.
+    fn end_list(&mut self) -> Result<(), AllocError>
+        ensures { OnOk result (mapping_of self.new ≡ list_ended (mapping_of self.old)) }
+    {
+        self.set_list(no_list())
+    }
+
+    fn begin_quote(&mut self) -> Result<(), AllocError>
+        ensures { OnOk result (mapping_of self.new ≡ quote_begun (mapping_of self.old)) }
+    {
+        self.set_list(no_list())?;
+        self.lists.push(no_list())?;
+        self.gutters.push(Gutter::Bar)?;
+        Ok(())
+    }
+
+    // An item with this number begins.
+    fn begin_item(&mut self, sign: u8, number: u32) -> Result<(), AllocError>
+        ensures { OnOk result (mapping_of self.new ≡ numbered sign number (mapping_of self.old)) }
+    {
+        self.set_list(list_after(sign, number))?;
+        self.lists.push(no_list())?;
+        self.gutters.push(item_gutter(sign, number))?;
+        self.item_apart = self.apart;
+        self.since = false;
+        Ok(())
+    }
+
+    fn begin(&mut self, container: Container) -> Result<(), AllocError>
+        ensures { OnOk result (mapping_of self.new ≡ begun container (mapping_of self.old)) }
+    {
+        match container {
+            Container::Quote => self.begin_quote(),
+            Container::Item { sign, number, .. } => {
+                let list = last_list(self.lists.as_slice());
+                self.begin_item(sign, number_in(list, sign, number))
+            }
+        }
+    }
+
+    // An item ends of which nothing was shown: it has a row where it began.
+    fn end_item(&mut self, alloc: Global) -> Result<(), AllocError>
+        ensures { OnOk result (mapping_of self.new ≡ item_ended (mapping_of self.old)) }
+    {
+        self.space(alloc, self.item_apart, false)?;
+        self.add_section(alloc, Form::Words, None)?;
+        self.apart = self.since;
+        self.some = true;
+        self.big = false;
+        Ok(())
+    }
+
+    // A container ends of which nothing was shown, or another one.
+    fn end_new(&mut self, alloc: Global, gutter: Option<Gutter>) -> Result<(), AllocError>
+        ensures { OnOk result (mapping_of self.new ≡ ended_by gutter (mapping_of self.old)) }
+    {
+        match gutter {
+            Some(gutter) => {
+                if is_item(gutter) {
+                    self.end_item(alloc)
+                } else {
+                    Ok(())
+                }
+            }
+            None => Ok(()),
+        }
+    }
+
+    // The innermost container is closed.
+    fn close(&mut self)
+        ensures { mapping_of self.new ≡ closed (mapping_of self.old) }
+    {
+        let depth = self.gutters.as_slice().len().saturating_sub(1);
+        self.gutters.truncate(depth);
+        let lists = self.lists.as_slice().len().saturating_sub(1);
+        self.lists.truncate(lists);
+        self.seen = self.seen.min(depth);
+    }
+
+    fn end(&mut self, alloc: Global) -> Result<(), AllocError>
+        ensures { OnOk result (mapping_of self.new ≡ ended (mapping_of self.old)) }
+    {
+        let gutter = self.new_gutter();
+        self.end_new(alloc, gutter)?;
+        self.close();
+        Ok(())
+    }
+
+    // ---- leaves
+
+    fn show_words(
+        &mut self,
+        alloc: Global,
+        definitions: &Definitions,
+        bytes: &[u8],
+    ) -> Result<(), AllocError>
+        ensures { OnOk result (mapping_of self.new ≡ words_shown (defined_of definitions.now) bytes.now (mapping_of self.old)) }
+    {
+        let text = text_of(alloc, bytes)?;
+        let leaf = read_leaf(alloc, definitions, text.as_str())?;
+        self.put(alloc, Form::Words, leaf.rows, leaf.addresses)
+    }
+
+    // A box in the place of the last gutter.
+    fn tick(&mut self, done: bool) -> Result<(), AllocError>
+        ensures { OnOk result (mapping_of self.new ≡ boxed done (mapping_of self.old)) }
+    {
+        let depth = self.gutters.as_slice().len().saturating_sub(1);
+        self.gutters.truncate(depth);
+        self.gutters.push(Gutter::Task(done))?;
+        Ok(())
+    }
+
+    // The first paragraph of an item with a bullet.
+    fn show_task(
+        &mut self,
+        alloc: Global,
+        definitions: &Definitions,
+        bytes: &[u8],
+    ) -> Result<(), AllocError>
+        ensures { OnOk result (mapping_of self.new ≡ task_by (box_of bytes.now) (defined_of definitions.now) bytes.now (mapping_of self.old)) }
+    {
+        match box_of(bytes) {
+            Some(done) => {
+                self.tick(done)?;
+                self.show_words(alloc, definitions, after_box(bytes))
+            }
+            None => self.show_words(alloc, definitions, bytes),
+        }
+    }
+
+    // An alert, and the words below it.
+    fn put_alert(
+        &mut self,
+        alloc: Global,
+        definitions: &Definitions,
+        alert: Alert,
+        bytes: &[u8],
+    ) -> Result<(), AllocError>
+        ensures { OnOk result (mapping_of self.new ≡ alert_by (Some alert) (defined_of definitions.now) bytes.now (mapping_of self.old)) }
+    {
+        let text = text_of(alloc, after_line(bytes))?;
+        let leaf = read_leaf(alloc, definitions, text.as_str())?;
+        let lines = alert_rows(alloc, alert, &leaf.rows)?;
+        self.put(alloc, Form::Words, lines, leaf.addresses)
+    }
+
+    // The first paragraph of a quote.
+    fn show_quoted(
+        &mut self,
+        alloc: Global,
+        definitions: &Definitions,
+        bytes: &[u8],
+    ) -> Result<(), AllocError>
+        ensures { OnOk result (mapping_of self.new ≡ alert_by (alert_of bytes.now) (defined_of definitions.now) bytes.now (mapping_of self.old)) }
+    {
+        match alert_of(bytes) {
+            Some(alert) => self.put_alert(alloc, definitions, alert, bytes),
+            None => self.show_words(alloc, definitions, bytes),
+        }
+    }
+
+    // A paragraph, by the gutter that is new in front of it.
+    fn show_paragraph(
+        &mut self,
+        alloc: Global,
+        definitions: &Definitions,
+        gutter: Option<Gutter>,
+        bytes: &[u8],
+    ) -> Result<(), AllocError>
+        ensures { OnOk result (mapping_of self.new ≡ paragraph_by gutter (defined_of definitions.now) bytes.now (mapping_of self.old)) }
+    {
+        match gutter {
+            Some(Gutter::Bullet) => self.show_task(alloc, definitions, bytes),
+            Some(Gutter::Bar) => self.show_quoted(alloc, definitions, bytes),
+            Some(Gutter::Number(_)) | Some(Gutter::Task(_)) | Some(Gutter::Code) | None => {
+                self.show_words(alloc, definitions, bytes)
+            }
+        }
+    }
+
+    fn show_heading(
+        &mut self,
+        alloc: Global,
+        definitions: &Definitions,
+        level: usize,
+        bytes: &[u8],
+    ) -> Result<(), AllocError>
+        ensures { OnOk result (mapping_of self.new ≡ heading_shown (defined_of definitions.now) level bytes.now (mapping_of self.old)) }
+    {
+        let text = text_of(alloc, bytes)?;
+        let leaf = read_leaf(alloc, definitions, text.as_str())?;
+        let lines = restyled(alloc, heading_style(level), &leaf.rows)?;
+        self.put(alloc, Form::Large, lines, leaf.addresses)
+    }
+
+    fn show_code(&mut self, alloc: Global, lines: &[Rest<'_>]) -> Result<(), AllocError>
+        ensures { OnOk result (mapping_of self.new ≡ code_shown (map remaining lines.now) (mapping_of self.old)) }
+    {
+        let rows = code_rows(alloc, lines)?;
+        self.put(alloc, Form::Boxed, rows, Vec::new(alloc))
+    }
+
+    fn show_html(&mut self, alloc: Global, bytes: &[u8]) -> Result<(), AllocError>
+        ensures { OnOk result (mapping_of self.new ≡ put Form.Words (html_lines bytes.now) [] (mapping_of self.old)) }
+    {
+        let rows = html_lines(alloc, bytes)?;
+        self.put(alloc, Form::Words, rows, Vec::new(alloc))
+    }
+
+    fn show_table(
+        &mut self,
+        alloc: Global,
+        definitions: &Definitions,
+        columns: usize,
+        lines: &[Rest<'_>],
+    ) -> Result<(), AllocError>
+        ensures { OnOk result (mapping_of self.new ≡ put Form.Listed (table_lines (defined_of definitions.now).labels columns (map remaining lines.now)) (table_addresses (defined_of definitions.now) columns (map remaining lines.now)) (mapping_of self.old)) }
+    {
+        let mut rows = Lines::new(alloc);
+        let mut links = Vec::new(alloc);
+        push_table(alloc, &mut rows, &mut links, definitions, columns, lines)?;
+        let addresses = addresses_of(alloc, links)?;
+        self.put(alloc, Form::Listed, rows, addresses)
+    }
+
+    fn show_rule(&mut self, alloc: Global) -> Result<(), AllocError>
+        ensures { OnOk result (mapping_of self.new ≡ put Form.Large (horizontal_rule ∷ []) [] (mapping_of self.old)) }
+    {
+        let row = rule_row(alloc)?;
+        self.put(alloc, Form::Large, row, Vec::new(alloc))
+    }
+
+    fn show_leaf(
+        &mut self,
+        alloc: Global,
+        definitions: &Definitions,
+        kind: Kind,
+        lines: &[Rest<'_>],
+    ) -> Result<(), AllocError>
+        ensures { OnOk result (mapping_of self.new ≡ leaf_shown (defined_of definitions.now) kind (map remaining lines.now) (mapping_of self.old)) }
+    {
+        match kind {
+            Kind::Nothing | Kind::Definitions => Ok(()),
+            Kind::Paragraph => {
+                let bytes = joined(alloc, lines)?;
+                let gutter = self.new_gutter();
+                self.show_paragraph(alloc, definitions, gutter, bytes.as_slice())
+            }
+            Kind::Html => {
+                let bytes = joined(alloc, lines)?;
+                self.show_html(alloc, bytes.as_slice())
+            }
+            Kind::Heading(level) => {
+                let bytes = joined(alloc, lines)?;
+                self.show_heading(alloc, definitions, level, bytes.as_slice())
+            }
+            Kind::Indented => self.show_code(alloc, lines),
+            Kind::Fenced => self.show_code(alloc, after_first(lines)),
+            Kind::Table(columns) => self.show_table(alloc, definitions, columns, lines),
+            Kind::Rule => self.show_rule(alloc),
+        }
+    }
+
+    /// Takes the sections so far.
+    pub fn take_sections(&mut self, alloc: Global) -> Vec<MarkdownSection>
+        ensures sections { map section_said result.items ≡ (mapping_of self.old).sections }
+        ensures rest { mapping_of self.new ≡ record (mapping_of self.old) { sections = [] } }
+    {
+        replace(&mut self.sections, Vec::new(alloc))
+    }
+
+    /// Takes the links so far.
+    pub fn take_links(&mut self, alloc: Global) -> Vec<Link>
+        ensures links { map link_said result.items ≡ (mapping_of self.old).links }
+        ensures rest { mapping_of self.new ≡ record (mapping_of self.old) { links = [] } }
+    {
+        replace(&mut self.links, Vec::new(alloc))
+    }
+
+    /// A part of the text.
+    #[tactic(auto, unfolding(crate::specs::Mapping::shown_part))]
+    pub fn show(
+        &mut self,
+        alloc: Global,
+        definitions: &Definitions,
+        part: &Part<'_>,
+    ) -> Result<(), AllocError>
+        ensures { OnOk result (mapping_of self.new ≡ shown_part (defined_of definitions.now) (part_of part.now) (mapping_of self.old)) }
+    {
+        match part {
+            Part::Begins(container, apart) => {
+                self.pass(*apart);
+                self.begin(*container)
+            }
+            Part::Ends => self.end(alloc),
+            Part::Block(block) => {
+                self.pass(block.apart);
+                self.end_list()?;
+                self.show_leaf(alloc, definitions, block.kind, &block.lines)
+            }
+        }
+    }
+
+    /// Parts of the text, one after the other.
+    #[tactic(auto, unfolding(crate::specs::Mapping::shown_parts))]
+    pub fn show_all(
+        &mut self,
+        alloc: Global,
+        definitions: &Definitions,
+        parts: &[Part<'_>],
+    ) -> Result<(), AllocError>
+        ensures { OnOk result (mapping_of self.new ≡ shown_parts (defined_of definitions.now) (map part_of parts.now) (mapping_of self.old)) }
+    {
+        let mut rest = parts;
+        while let [part, next @ ..] = rest {
+            self.show(alloc, definitions, part)?;
+            rest = next;
+        }
+        Ok(())
+    }
+}
