@@ -9,7 +9,7 @@ use Rattle.mad_format.specs.declared.line.FmtLine.{FmtLine}
 use Rattle.mad_sections.specs.Gutters.{shown}
 use Rattle.mad_sections.specs.Sections.{SectionContent}
 use Rattle.mad_sections.specs.declared.gutters.Gutter.{Gutter}
-use Rattle.mad_unfolded.specs.Unfolded.{unfolded}
+use Rattle.mad_sections.specs.Unfolded.{unfolded}
 use Rattle.mad_pages.specs.PageLayouts.{IsSectionAt, BecomesAt, IsPageAt}
 use Rattle.mad_pages.specs.PageRows.{RowContent, rest_behind, behind}
 use Rattle.mad_fronts.specs.Fronts.{FrontContent, front_at, front_content, front_of, front_or_none, line_of, row_behind}

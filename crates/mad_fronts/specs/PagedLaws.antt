@@ -6,7 +6,7 @@ use Rattle.mad_format.specs.declared.line.FmtLine.{FmtLine}
 use Rattle.mad_blocks.specs.Layouts.{IsLayoutAt}
 use Rattle.mad_sections.specs.Gutters.{room}
 use Rattle.mad_sections.specs.Sections.{SectionContent}
-use Rattle.mad_unfolded.specs.Unfolded.{unfolded}
+use Rattle.mad_sections.specs.Unfolded.{unfolded}
 use Rattle.mad_fronts.specs.Fronts.{front_at, row_behind}
 use Rattle.mad_fronts.specs.PagedPages.{IsPagedAt}
 use Rattle.mad_fronts.specs.declared.paged.PagedPage.{PagedPage}

@@ -22,7 +22,7 @@ use Rattle.mad_sections.specs.Gutters.{columns_of, shown_at, room_at}
 use Rattle.mad_sections.specs.Sections.{SectionContent}
 use Rattle.mad_sections.specs.declared.gutters.Gutter.{Gutter}
 use Rattle.mad_sections.proofs.RoomLemmas.{rooms_last, shown_are_last}
-use Rattle.mad_unfolded.specs.Unfolded.{unfolded}
+use Rattle.mad_sections.specs.Unfolded.{unfolded}
 use Rattle.mad_format.specs.Lists.{EachBecomes}
 use Rattle.mad_pages.specs.PageLayouts.{IsSectionAt}
 use Rattle.mad_pages.specs.PageRows.{RowContent, behind, rest_behind}

@@ -8,7 +8,7 @@ use Rattle.mad_blocks.specs.TextParts.{lines_in_parts}
 use Rattle.mad_layout.specs.Premises.{AreTyped, KeepsPremises}
 use Rattle.mad_sections.specs.Gutters.{room_at}
 use Rattle.mad_sections.specs.Sections.{SectionContent}
-use Rattle.mad_unfolded.specs.Unfolded.{unfolded}
+use Rattle.mad_sections.specs.Unfolded.{unfolded}
 use Rattle.mad_pages.specs.PageLayouts.{IsSectionAt, IsPageAt}
 use Rattle.mad_pages.specs.PageRows.{RowContent}
 use Rattle.mad_page_rows.specs.FaceLaws.{AreFacesShown, IsTypedGutter}

@@ -25,12 +25,12 @@ use Rattle.mad_blocks.specs.Layouts.{AreRead, IsLayoutAt}
 use Rattle.mad_blocks.specs.Tables.{centered, first_columns, measure_of, rows_among, columns_count as fmt_columns_count, AreKeptWidths, AreTableLinesBy}
 use Rattle.mad_sections.specs.Gutters.{room_at, room}
 use Rattle.mad_sections.specs.Sections.{SectionContent}
-use Rattle.mad_unfolded.specs.CellWords.{longest_from as own_from, longest_word as own_word}
-use Rattle.mad_unfolded.specs.TableTexts.{runs_text, cell_text, are_table, columns_count, rows_in, longest_in, least_width, least_widths, has_room}
-use Rattle.mad_unfolded.specs.UnfoldLaws.{IsListOf}
-use Rattle.mad_unfolded.specs.Unfolded.{lacks_room, unfolded}
-use Rattle.mad_unfolded.proofs.TableLemmas.{text_is_said, widths_count}
-use Rattle.mad_unfolded.proofs.KeptLemmas.{list_when, stays_when}
+use Rattle.mad_sections.specs.CellWords.{longest_from as own_from, longest_word as own_word}
+use Rattle.mad_sections.specs.TableTexts.{runs_text, cell_text, are_table, columns_count, rows_in, longest_in, least_width, least_widths, has_room}
+use Rattle.mad_sections.specs.UnfoldLaws.{IsListOf}
+use Rattle.mad_sections.specs.Unfolded.{lacks_room, unfolded}
+use Rattle.mad_sections.proofs.TableLemmas.{text_is_said, widths_count}
+use Rattle.mad_sections.proofs.KeptLemmas.{list_when, stays_when}
 use Rattle.mad_pages.specs.PageLayouts.{IsSectionAt, BecomesAt}
 use Rattle.mad_pages.specs.PageRows.{RowContent}
 use Rattle.mad_pages.proofs.PageLemmas.{sections_are_layouts}

@@ -33,9 +33,9 @@ use Rattle.mad_format.specs.declared.table.RelativePosition.{RelativePosition}
 use Rattle.mad_blocks.specs.CellWords.{longest_from, longest_word}
 use Rattle.mad_blocks.specs.Layouts.{AreRead}
 use Rattle.mad_blocks.specs.Tables.{columns_with, columns_from, centered, below, position_at, AreCellsLaidOut, IsTableLineBy, AreTableLinesBy}
-use Rattle.mad_unfolded.specs.CellWords.{longest_word as own_word}
-use Rattle.mad_unfolded.specs.TableTexts.{runs_text, cell_text, columns_count, rows_in, longest_in}
-use Rattle.mad_unfolded.proofs.TableLemmas.{text_is_said}
+use Rattle.mad_sections.specs.CellWords.{longest_word as own_word}
+use Rattle.mad_sections.specs.TableTexts.{runs_text, cell_text, columns_count, rows_in, longest_in}
+use Rattle.mad_sections.proofs.TableLemmas.{text_is_said}
 use Rattle.mad_page_tables.specs.WholeTables.{columns_of, KeepWords}
 use Rattle.mad_page_tables.proofs.WholeLemmas.{same_from}
 use Rattle.mad_page_tables.specs.WholeWords.{words_after, words_of, IsWholeWrap, CellsKeepWords, ArePlainCells, TablesKeepWords}

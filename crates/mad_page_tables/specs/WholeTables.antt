@@ -11,9 +11,9 @@ use Rattle.mad_blocks.specs.Tables.{centered, AreKeptWidths, AreTableLinesBy}
 use Rattle.mad_sections.specs.Gutters.{room_at}
 use Rattle.mad_sections.specs.Sections.{SectionContent}
 use Rattle.mad_sections.specs.declared.gutters.Gutter.{Gutter}
-use Rattle.mad_unfolded.specs.TableTexts.{are_table, columns_count, rows_in, longest_in, has_room}
-use Rattle.mad_unfolded.specs.UnfoldLaws.{IsListOf}
-use Rattle.mad_unfolded.specs.Unfolded.{unfolded}
+use Rattle.mad_sections.specs.TableTexts.{are_table, columns_count, rows_in, longest_in, has_room}
+use Rattle.mad_sections.specs.UnfoldLaws.{IsListOf}
+use Rattle.mad_sections.specs.Unfolded.{unfolded}
 use Rattle.mad_pages.specs.PageLayouts.{BecomesAt}
 use Rattle.mad_pages.specs.PageRows.{RowContent}
 

@@ -18,7 +18,7 @@ use Rattle.mad_format.specs.Wraps.{text_of}
 use Rattle.mad_format.specs.declared.composite.FmtComposite.{FmtComposite}
 use Rattle.mad_blocks.specs.CellWords.{longest_word}
 use Rattle.mad_blocks.specs.Tables.{centered, IsCellLaidOut, AreTableLinesBy}
-use Rattle.mad_unfolded.specs.TableTexts.{rows_in}
+use Rattle.mad_sections.specs.TableTexts.{rows_in}
 use Rattle.mad_page_tables.specs.WholeTables.{IsWholeTable}
 
 -- the words of a word that has begun, and of the tokens that come: each whole, and between them each blank token

@@ -11,7 +11,7 @@ use Rattle.mad_blocks.specs.Layouts.{IsLayoutAt}
 use Rattle.mad_sections.specs.Gutters.{room, shown}
 use Rattle.mad_sections.specs.Sections.{SectionContent}
 use Rattle.mad_sections.specs.declared.gutters.Gutter.{Gutter}
-use Rattle.mad_unfolded.specs.Unfolded.{unfolded}
+use Rattle.mad_sections.specs.Unfolded.{unfolded}
 use Rattle.mad_pages.specs.PageCursors.{LaidSection}
 use Rattle.mad_pages.specs.PageLaws.{plain_rows, ArePlain, PlainIsLayout, PagesJoin, SectionsAreLayouts, LaterRowsAreOther}
 use Rattle.mad_pages.specs.PageLayouts.{IsSectionAt, BecomesAt, IsPageAt}
