@@ -107,7 +107,8 @@ rest_lines : (gutters : List Gutter) (lines : List FmtLine) → map (λ (row : R
 rest_lines gutters [] = refl
 rest_lines gutters (line ∷ lines) = ap (λ (ls : List FmtLine). line ∷ ls) (rest_lines gutters lines)
 
-lines_behind : (gutters : List Gutter) (fresh : ℕ) (lines : List FmtLine) → map (λ (row : RowContent). row.line) (behind gutters fresh lines) ≡ lines
+-- lines behind gutters are these lines
+pub lines_behind : (gutters : List Gutter) (fresh : ℕ) (lines : List FmtLine) → map (λ (row : RowContent). row.line) (behind gutters fresh lines) ≡ lines
 lines_behind gutters fresh [] = refl
 lines_behind gutters fresh (line ∷ lines) = ap (λ (ls : List FmtLine). line ∷ ls) (rest_lines gutters lines)
 
