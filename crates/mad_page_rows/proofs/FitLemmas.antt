@@ -29,8 +29,8 @@ use Rattle.mad_pages.specs.PageRows.{RowContent, behind, rest_behind}
 use Rattle.mad_page_rows.specs.FaceLaws.{AreFacesShown, IsTypedGutter}
 use Rattle.mad_page_rows.specs.Faces.{has_ascii_boxes, line_skin}
 use Rattle.mad_page_rows.proofs.FillLemmas.{rows_fill}
-use Rattle.mad_page_laws.proofs.BoxLemmas.{drawable_behind}
-use Rattle.mad_page_laws.specs.PageFits.{KeepsRoom, AllFill, sections_at, SectionsFill, PagesFill}
+use Rattle.mad_page_rows.proofs.BoxedLines.{drawable_behind}
+use Rattle.mad_page_rows.specs.PageFits.{KeepsRoom, AllFill, sections_at, SectionsFill, PagesFill}
 
 all_taken : {A : Type 0} (P : A → Type 0) (n : ℕ) (xs : List A) → AllByRecursion P xs → AllByRecursion P (take n xs)
 all_taken P zero xs h = tt
