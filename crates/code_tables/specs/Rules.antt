@@ -1,13 +1,13 @@
 -- What tables of languages are made of.
 use Rattle.std.specs.Prelude.{ℕ, Bool, List, map}
 use Rattle.std.specs.Borrow.{Bor}
-use Rattle.code_colors.specs.declared.rules.Class.{Class}
-use Rattle.code_colors.specs.declared.rules.Place.{Place}
-use Rattle.code_colors.specs.declared.rules.Extent.{Extent}
-use Rattle.code_colors.specs.declared.rules.Turn.{Turn}
-use Rattle.code_colors.specs.declared.rules.Words.{Words}
-use Rattle.code_colors.specs.declared.rules.RuleRow.{RuleRow}
-use Rattle.code_colors.specs.declared.rules.ModeRow.{ModeRow}
+use Rattle.code_tables.specs.declared.rules.Class.{Class}
+use Rattle.code_tables.specs.declared.rules.Place.{Place}
+use Rattle.code_tables.specs.declared.rules.Extent.{Extent}
+use Rattle.code_tables.specs.declared.rules.Turn.{Turn}
+use Rattle.code_tables.specs.declared.rules.Words.{Words}
+use Rattle.code_tables.specs.declared.rules.RuleRow.{RuleRow}
+use Rattle.code_tables.specs.declared.rules.ModeRow.{ModeRow}
 
 -- A token begins at a place with a mark, goes as far as its extent says, and is followed, behind blanks, by one of some marks. Without a
 -- mark it begins at no blank. What closes it, or stops it, is a part of its extent.
