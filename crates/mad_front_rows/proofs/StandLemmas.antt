@@ -1,5 +1,5 @@
 -- Hits stand in their rows: the cells where they are drawn have their characters.
-use Rattle.std.proofs.Common.{◌≡◌, ℕ, zero, suc, ◌+◌, ◌-◌, ◌==◌, ◌<◌, Bool, true, false, List, [], ◌∷◌, ◌++◌, map, take, drop, length, Option, Some, refl, ap, sym, ◌∙◌, subst, arith, append_assoc, length-append}
+use Rattle.std.proofs.Common.{◌≡◌, ℕ, zero, suc, ◌+◌, ◌-◌, ◌==◌, ◌<◌, true, List, [], ◌∷◌, ◌++◌, map, take, drop, length, Option, Some, refl, ap, sym, ◌∙◌, subst, arith, append_assoc, length-append}
 use Rattle.std.specs.Prelude.{chars, if◌then◌else◌, replicate}
 use Rattle.std.specs.List.{AllByRecursion, flat_map}
 use Rattle.std.proofs.lemmas.Bool.Decides.{nat_tests}
@@ -31,6 +31,7 @@ use Rattle.mad_rows.specs.RowStyles.{compound_style, line_style}
 use Rattle.mad_rows.specs.Rows.{compound_piece, inner_blanks, margins_of, outer_blanks, prefix_pieces}
 use Rattle.mad_rows.specs.declared.row_skin.RowSkin.{RowSkin}
 use Rattle.mad_sections.specs.Gutters.{columns_of}
+use Rattle.mad_sections.proofs.Choices.{by_bool}
 use Rattle.mad_page_rows.specs.FaceLaws.{fronts}
 use Rattle.mad_page_rows.specs.Faces.{backs, faces, has_ascii_boxes, line_skin, page_row_pieces}
 use Rattle.mad_page_rows.proofs.FillLemmas.{faces_fill}
@@ -41,10 +42,6 @@ use Rattle.mad_hits.specs.Styled.{reversed, styled_compound, styled_text}
 use Rattle.mad_front_rows.specs.HitLaws.{HitsChangeNoCharacter, cell_chars, hit_in, penned}
 
 -- ---- cells of characters
-
-by_bool : (P : Bool → Type 0) (b : Bool) → (b ≡ true → P true) → (b ≡ false → P false) → P b
-by_bool P true on off = on refl
-by_bool P false on off = off refl
 
 whole_attach : (n : ℕ) (pen : Look) (c : ℕ) (r : List ℕ × List Glyph) → 0 < n → (attach (Some n) pen c r).0 ≡ []
 whole_attach zero pen c r some = absurd (omega arith)

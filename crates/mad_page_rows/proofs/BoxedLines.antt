@@ -1,5 +1,5 @@
 -- Lines in a box are drawn as they are elsewhere, but for their style.
-use Rattle.std.proofs.Common.{◌≡◌, ℕ, zero, suc, ◌+◌, Bool, true, false, List, [], ◌∷◌, ◌++◌, map, chars, refl, ap, sym, ◌∙◌, subst, arith, if◌then◌else◌}
+use Rattle.std.proofs.Common.{◌≡◌, ℕ, zero, suc, ◌+◌, List, [], ◌∷◌, ◌++◌, map, chars, refl, ap, sym, ◌∙◌, subst, arith, if◌then◌else◌}
 use Rattle.std.specs.List.{AllByRecursion}
 use Rattle.std.specs.Str.{IsUtf8}
 use Rattle.std.proofs.lemmas.List.{map-append}
@@ -21,6 +21,7 @@ use Rattle.mad_rows.specs.RowStyles.{line_style}
 use Rattle.mad_rows.specs.declared.row_skin.RowSkin.{RowSkin}
 use Rattle.mad_layout.specs.Drawable.{FillsItsPlace, IsDrawable, IsDrawableLine, AreDrawable}
 use Rattle.mad_sections.specs.declared.gutters.Gutter.{Gutter}
+use Rattle.mad_sections.proofs.Choices.{by_bool}
 use Rattle.mad_page_rows.specs.Faces.{in_box, line_skin}
 
 -- the texts of pieces
@@ -97,10 +98,6 @@ all_boxed : (skin : RowSkin) (width : ℕ) (ls : List FmtLine) → AreDrawable s
 all_boxed skin width [] h = tt
 all_boxed skin width (l ∷ ls) h = (line_boxed skin width l h.0, all_boxed skin width ls h.1)
 
-by_bool : (P : Bool → Type 0) (b : Bool) → P true → P false → P b
-by_bool P true on off = on
-by_bool P false on off = off
-
 -- so they are in the skin of a row behind any gutters
 pub drawable_behind : (skin : RowSkin) (gutters : List Gutter) (width : ℕ) (ls : List FmtLine) → AreDrawable skin width ls → AreDrawable (line_skin skin gutters) width ls
-drawable_behind skin gutters width ls h = by_bool (λ t. AreDrawable (if t then boxed skin else skin) width ls) (in_box skin gutters) (all_boxed skin width ls h) h
+drawable_behind skin gutters width ls h = by_bool (λ t. AreDrawable (if t then boxed skin else skin) width ls) (in_box skin gutters) (λ e. all_boxed skin width ls h) (λ e. h)

@@ -30,6 +30,7 @@ use Rattle.mad_rows.specs.declared.row_skin.RowSkin.{RowSkin}
 use Rattle.mad_sections.specs.Gutters.{gutter_columns, columns_of}
 use Rattle.mad_sections.specs.declared.gutters.Gutter.{Gutter}
 use Rattle.mad_sections.specs.declared.gutters.Gutter.TheVariants.{Bar, Bullet, Number, Task, Code}
+use Rattle.mad_sections.proofs.Choices.{by_bool}
 use Rattle.mad_pages.specs.PageRows.{RowContent}
 use Rattle.mad_page_rows.specs.FaceLaws.{AreFacesShown, IsTypedGutter, front_columns, fronts, FacesFill, RowsFill, CellsAreBehind}
 use Rattle.mad_page_rows.specs.Faces.{has_ascii_boxes, has_boxes, box_text, blanks, code_blanks, code_face, first_face, other_face, face, faces, is_code, codes, back_columns, backs, behind_pieces, page_row_pieces}
@@ -117,10 +118,6 @@ number_fills skin n h fits =
     let suffix = column_piece (ordered_item_style skin 0).index_suffix h.suffix in
     let after : FillsRow 2 (char_piece (ordered_item_style skin 0).index_suffix ∷ blanks skin 1) = piece_fills skin _ 1 suffix.shown suffix.one in
     record { shown = (number_shown (ordered_item_style skin 0).index_style n fits, after.shown); columns = omega (arith, number_columns n fits, after.columns) }
-
-by_bool : (P : Bool → Type 0) (b : Bool) → (b ≡ true → P true) → (b ≡ false → P false) → P b
-by_bool P true on off = on refl
-by_bool P false on off = off refl
 
 sides_fill : (skin : RowSkin) (n : ℕ) → FillsRow n (code_blanks skin n)
 sides_fill skin n = record { shown = shown_spaces skin.code_block.compound_style n; columns = spaces_columns skin.code_block.compound_style n }

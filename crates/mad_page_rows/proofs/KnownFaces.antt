@@ -8,6 +8,7 @@ use Rattle.mad_rows.specs.declared.row_skin.RowSkin.{RowSkin}
 use Rattle.mad_sections.specs.Gutters.{gutter_columns, columns_of}
 use Rattle.mad_sections.specs.declared.gutters.Gutter.{Gutter}
 use Rattle.mad_sections.specs.declared.gutters.Gutter.TheVariants.{Bar, Bullet, Number, Task, Code}
+use Rattle.mad_sections.proofs.Choices.{by_bool}
 use Rattle.mad_pages.specs.PageRows.{RowContent}
 use Rattle.mad_page_rows.specs.AreaRows.{AreKnownFaces}
 use Rattle.mad_page_rows.specs.Faces.{has_boxes, blanks, code_blanks, code_face, first_face, other_face, face, faces, back_columns, backs, behind_pieces, page_row_pieces}
@@ -18,12 +19,8 @@ blanks_known skin n h = spaces_known skin.paragraph.compound_style n h.parts.par
 sides_known : (skin : RowSkin) (n : ℕ) → AreKnownFaces skin → AreKnown (code_blanks skin n)
 sides_known skin n h = spaces_known skin.code_block.compound_style n h.parts.code_block
 
-by_bool : (P : Bool → Type 0) (b : Bool) → P true → P false → P b
-by_bool P true on off = on
-by_bool P false on off = off
-
 code_known : (skin : RowSkin) → AreKnownFaces skin → AreKnown (code_face skin)
-code_known skin h = by_bool (λ t. AreKnown (if t then code_blanks skin 1 else blanks skin 2)) (has_boxes skin) (sides_known skin 1 h) (blanks_known skin 2 h)
+code_known skin h = by_bool (λ t. AreKnown (if t then code_blanks skin 1 else blanks skin 2)) (has_boxes skin) (λ e. sides_known skin 1 h) (λ e. blanks_known skin 2 h)
 
 first_known : (skin : RowSkin) (g : Gutter) → AreKnownFaces skin → AreKnown (first_face skin g)
 first_known skin Bar h = (h.parts.quote_mark, blanks_known skin 1 h)

@@ -31,14 +31,11 @@ use Rattle.mad_sections.specs.UnfoldLaws.{IsListOf}
 use Rattle.mad_sections.specs.Unfolded.{lacks_room, unfolded}
 use Rattle.mad_sections.proofs.TableLemmas.{text_is_said, widths_count}
 use Rattle.mad_sections.proofs.KeptLemmas.{list_when, stays_when}
+use Rattle.mad_sections.proofs.Choices.{by_bool}
 use Rattle.mad_pages.specs.PageLayouts.{IsSectionAt, BecomesAt}
 use Rattle.mad_pages.specs.PageRows.{RowContent}
 use Rattle.mad_pages.proofs.PageLemmas.{sections_are_layouts}
 use Rattle.mad_pages.specs.WholeTables.{columns_of, KeepWords, IsWholeTable, TablesAreWhole, ListsAreNeeded}
-
-by_bool : (P : Bool → Type 0) (b : Bool) → (b ≡ true → P true) → (b ≡ false → P false) → P b
-by_bool P true on off = on refl
-by_bool P false on off = off refl
 
 -- ---- words
 

@@ -36,13 +36,10 @@ use Rattle.mad_blocks.specs.Tables.{columns_with, columns_from, centered, below,
 use Rattle.mad_sections.specs.CellWords.{longest_word as own_word}
 use Rattle.mad_sections.specs.TableTexts.{runs_text, cell_text, columns_count, rows_in, longest_in}
 use Rattle.mad_sections.proofs.TableLemmas.{text_is_said}
+use Rattle.mad_sections.proofs.Choices.{by_bool}
 use Rattle.mad_pages.specs.WholeTables.{columns_of, KeepWords}
 use Rattle.mad_pages.proofs.WholeLemmas.{same_from}
 use Rattle.mad_pages.specs.WholeWords.{words_after, words_of, IsWholeWrap, CellsKeepWords, ArePlainCells, TablesKeepWords}
-
-by_bool : (P : Bool → Type 0) (b : Bool) → (b ≡ true → P true) → (b ≡ false → P false) → P b
-by_bool P true on off = on refl
-by_bool P false on off = off refl
 
 -- ---- longest words
 

@@ -15,10 +15,7 @@ use Rattle.mad_sections.specs.Items.{paragraph, colon, label, cell_lines, row_li
 use Rattle.mad_sections.specs.TableTexts.{runs_text, cell_text, are_table, rows_in, has_room}
 use Rattle.mad_sections.specs.Unfolded.{lacks_room, list_sections, as_list, unfolded_in, unfolded}
 use Rattle.mad_sections.specs.UnfoldLaws.{lines_text, row_text, IsMadeOfBoth, labels_text, KeepsRow, first_fresh, IsListOf, NothingIsLost, Stay, columns_of, LabelsAreShort, ItemsAreShort}
-
-by_bool : (P : Bool → Type 0) (b : Bool) → (b ≡ true → P true) → (b ≡ false → P false) → P b
-by_bool P true on off = on refl
-by_bool P false on off = off refl
+use Rattle.mad_sections.proofs.Choices.{by_bool}
 
 -- ---- texts made of two
 

@@ -7,6 +7,7 @@ use Rattle.mad_sections.specs.Gutters.{gutter_columns, columns_of, shown_at, roo
 use Rattle.mad_sections.specs.RoomLaws.{RoomsLast, LessThanHalf, AreLast, ShownAreLast, NoneLonger}
 use Rattle.mad_sections.specs.declared.gutters.Gutter.{Gutter}
 use Rattle.mad_sections.specs.declared.gutters.Gutter.TheVariants.{Bar, Bullet, Number, Task, Code}
+use Rattle.mad_sections.proofs.Choices.{by_bool}
 
 is_less : (m n : ℕ) → m < n → nat_lt m n ≡ true
 is_less m n l = grind (arith, nat_tests)
@@ -19,10 +20,6 @@ less_by m n on = grind (arith, nat_tests, on)
 
 not_by : (m n : ℕ) → nat_lt m n ≡ false → n ≤ m
 not_by m n off = grind (arith, nat_tests, off)
-
-by_bool : (P : Bool → Type 0) (b : Bool) → (b ≡ true → P true) → (b ≡ false → P false) → P b
-by_bool P true on off = on refl
-by_bool P false on off = off refl
 
 -- either a number is less than another, or it isn't
 by_less : (P : List Gutter → Type 0) (m n : ℕ) (x y : List Gutter) → (m < n → P x) → (n ≤ m → P y) → P (if nat_lt m n then x else y)

@@ -12,6 +12,7 @@ use Rattle.mad_md.specs.declared.composite.Composite.{Composite}
 use Rattle.mad_md.specs.declared.line.Line.{Line}
 use Rattle.mad_sections.specs.CellWords.{capped, longest_word}
 use Rattle.mad_sections.specs.TableTexts.{runs_text, cell_text, rows_in, columns_in, columns_count, longest_in, least_width, least_widths, stand_in}
+use Rattle.mad_sections.proofs.Choices.{by_bool}
 
 -- ---- line by line
 
@@ -114,10 +115,6 @@ within_by m n on = grind (arith, nat_tests, on)
 
 past_by : (m n : ℕ) → nat_le m n ≡ false → n < m
 past_by m n off = grind (arith, nat_tests, off)
-
-by_bool : (P : Bool → Type 0) (b : Bool) → (b ≡ true → P true) → (b ≡ false → P false) → P b
-by_bool P true on off = on refl
-by_bool P false on off = off refl
 
 -- two tests of the same
 same_test : (a b c d : ℕ) → (a ≤ b → c ≤ d) → (c ≤ d → a ≤ b) → nat_le a b ≡ nat_le c d

@@ -10,15 +10,12 @@ use Rattle.mad_sections.specs.declared.gutters.Gutter.TheVariants.{Bullet}
 use Rattle.mad_sections.specs.Items.{item_lines, are_short, items_of}
 use Rattle.mad_sections.specs.TableTexts.{are_table, rows_in, has_room}
 use Rattle.mad_sections.specs.Unfolded.{lacks_room, list_sections, as_list, unfolded_in, unfolded}
+use Rattle.mad_sections.proofs.Choices.{by_bool}
 use Rattle.markdown_sections.specs.Faces.{items_in, faces_in, faces_of}
 use Rattle.markdown_sections.specs.ListedSections.{MayBeListed}
 use Rattle.markdown_sections.proofs.FaceLemmas.{items_with_last}
 use Rattle.markdown_sections.proofs.NestedLemmas.{may_be_listed}
 use Rattle.markdown_pages.specs.ShownFaces.{ShowsFaces, ListsShowFaces}
-
-by_bool : (P : Bool → Type 0) (b : Bool) → (b ≡ true → P true) → (b ≡ false → P false) → P b
-by_bool P true on off = on refl
-by_bool P false on off = off refl
 
 -- behind gutters, so many of which begin, one more bullet begins
 bullet_more : (gs : List Gutter) (f : ℕ) → f ≤ length gs → items_in (drop (length (gs ++ Bullet ∷ []) - (f + 1)) (gs ++ Bullet ∷ [])) ≡ 1 + items_in (drop (length gs - f) gs)
