@@ -8,7 +8,6 @@ pub mod PartRuns
 pub mod PassLemmas
 pub mod TableLemmas
 pub mod TableWidths
-pub mod WordLemmas
 pub mod WideLayouts
 pub mod WorkedTables
 pub mod WrapKinds

@@ -1,4 +1,3 @@
-pub mod CellWords
 pub mod CodeBlocks
 pub mod FittingLayouts
 pub mod Fronts

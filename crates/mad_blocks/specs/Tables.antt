@@ -11,7 +11,7 @@ use Rattle.mad_format.specs.FmtLines.{bordered}
 use Rattle.mad_format.specs.WrappedLines.{Wrap}
 use Rattle.mad_format.specs.Wraps.{text_of}
 use Rattle.mad_wrap.specs.WrapLines.{capped}
-use Rattle.mad_blocks.specs.CellWords.{longest_word}
+use Rattle.mad_sections.specs.CellWords.{longest_word}
 use Rattle.mad_format.specs.LineRules.{LineRules}
 use Rattle.mad_format.specs.Lists.{most}
 use Rattle.mad_format.specs.declared.composite.FmtComposite.{FmtComposite}

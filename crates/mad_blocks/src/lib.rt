@@ -2,7 +2,7 @@
 //!
 //! In the order of the work:
 //!
-//! 1. `cell_words`: the longest words of cells. `table_columns`: the widths of a table's columns, and how cells are aligned in them.
+//! 1. `table_columns`: the widths of a table's columns, and how cells are aligned in them.
 //! 2. [`table_rows`]: the rows that a row of a table becomes.
 //! 3. [`table_layout`]: whole tables.
 //! 4. [`code_blocks`]: finding and placing blocks of code by themselves.
@@ -13,7 +13,6 @@
 //! A single line, and how it is wrapped, is in `mad_format`.
 #![tactic(auto)]
 
-mod cell_words;
 pub mod code_blocks;
 pub mod laws;
 pub mod laying;

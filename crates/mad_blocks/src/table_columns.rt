@@ -6,10 +6,10 @@ ghost use Rattle.mad_widths.specs.SeenCells.{TableHasSeen};
 ghost use Rattle.mad_blocks.specs.Tables.{columns_with, centered, columns_from, columns_count, columns_in, rows_among, measure_of, measures_in, AreKeptWidths};
 ghost use Rattle.mad_format.specs.declared.composite.FmtComposite.{FmtComposite};
 
-use crate::cell_words::longest_word;
 use mad_fit::Spacing;
 use mad_format::{FmtComposite, FmtLine};
 use mad_md::Alignment;
+use mad_sections::cell_words::longest_word;
 use mad_widths::TblFit;
 use std::alloc::{AllocError, Global};
 

@@ -5,7 +5,7 @@ use Rattle.mad_md.specs.Flagged.{FlaggedChar}
 use Rattle.mad_md.specs.Lines.{StyledRuns, LineContent, normal, table_row, table_rule, horizontal_rule}
 use Rattle.mad_style.specs.Kinds.{kind_of}
 use Rattle.mad_style.specs.declared.kinds.CompositeKind.{CompositeKind}
-use Rattle.mad_blocks.specs.CellWords.{longest_word}
+use Rattle.mad_sections.specs.CellWords.{longest_word}
 use Rattle.mad_fit.specs.TextColumns.{width_of}
 use Rattle.mad_wrap.specs.WrapLines.{capped}
 use Rattle.mad_blocks.specs.TextParts.{is_table}

@@ -8,7 +8,7 @@ use Rattle.mad_fit.specs.declared.spacing.Spacing.{Spacing}
 use Rattle.mad_wrap.specs.WrapLines.{capped}
 use Rattle.mad_format.specs.Indents.{indent}
 use Rattle.mad_layout.specs.LineTexts.{runs_text}
-use Rattle.mad_blocks.specs.CellWords.{longest_word}
+use Rattle.mad_sections.specs.CellWords.{longest_word}
 use Rattle.mad_blocks.specs.Tables.{columns_with, centered, first_columns, widths_by}
 use Rattle.mad_blocks.specs.TextParts.{columns_among}
 use Rattle.mad_rows.specs.declared.row_skin.RowSkin.{RowSkin}

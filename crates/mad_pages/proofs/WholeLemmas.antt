@@ -19,13 +19,12 @@ use Rattle.mad_format.specs.Wraps.{text_of}
 use Rattle.mad_format.specs.declared.composite.FmtComposite.{FmtComposite}
 use Rattle.mad_format.specs.declared.line.FmtLine.{FmtLine}
 use Rattle.mad_format.specs.declared.line.FmtLine.TheVariants.{Normal, TableRow, TableRule, HorizontalRule}
-use Rattle.mad_blocks.specs.CellWords.{longest_from, longest_word}
 use Rattle.mad_blocks.specs.LayoutParts.{Part, table, with_table, parts_of, wrap_width, ArePartsAt}
 use Rattle.mad_blocks.specs.Layouts.{AreRead, IsLayoutAt}
 use Rattle.mad_blocks.specs.Tables.{centered, first_columns, measure_of, rows_among, columns_count as fmt_columns_count, AreKeptWidths, AreTableLinesBy}
 use Rattle.mad_sections.specs.Gutters.{room_at, room}
 use Rattle.mad_sections.specs.Sections.{SectionContent}
-use Rattle.mad_sections.specs.CellWords.{longest_from as own_from, longest_word as own_word}
+use Rattle.mad_sections.specs.CellWords.{longest_from, longest_word}
 use Rattle.mad_sections.specs.TableTexts.{runs_text, cell_text, are_table, columns_count, rows_in, longest_in, least_width, least_widths, has_room}
 use Rattle.mad_sections.specs.UnfoldLaws.{IsListOf}
 use Rattle.mad_sections.specs.Unfolded.{lacks_room, unfolded}
@@ -39,28 +38,22 @@ use Rattle.mad_pages.specs.WholeTables.{columns_of, KeepWords, IsWholeTable, Tab
 
 -- ---- words
 
--- the layout's longest word is the table's own
-pub same_from : (word : ℕ) (xs : List FlaggedChar) → longest_from word xs ≡ own_from word xs
-same_from word [] = refl
-same_from word (x ∷ xs) = by_bool (λ t. (if t then max word (longest_from 0 xs) else longest_from (word + char_columns x.char) xs) ≡ (if t then max word (own_from 0 xs) else own_from (word + char_columns x.char) xs)) (is_blank x)
-    (λ e. ap (max word) (same_from 0 xs)) (λ e. same_from (word + char_columns x.char) xs)
-
 -- no word is longer than its text
-word_within : (word : ℕ) (xs : List FlaggedChar) → own_from word xs ≤ word + width_of xs
+word_within : (word : ℕ) (xs : List FlaggedChar) → longest_from word xs ≤ word + width_of xs
 word_within word [] = omega arith
-word_within word (x ∷ xs) = by_bool (λ t. (if t then max word (own_from 0 xs) else own_from (word + char_columns x.char) xs) ≤ word + (char_columns x.char + width_of xs)) (is_blank x)
+word_within word (x ∷ xs) = by_bool (λ t. (if t then max word (longest_from 0 xs) else longest_from (word + char_columns x.char) xs) ≤ word + (char_columns x.char + width_of xs)) (is_blank x)
     (λ e. let more = word_within 0 xs in omega (arith, more)) (λ e. let more = word_within (word + char_columns x.char) xs in omega (arith, more))
 
 -- a cell that was read
 pub record IsMeasuredAs (said : StyledRuns) (cell : FmtComposite) : Type 0 where
-  pub word : measure_of true cell ≡ capped (own_word (cell_text said))
-  pub long : capped (own_word (cell_text said)) ≤ measure_of false cell
+  pub word : measure_of true cell ≡ capped (longest_word (cell_text said))
+  pub long : capped (longest_word (cell_text said)) ≤ measure_of false cell
 
 cell_measured : (skin : LineRules) (said : StyledRuns) (cell : FmtComposite) → IsCompositeRead skin said cell → IsMeasuredAs said cell
 cell_measured skin said cell read =
     let text : text_of cell ≡ cell_text said = text_is_said cell.compounds.items ∙ ap runs_text read.text in
-    let words : longest_word (text_of cell) ≡ own_word (cell_text said) = same_from 0 (text_of cell) ∙ ap own_word text in
-    let within : own_word (cell_text said) ≤ 0 + width_of (text_of cell) = let w = word_within 0 (text_of cell) in omega (arith, w, ap own_word text) in
+    let words : longest_word (text_of cell) ≡ longest_word (cell_text said) = ap longest_word text in
+    let within : longest_word (cell_text said) ≤ 0 + width_of (text_of cell) = let w = word_within 0 (text_of cell) in omega (arith, w, ap longest_word text) in
     record { word = ap capped words; long = omega (arith, read.measured, within) }
 
 -- ---- columns

@@ -30,15 +30,13 @@ use Rattle.mad_format.specs.declared.composite.FmtComposite.{FmtComposite}
 use Rattle.mad_format.specs.declared.line.FmtLine.{FmtLine}
 use Rattle.mad_format.specs.declared.line.FmtLine.TheVariants.{Normal, TableRow, TableRule, HorizontalRule}
 use Rattle.mad_format.specs.declared.table.RelativePosition.{RelativePosition}
-use Rattle.mad_blocks.specs.CellWords.{longest_from, longest_word}
 use Rattle.mad_blocks.specs.Layouts.{AreRead}
 use Rattle.mad_blocks.specs.Tables.{columns_with, columns_from, centered, below, position_at, AreCellsLaidOut, IsTableLineBy, AreTableLinesBy}
-use Rattle.mad_sections.specs.CellWords.{longest_word as own_word}
+use Rattle.mad_sections.specs.CellWords.{longest_from, longest_word}
 use Rattle.mad_sections.specs.TableTexts.{runs_text, cell_text, columns_count, rows_in, longest_in}
 use Rattle.mad_sections.proofs.TableLemmas.{text_is_said}
 use Rattle.mad_sections.proofs.Choices.{by_bool}
 use Rattle.mad_pages.specs.WholeTables.{columns_of, KeepWords}
-use Rattle.mad_pages.proofs.WholeLemmas.{same_from}
 use Rattle.mad_pages.specs.WholeWords.{words_after, words_of, IsWholeWrap, CellsKeepWords, ArePlainCells, TablesKeepWords}
 
 -- ---- longest words
@@ -129,7 +127,7 @@ cells_keep_words rules width cell lines whole paragraph within laid =
 abbrev Within : List ℕ → List StyledRuns → Type 0
 Within [] cells = Unit {0}
 Within (w ∷ widths) [] = Unit {0}
-Within (w ∷ widths) (c ∷ cells) = (own_word (cell_text c) ≤ w) × Within widths cells
+Within (w ∷ widths) (c ∷ cells) = (longest_word (cell_text c) ≤ w) × Within widths cells
 
 first_within : (w : ℕ) (widths : List ℕ) (rows : List (List StyledRuns)) → longest_in (flat_map (take 1) rows) ≤ w → AllByRecursion (Within widths) (map (drop 1) rows) → AllByRecursion (Within (w ∷ widths)) rows
 first_within w widths [] h more = tt
@@ -163,7 +161,7 @@ cells_fit rules (w ∷ widths) [] (x ∷ cells) read within plain = absurd read
 cells_fit rules (w ∷ widths) (c ∷ said) [] read within plain = absurd read
 cells_fit rules (w ∷ widths) (c ∷ said) (x ∷ cells) read within plain =
     let text : text_of x ≡ cell_text c = text_is_said x.compounds.items ∙ ap runs_text read.0.text in
-    let words : longest_word (text_of x) ≡ own_word (cell_text c) = same_from 0 (text_of x) ∙ ap own_word text in
+    let words : longest_word (text_of x) ≡ longest_word (cell_text c) = ap longest_word text in
     (read.0.kind ∙ plain.0, omega (arith, words, within.0), cells_fit rules widths said cells read.1 within.1 plain.1)
 
 lines_fit : (rules : LineRules) (widths : List ℕ) (cs : List LineContent) (ls : List FmtLine) → AreRead rules cs ls → AllByRecursion (Within widths) (rows_in cs) → ArePlainCells cs → AllByRecursion (RowFits widths) ls

@@ -16,7 +16,7 @@ use Rattle.mad_format.specs.WrappedLines.{Wrap}
 use Rattle.mad_format.specs.declared.line.FmtLine.{FmtLine}
 use Rattle.mad_format.specs.Wraps.{text_of}
 use Rattle.mad_format.specs.declared.composite.FmtComposite.{FmtComposite}
-use Rattle.mad_blocks.specs.CellWords.{longest_word}
+use Rattle.mad_sections.specs.CellWords.{longest_word}
 use Rattle.mad_blocks.specs.Tables.{centered, IsCellLaidOut, AreTableLinesBy}
 use Rattle.mad_sections.specs.TableTexts.{rows_in}
 use Rattle.mad_pages.specs.WholeTables.{IsWholeTable}

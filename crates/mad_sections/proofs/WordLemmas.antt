@@ -4,8 +4,7 @@ use Rattle.std.proofs.lemmas.Bool.{cases_Bool, cond-true, cond-false}
 use Rattle.mad_columns.specs.Columns.{char_columns}
 use Rattle.mad_md.specs.Flagged.{FlaggedChar, flagged, flags_of, is_blank}
 use Rattle.mad_md.specs.declared.compound.Compound.{Compound}
-use Rattle.mad_sections.specs.CellWords.{capped}
-use Rattle.mad_sections.specs.CellWords.{longest_from, longest_after}
+use Rattle.mad_sections.specs.CellWords.{capped, longest_from, longest_after}
 use Rattle.mad_sections.specs.declared.cell_words.Words.{Words}
 
 on_blank : (word : ℕ) (x : FlaggedChar) (xs : List FlaggedChar) → is_blank x ≡ true → longest_from word (x ∷ xs) ≡ max word (longest_from 0 xs)

@@ -48,7 +48,7 @@ impl Words {
 
 /// The columns of the longest word of compounds, 0 where there is none, and the greatest `usize` where it has more. A word goes
 /// on over the end of a compound. One pass over the text.
-pub(crate) fn longest_word(compounds: &[Compound]) -> usize
+pub fn longest_word(compounds: &[Compound]) -> usize
     ensures { result ≡ capped (longest_word (flagged_text compounds.now)) }
 {
     let mut words = Words {
