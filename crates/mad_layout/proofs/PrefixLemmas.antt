@@ -54,7 +54,8 @@ digits_columns (c ∷ cs) h =
 number_digits : (n : ℕ) → n < 2 ^ 32 → AllByRecursion IsDigit (decimal n)
 number_digits n fits = digits_by (suc n) n (omega arith) (omega (arith, fits)) (cases_lt n 10)
 
-number_shown : (style : CompoundStyle) (n : ℕ) → n < 2 ^ 32 → IsShownPiece (number_piece style n)
+-- a number is shown
+pub number_shown : (style : CompoundStyle) (n : ℕ) → n < 2 ^ 32 → IsShownPiece (number_piece style n)
 number_shown style n fits =
     let ascii : IsAscii (decimal n) = IsAscii-decimal n (omega (arith, fits)) in
     let digits : AllByRecursion IsDigit (decimal n) = number_digits n fits in
@@ -63,7 +64,8 @@ number_shown style n fits =
       shown = subst IsShown (sym (chars-IsAscii (decimal n) ascii)) (record { printed = digits_printed (decimal n) digits; whole = digits_whole (decimal n) digits });
     }
 
-number_columns : (n : ℕ) → n < 2 ^ 32 → columns (chars (decimal n)) ≡ length (decimal n)
+-- it takes a column for each digit
+pub number_columns : (n : ℕ) → n < 2 ^ 32 → columns (chars (decimal n)) ≡ length (decimal n)
 number_columns n fits = ap columns (chars-IsAscii (decimal n) (IsAscii-decimal n (omega (arith, fits)))) ∙ digits_columns (decimal n) (number_digits n fits)
 
 -- ---- spaces

@@ -27,6 +27,7 @@ use Rattle.mad_draw.proofs.PieceLemmas.{columns-both, spaces_columns, shown_spac
 use Rattle.mad_rows.specs.Rows.{number_piece, line_pieces}
 use Rattle.mad_rows.specs.RowStyles.{ordered_item_style}
 use Rattle.mad_rows.specs.declared.row_skin.RowSkin.{RowSkin}
+use Rattle.mad_layout.proofs.PrefixLemmas.{number_shown, number_columns}
 use Rattle.mad_sections.specs.Gutters.{gutter_columns, columns_of}
 use Rattle.mad_sections.specs.declared.gutters.Gutter.{Gutter}
 use Rattle.mad_sections.specs.declared.gutters.Gutter.TheVariants.{Bar, Bullet, Number, Task, Code}
@@ -34,7 +35,6 @@ use Rattle.mad_sections.proofs.Choices.{by_bool}
 use Rattle.mad_pages.specs.PageRows.{RowContent}
 use Rattle.mad_page_rows.specs.FaceLaws.{AreFacesShown, IsTypedGutter, front_columns, fronts, FacesFill, RowsFill, CellsAreBehind}
 use Rattle.mad_page_rows.specs.Faces.{has_ascii_boxes, has_boxes, box_text, blanks, code_blanks, code_face, first_face, other_face, face, faces, is_code, codes, back_columns, backs, behind_pieces, page_row_pieces}
-use Rattle.mad_page_rows.proofs.NumberLemmas.{number_shown, number_columns}
 
 -- ---- pieces, joined
 

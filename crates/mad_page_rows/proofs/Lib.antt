@@ -4,4 +4,3 @@ pub mod FaceLemmas
 pub mod FillLemmas
 pub mod FitLemmas
 pub mod KnownFaces
-pub mod NumberLemmas
