@@ -4,7 +4,7 @@ ghost use Rattle.std.specs.Prelude.{◌≡◌, ◌++◌, ◌-◌, Some, true, On
 ghost use Rattle.std.specs.Option.{option_copied};
 ghost use Rattle.mad_draw.specs.Pieces.{AreKnown, pieces_bytes};
 ghost use Rattle.mad_sections.specs.Gutters.{columns_of};
-ghost use Rattle.mad_rows.specs.RowStyles.{AreKnownParts, IsKnownItem};
+ghost use Rattle.mad_rows.specs.RowStyles.{IsKnownItem};
 ghost use Rattle.mad_pages.specs.PageRows.{row_content};
 ghost use Rattle.mad_page_rows.specs.AreaRows.{AreKnownFaces, row_shown};
 ghost use Rattle.mad_page_rows.specs.Faces.{behind_pieces, blanks, has_ascii_boxes, page_row_pieces};
@@ -13,7 +13,7 @@ use crate::faces::{blanks, columns_behind, has_ascii_boxes, line_skin};
 use crate::page_rows::PlacedPageRow;
 use mad_draw::Rows;
 use mad_pages::PageRow;
-use mad_rows::{RowSkin, know_row};
+use mad_rows::{RowSkin, know_parts, know_row};
 use mad_sections::Gutter;
 use mad_style::OrderedItemStyle;
 use std::alloc::AllocError;
@@ -114,11 +114,6 @@ pub fn know_faces(skin: &RowSkin)
     know_parts(*skin);
     know_item(*skin.ordered_item_style(0));
 }
-
-// So they are in the styles of a skin's parts.
-fn know_parts(skin: RowSkin)
-    ensures { AreKnownParts skin }
-{}
 
 // So they are in the styles of items.
 fn know_item(item: OrderedItemStyle)

@@ -220,8 +220,8 @@ fn know_styles(skin: &RowSkin)
     know_all(&skin.ordered_item_styles);
 }
 
-// So they are in the styles of its parts.
-fn know_parts(skin: RowSkin)
+/// The numbers of the colors in the styles of a skin's parts are bytes. Nothing is done.
+pub fn know_parts(skin: RowSkin)
     ensures { AreKnownParts skin }
 {}
 
