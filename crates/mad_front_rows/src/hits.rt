@@ -12,13 +12,12 @@ ghost use Rattle.mad_hits.specs.Hits.{marked_of};
 ghost use Rattle.mad_front_rows.specs.FrontHits.{AreRowsMarked, IsRowMarked, hit_behind};
 
 use crate::columns::columns_in_front;
-use crate::rows::columns_left;
 use mad_columns::char_columns;
 use mad_draw::{Rows, draw_rows};
 use mad_fit::Area;
 use mad_format::FmtLine;
 use mad_hits::{Hit, row_hits};
-use mad_page_rows::faces::line_skin;
+use mad_page_rows::faces::{columns_left, line_skin};
 use mad_pages::{Front, front_at};
 use mad_rows::RowSkin;
 use mad_style::StyledChar;

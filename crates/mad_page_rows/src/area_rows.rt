@@ -1,20 +1,19 @@
 //! The rows of a page in an area of the screen.
 
-ghost use Rattle.std.specs.Prelude.{◌≡◌, ◌++◌, ◌-◌, Some, true, OnOk, string_bytes, slice_get};
+ghost use Rattle.std.specs.Prelude.{◌≡◌, ◌++◌, Some, true, OnOk, string_bytes, slice_get};
 ghost use Rattle.std.specs.Option.{option_copied};
 ghost use Rattle.mad_draw.specs.Pieces.{AreKnown, pieces_bytes};
-ghost use Rattle.mad_sections.specs.Gutters.{columns_of};
 ghost use Rattle.mad_rows.specs.RowStyles.{IsKnownItem};
-ghost use Rattle.mad_pages.specs.PageRows.{row_content};
+ghost use Rattle.mad_pages.specs.Fronts.{front_content, row_behind};
 ghost use Rattle.mad_page_rows.specs.AreaRows.{AreKnownFaces, row_shown};
-ghost use Rattle.mad_page_rows.specs.Faces.{behind_pieces, blanks, has_ascii_boxes, page_row_pieces};
+ghost use Rattle.mad_page_rows.specs.Faces.{behind_pieces, blanks, page_row_pieces};
 
-use crate::faces::{blanks, columns_behind, has_ascii_boxes, line_skin};
-use crate::page_rows::PlacedPageRow;
+use crate::faces::{blanks, columns_left, line_skin};
+use crate::page_rows::PlacedFrontRow;
 use mad_draw::Rows;
-use mad_pages::PageRow;
+use mad_format::FmtLine;
+use mad_pages::{Front, PageRow, front_of};
 use mad_rows::{RowSkin, know_parts, know_row};
-use mad_sections::Gutter;
 use mad_style::OrderedItemStyle;
 use std::alloc::AllocError;
 
@@ -57,33 +56,36 @@ fn push_shown(
     ensures known { AreKnown (row_shown skin.now width (option_copied row.entry)) }
 {
     match row {
-        Some(row) => push_placed(bytes, skin, row, width),
+        Some(row) => push_placed(bytes, skin, front_of(row), &row.line, width),
         None => push_blanks(bytes, skin, width),
     }
 }
 
-// A row of a page in a place of this width.
-fn push_placed(
+/// Puts a line behind its front, in a place of this width, after the bytes that are there.
+pub fn push_placed(
     bytes: &mut String,
     skin: &RowSkin,
-    row: &PageRow,
+    front: Front,
+    line: &FmtLine,
     width: usize,
 ) -> Result<(), AllocError>
-    ensures writes { OnOk result (string_bytes bytes.new ≡ string_bytes bytes.old ++ pieces_bytes (page_row_pieces skin.now (Some width) true (row_content row.now))) }
-    ensures known { AreKnown (page_row_pieces skin.now (Some width) true (row_content row.now)) }
+    ensures writes { OnOk result (string_bytes bytes.new ≡ string_bytes bytes.old ++ pieces_bytes (page_row_pieces skin.now (Some width) true (row_behind (front_content front.entry) line.now))) }
+    ensures known { AreKnown (page_row_pieces skin.now (Some width) true (row_behind (front_content front.entry) line.now)) }
 {
     know_faces(skin);
-    know_behind(skin, row, width);
-    let placed = PlacedPageRow {
+    know_behind(skin, front, line, width);
+    let placed = PlacedFrontRow {
         skin,
-        row,
+        front,
+        line,
         outer: Some(width),
         filled: true,
     };
     write!(bytes, "{placed}")
 }
 
-fn push_blanks(bytes: &mut String, skin: &RowSkin, width: usize) -> Result<(), AllocError>
+/// Puts a row of blanks of this width after the bytes that are there.
+pub fn push_blanks(bytes: &mut String, skin: &RowSkin, width: usize) -> Result<(), AllocError>
     ensures writes { OnOk result (string_bytes bytes.new ≡ string_bytes bytes.old ++ pieces_bytes (blanks skin.now width)) }
     ensures known { AreKnown (blanks skin.now width) }
 {
@@ -93,18 +95,11 @@ fn push_blanks(bytes: &mut String, skin: &RowSkin, width: usize) -> Result<(), A
 }
 
 // The numbers of the colors of a row's line are bytes, behind its gutters.
-fn know_behind(skin: &RowSkin, row: &PageRow, width: usize)
-    ensures { AreKnown (behind_pieces skin.now (Some width) true (row_content row.now)) }
+fn know_behind(skin: &RowSkin, front: Front, line: &FmtLine, width: usize)
+    ensures { AreKnown (behind_pieces skin.now (Some width) true (row_behind (front_content front.entry) line.now)) }
 {
-    let rest = rest_behind(skin, row.gutters, width);
-    know_row(&line_skin(skin, row.gutters), Some(&row.line), rest);
-}
-
-// The columns behind gutters in a place of this width.
-fn rest_behind(skin: &RowSkin, gutters: &[Gutter], width: usize) -> usize
-    ensures { result ≡ width - columns_of (has_ascii_boxes skin.now) gutters.now }
-{
-    columns_behind(gutters, Some(width), has_ascii_boxes(skin)).unwrap_or(0)
+    let rest = columns_left(skin, front.gutters, width);
+    know_row(&line_skin(skin, front.gutters), Some(line), rest);
 }
 
 /// The numbers of the colors of faces are bytes. Nothing is done.

@@ -1,8 +1,8 @@
 //! What gutters show in a skin.
 
-ghost use Rattle.std.specs.Prelude.{◌≡◌, ◌≤◌, ◌||◌, length, Some};
+ghost use Rattle.std.specs.Prelude.{◌≡◌, ◌≤◌, ◌-◌, ◌||◌, length, Some};
 ghost use Rattle.mad_draw.specs.Pieces.{pieces_bytes, spaces};
-ghost use Rattle.mad_sections.specs.Gutters.{gutter_columns};
+ghost use Rattle.mad_sections.specs.Gutters.{columns_of, gutter_columns};
 ghost use Rattle.mad_page_rows.specs.Faces.{backs, box_text, code_face, codes, columns_behind, ends_in_code, face, has_ascii_boxes, has_boxes, in_box, is_code, line_skin};
 ghost use Rattle.mad_rows.specs.RowStyles.{ordered_item_style};
 
@@ -29,6 +29,13 @@ pub fn columns_behind(gutters: &[Gutter], outer: Option<usize>, ascii: bool) -> 
         columns = columns.saturating_sub(gutter_columns(*gutter, ascii));
     }
     Some(columns)
+}
+
+/// The columns that gutters leave in a place of this width.
+pub fn columns_left(skin: &RowSkin, gutters: &[Gutter], width: usize) -> usize
+    ensures { result ≡ width - columns_of (has_ascii_boxes skin.now) gutters.now }
+{
+    columns_behind(gutters, Some(width), has_ascii_boxes(skin)).unwrap_or(0)
 }
 
 // The box of a task.

@@ -4,34 +4,37 @@ ghost use Rattle.std.specs.Prelude.{Some};
 ghost use Rattle.mad_draw.specs.Pieces.{pieces_bytes};
 
 use crate::faces::{Faces, backs, columns_behind, has_ascii_boxes, is_filled, line_skin};
-use mad_pages::PageRow;
+use mad_format::FmtLine;
+use mad_pages::{Front, PageRow, front_of};
 use mad_rows::{PlacedLine, RowSkin};
 use mad_sections::Gutter;
 use std::fmt::{self, Display};
 
-/// A row of a page at an outer width: the faces of its gutters, and its line behind them.
+/// A line of a page at an outer width: the faces of what stands in front of it, the line behind them, and the other sides of boxes.
 #[derive(Clone, Copy)]
-pub struct PlacedPageRow<'a, 's> {
+pub struct PlacedFrontRow<'a, 's> {
     /// The skin that it is drawn in.
     pub skin: &'a RowSkin,
-    /// The row.
-    pub row: &'a PageRow<'s>,
+    /// What stands in front of its line.
+    pub front: Front<'s>,
+    /// The line.
+    pub line: &'a FmtLine<'s>,
     /// The columns that it has, if there is a width.
     pub outer: Option<usize>,
     /// Whether the columns right of it are filled up.
     pub filled: bool,
 }
 
-impl fmt::Display for PlacedPageRow<'_, '_> {
-    ghost use Rattle.mad_pages.specs.PageRows.{row_content};
+impl fmt::Display for PlacedFrontRow<'_, '_> {
+    ghost use Rattle.mad_pages.specs.Fronts.{front_content, row_behind};
     ghost use Rattle.mad_page_rows.specs.Faces.{page_row_pieces};
 
-    ghost output = { λ r. Some (pieces_bytes (page_row_pieces r.skin.now r.outer r.filled (row_content r.row.now))) };
+    ghost output = { λ r. Some (pieces_bytes (page_row_pieces r.skin.now r.outer r.filled (row_behind (front_content r.front) r.line.now))) };
 
     fn fmt<W: fmt::Write>(&self, f: &mut fmt::Formatter<W>) -> fmt::Result {
-        let row = self.row;
-        let others = row.gutters.len().saturating_sub(row.fresh);
-        let (others, fresh) = row.gutters.split_at(others);
+        let gutters = self.front.gutters;
+        let others = gutters.len().saturating_sub(self.front.fresh);
+        let (others, fresh) = gutters.split_at(others);
         let others = Faces {
             skin: self.skin,
             gutters: others,
@@ -44,13 +47,14 @@ impl fmt::Display for PlacedPageRow<'_, '_> {
         };
         let line = LineBehind {
             skin: self.skin,
-            row,
+            front: self.front,
+            line: self.line,
             outer: self.outer,
             filled: self.filled,
         };
         let sides = Backs {
             skin: self.skin,
-            gutters: row.gutters,
+            gutters,
         };
         others.fmt(f)?;
         fresh.fmt(f)?;
@@ -63,25 +67,26 @@ impl fmt::Display for PlacedPageRow<'_, '_> {
 #[derive(Clone, Copy)]
 struct LineBehind<'a, 's> {
     skin: &'a RowSkin,
-    row: &'a PageRow<'s>,
+    front: Front<'s>,
+    line: &'a FmtLine<'s>,
     outer: Option<usize>,
     filled: bool,
 }
 
 impl fmt::Display for LineBehind<'_, '_> {
-    ghost use Rattle.mad_pages.specs.PageRows.{row_content};
+    ghost use Rattle.mad_pages.specs.Fronts.{front_content, row_behind};
     ghost use Rattle.mad_page_rows.specs.Faces.{behind_pieces};
 
-    ghost output = { λ r. Some (pieces_bytes (behind_pieces r.skin.now r.outer r.filled (row_content r.row.now))) };
+    ghost output = { λ r. Some (pieces_bytes (behind_pieces r.skin.now r.outer r.filled (row_behind (front_content r.front) r.line.now))) };
 
     fn fmt<W: fmt::Write>(&self, f: &mut fmt::Formatter<W>) -> fmt::Result {
-        let row = self.row;
-        let skin = line_skin(self.skin, row.gutters);
+        let gutters = self.front.gutters;
+        let skin = line_skin(self.skin, gutters);
         let line = PlacedLine {
             skin: &skin,
-            line: &row.line,
-            outer: columns_behind(row.gutters, self.outer, has_ascii_boxes(self.skin)),
-            filled: is_filled(self.skin, row.gutters, self.filled),
+            line: self.line,
+            outer: columns_behind(gutters, self.outer, has_ascii_boxes(self.skin)),
+            filled: is_filled(self.skin, gutters, self.filled),
         };
         line.fmt(f)
     }
@@ -102,6 +107,38 @@ impl fmt::Display for Backs<'_> {
     fn fmt<W: fmt::Write>(&self, f: &mut fmt::Formatter<W>) -> fmt::Result {
         let sides = backs(self.skin, self.gutters);
         sides.fmt(f)
+    }
+}
+
+/// A row of a page at an outer width: the faces of its gutters, its line behind them, and the other sides of boxes.
+#[derive(Clone, Copy)]
+pub struct PlacedPageRow<'a, 's> {
+    /// The skin that it is drawn in.
+    pub skin: &'a RowSkin,
+    /// The row.
+    pub row: &'a PageRow<'s>,
+    /// The columns that it has, if there is a width.
+    pub outer: Option<usize>,
+    /// Whether the columns right of it are filled up.
+    pub filled: bool,
+}
+
+impl fmt::Display for PlacedPageRow<'_, '_> {
+    ghost use Rattle.mad_pages.specs.PageRows.{row_content};
+    ghost use Rattle.mad_page_rows.specs.Faces.{page_row_pieces};
+
+    ghost output = { λ r. Some (pieces_bytes (page_row_pieces r.skin.now r.outer r.filled (row_content r.row.now))) };
+
+    fn fmt<W: fmt::Write>(&self, f: &mut fmt::Formatter<W>) -> fmt::Result {
+        let row = self.row;
+        let placed = PlacedFrontRow {
+            skin: self.skin,
+            front: front_of(row),
+            line: &row.line,
+            outer: self.outer,
+            filled: self.filled,
+        };
+        placed.fmt(f)
     }
 }
 

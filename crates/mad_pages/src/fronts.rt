@@ -34,6 +34,16 @@ pub fn front_at<'s>(fronts: &[Front<'s>], row: usize) -> Front<'s>
     }
 }
 
+/// What stands in front of a row's line.
+pub fn front_of<'s>(row: &PageRow<'s>) -> Front<'s>
+    ensures { result ≡ record { gutters = row.now.gutters; fresh = row.now.fresh } }
+{
+    Front {
+        gutters: row.gutters,
+        fresh: row.fresh,
+    }
+}
+
 /// Lays out a section at a width in columns, if there is one: puts the lines of its rows after those that are there, and what stands in front
 /// of each after the fronts that are there.
 ///
