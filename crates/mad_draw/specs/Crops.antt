@@ -59,6 +59,7 @@ IsKept allowed (Filled c n) crop = crop ≡ filled c (min n allowed)
 abbrev pub unstyled_bytes : List ℕ → List ℕ
 unstyled_bytes cs = encode_utf8_all cs
 
+-- the bytes of characters in a style, as one piece
 abbrev pub styled_bytes : CompoundStyle → List ℕ → List ℕ
 styled_bytes style cs = piece_bytes style.object_style (encode_utf8_all cs)
 

@@ -44,9 +44,11 @@ abbrev pub sides_below : Rect → ℕ → List Placed
 sides_below r zero = []
 sides_below r (suc count) = sides_below r count ++ sides r (r.area.top + suc count)
 
+-- the top edge stands in the area's first row, from corner to corner
 abbrev pub top_edge : Rect → Placed
 top_edge r = edge r r.area.top r.border_style.top_left r.border_style.top r.border_style.top_right
 
+-- the bottom edge stands in the area's last row, from corner to corner
 abbrev pub bottom_edge : Rect → Placed
 bottom_edge r = edge r (r.area.top + (r.area.height - 1)) r.border_style.bottom_left r.border_style.bottom r.border_style.bottom_right
 
