@@ -22,25 +22,25 @@ returns-in_default-from_utf8_baseline g c = inl (record {
   is_whole = c.in_default.ensures;
   bytes = c.in_ok-bytes.bytes.items;
   read = c.in_ok-bytes.ensures;
-  undecoded = subst (λ (bytes : List ℕ). ¬ (IsUtf8 bytes)) c.as_slice.ensures.value c.in_default-from_utf8_baseline.ensures;
+  undecoded = subst (λ (bytes : List ℕ). ¬ (IsUtf8 bytes)) c.as_slice.ensures.value c.in_default-from_utf8_baseline.ensures.cases.0;
   unwritten = refl;
 })
 
 pub returns-in_err-write_call : goal.returns-in_err-write_call
 returns-in_err-write_call g c =
     write_exit _ _ _ _ _ c.from_residual-in_err-write_call.ensures.1
-    (has_written _ _ _ _ _ _ (started _ _ _ _ _ _ c.in_ok-call.ensures) c.in_default.ensures (has_read _ _ _ _ _ c.in_ok-bytes.ensures c.as_slice.ensures.value c.in-Ok-from_utf8_baseline.ensures.0 c.in-Ok-from_utf8_baseline.ensures.1) c.in_err-write_call.ensures.writes)
+    (has_written _ _ _ _ _ _ (started _ _ _ _ _ _ c.in_ok-call.ensures) c.in_default.ensures (has_read _ _ _ _ _ c.in_ok-bytes.ensures c.as_slice.ensures.value c.in-Ok.ensures.cases.0 c.in-Ok.ensures.cases.1) c.in_err-write_call.ensures.writes)
 
 pub returns-in_err-flush : goal.returns-in_err-flush
 returns-in_err-flush g c =
     flush_exit _ _ _ _ _ c.from_residual-in_err-flush.ensures.1
-    (has_written _ _ _ _ _ _ (started _ _ _ _ _ _ c.in_ok-call.ensures) c.in_default.ensures (has_read _ _ _ _ _ c.in_ok-bytes.ensures c.as_slice.ensures.value c.in-Ok-from_utf8_baseline.ensures.0 c.in-Ok-from_utf8_baseline.ensures.1) c.in_ok-write_call.ensures.writes)
+    (has_written _ _ _ _ _ _ (started _ _ _ _ _ _ c.in_ok-call.ensures) c.in_default.ensures (has_read _ _ _ _ _ c.in_ok-bytes.ensures c.as_slice.ensures.value c.in-Ok.ensures.cases.0 c.in-Ok.ensures.cases.1) c.in_ok-write_call.ensures.writes)
     c.in_err-flush.ensures
 
 pub returns : goal.returns
 returns g c = inl (record {
   written = _;
-  wrote = has_written _ _ _ _ _ _ (started _ _ _ _ _ _ c.in_ok-call.ensures) c.in_default.ensures (has_read _ _ _ _ _ c.in_ok-bytes.ensures c.as_slice.ensures.value c.in-Ok-from_utf8_baseline.ensures.0 c.in-Ok-from_utf8_baseline.ensures.1) c.in_ok-write_call.ensures.writes;
+  wrote = has_written _ _ _ _ _ _ (started _ _ _ _ _ _ c.in_ok-call.ensures) c.in_default.ensures (has_read _ _ _ _ _ c.in_ok-bytes.ensures c.as_slice.ensures.value c.in-Ok.ensures.cases.0 c.in-Ok.ensures.cases.1) c.in_ok-write_call.ensures.writes;
   flushed = c.in_ok-flush.ensures;
   shown = still_shown c.in_ok-call.call.skin _ _ _ _ _ c.in_ok-write_call.ensures.shown c.in_ok-flush.ensures;
 })
