@@ -42,7 +42,7 @@ IsPartRead skin (c ∷ cs) (block (l ∷ ls)) = IsCodeRead skin c l × AreCodeRe
 IsPartRead skin (c ∷ []) (single l) = (is_code c ≡ false) × (is_table c ≡ false) × IsLineRead (line_rules skin) c l
 IsPartRead skin _ _ = ⊥
 
--- the parts of a text, and that of what was read of each
+-- the parts of a text, and those of what was read of it
 abbrev pub ArePartsRead : RowSkin → List (List LineContent) → List Part → Type 0
 ArePartsRead skin [] [] = Unit {0}
 ArePartsRead skin (cs ∷ css) (p ∷ ps) = IsPartRead skin cs p × ArePartsRead skin css ps

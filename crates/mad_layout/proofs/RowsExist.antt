@@ -301,7 +301,7 @@ rows_alone r i line (t ∷ ts) fits =
 
 -- ---- no row is empty
 
--- it isn't empty
+-- the text isn't empty
 abbrev pub IsSome : List FlaggedChar → Type 0
 IsSome t = 0 < length t
 

@@ -41,7 +41,7 @@ IsSoundPrefix skin (OrderedListItem level index) = (index < 2 ^ 32) × IsColumnC
 IsSoundPrefix skin Quote = IsColumnChar (char_alone skin.quote_mark)
 IsSoundPrefix skin _ = Unit {0}
 
--- A line or a cell of this kind that is printable so, and has room in `width` columns where it doesn't fit.
+-- A line or a cell of this kind, whose prefix and runs are so, and that has room in `width` columns where it doesn't fit.
 pub record IsSoundText (skin : RowSkin) (width : ℕ) (kind : CompositeKind) (runs : List Run) : Type 0 where
   pub prefix : IsSoundPrefix skin kind
   pub printable : AllByRecursion IsSoundRun runs
@@ -53,7 +53,7 @@ AreSoundIn skin [] cells = Unit {0}
 AreSoundIn skin (w ∷ ws) [] = Unit {0}
 AreSoundIn skin (w ∷ ws) (cell ∷ cells) = IsSoundText skin w (kind_of cell.style) cell.runs × AreSoundIn skin ws cells
 
--- a line of any kind, in its part of a text
+-- a line of any kind that is so, in its part of a text
 abbrev pub IsSoundContent : RowSkin → ℕ → List LineContent → LineContent → Type 0
 IsSoundContent skin width part (normal line) = IsSoundText skin (inner_width skin width line) (kind_of line.style) line.runs
 IsSoundContent skin width part (table_row cells) = (2 ≤ width) × AreBordersShown skin × AreSoundIn skin (kept_widths skin width part) cells
