@@ -27,13 +27,13 @@ parts_joined wraps skin tables width [] qs own more h k = subst (λ (ls : List F
 parts_joined wraps skin tables width (p ∷ ps) qs own more (first, others, joins, here, rest) k =
     (first, others ++ more, ap (λ ls. ls ++ more) joins ∙ append_assoc first others more, here, parts_joined wraps skin tables width ps qs others more rest k)
 
--- the lines of a block that are laid out in their places are the part that it is
+-- what the lines of a block become, each in its place, is what its part becomes
 pub block_laid : (skin : LineRules) (tables : ℕ) (width : Option ℕ) (ls : List FmtComposite) (own : List FmtLine) → AreLinesAt IsCompositeWrap skin width (map Normal (justified (code_room skin width) ls)) own
     → ArePartsAt IsCompositeWrap skin tables width (block_parts ls) own
 block_laid skin tables width [] own h = h
 block_laid skin tables width (l ∷ ls) own h = (own, [], sym (append-nil own), h, refl)
 
--- a table that is laid out is the part that it is
+-- what a table becomes is what its part becomes
 pub table_laid : (skin : LineRules) (tables : ℕ) (width : Option ℕ) (ls own : List FmtLine) → IsTableLaidOutBy IsCompositeWrap skin (columns_count ls) tables ls own
     → ArePartsAt IsCompositeWrap skin tables width (table_parts ls) own
 table_laid skin tables width [] own (inl stays) = stays.1
