@@ -115,7 +115,7 @@ whole_both : (a b : List ℕ) → IsWhole a → IsWhole b → IsWhole (a ++ b)
 whole_both [] b p q = q
 whole_both (c ∷ a) b p q = p
 
--- nothing shows cells of its own
+-- an empty text shows cells of its own
 pub shown_nothing : IsShown []
 shown_nothing = record { printed = tt; whole = tt }
 
