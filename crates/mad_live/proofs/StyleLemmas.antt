@@ -34,12 +34,15 @@ rows_one : (begun more : List ℕ) → IsOneRow more → rows_from begun more �
 rows_one begun [] h = refl
 rows_one begun (c ∷ more) h = ap (λ t. cond t (begun ∷ rows_from [] more) (rows_from (begun ++ c ∷ []) more)) (is_no c 10 h.0) ∙ rows_one (begun ++ c ∷ []) more h.1
 
+-- bytes in one row are more of the row that has begun
 pub last_more : (a b : List ℕ) → IsOneRow b → last_in (a ++ b) ≡ last_in a ++ b
 last_more a b h = last-append [] a b ∙ last_one (last_in a) b h
 
+-- they end no row
 pub rows_more : (a b : List ℕ) → IsOneRow b → rows_in (a ++ b) ≡ rows_in a
 rows_more a b h = rows-append [] a b ∙ ap (λ (l : List (List ℕ)). rows_in a ++ l) (rows_one (last_in a) b h) ∙ append-nil (rows_in a)
 
+-- text is in one row
 pub text_in_row : (bytes : List ℕ) → AreText bytes → IsOneRow bytes
 text_in_row [] h = tt
 text_in_row (c ∷ bytes) h = (h.0.1, text_in_row bytes h.1)
@@ -51,11 +54,13 @@ numbers_in_row (c ∷ bytes) h = (h.0.1, numbers_in_row bytes h.1)
 no_newline : (c : ℕ) → 10 < c → c ≢ 10
 no_newline c h e = absurd (omega (arith, e))
 
+-- so are commands that set a style
 pub styles_in_row : (commands : List (List ℕ)) → AllByRecursion AreNumbers commands → IsOneRow (set_styles commands)
 styles_in_row [] h = tt
 styles_in_row (numbers ∷ commands) h =
     all_both (λ b. b ≢ 10) (set_style numbers) (set_styles commands) (no_newline 27 (lit< tt), (no_newline 91 (lit< tt), all_both (λ b. b ≢ 10) numbers (109 ∷ []) (numbers_in_row numbers h.0) (no_newline 109 (lit< tt), tt))) (styles_in_row commands h.1)
 
+-- so is the command that ends it
 pub reset_in_row : IsOneRow reset
 reset_in_row = (no_newline 27 (lit< tt), (no_newline 91 (lit< tt), (no_newline 48 (lit< tt), (no_newline 109 (lit< tt), tt))))
 
@@ -103,6 +108,7 @@ clash x e = absurd (cc)
 same_some : {A : Type 0} (x y : A) → Some x ≡ Some y → y ≡ x
 same_some x y e = cc
 
+-- a terminal in the middle of characters, which are read in two parts
 pub record Between (a b : List ℕ) (s r : PaperReading) : Type 0 where
   pub mid : PaperReading
   pub first : read_on a s ≡ Some mid
@@ -298,9 +304,11 @@ reset_plain s r h = reset_by s.mode s.paper r h
 
 -- ---- rows that leave the plain pen
 
+-- No style is set after this row: it is text, or ends with text after a style's end.
 abbrev pub RowEndsPlain : List ℕ → Type 0
 RowEndsPlain row = AreText row ⊎ ((before : List ℕ) × (since : List ℕ) × (row ≡ before ++ (reset ++ since)) × AreText since)
 
+-- where no style is set after bytes, none is set after their last row
 pub last_is_plain : (bytes : List ℕ) → EndsPlain bytes → RowEndsPlain (last_in bytes)
 last_is_plain bytes h =
     let last : last_in bytes ≡ last_in h.before ++ h.since = ap last_in h.is ∙ last_more h.before h.since (text_in_row h.since h.text) in
@@ -332,6 +340,7 @@ plain_row row p r utf8 (inr (before, since, is, text)) plain h =
 
 -- ---- the style is set again
 
+-- A style is set again after a row: it goes on as before the style's end, and only the pen has changed.
 pub record Restyled (w : ℕ) (row style : List ℕ) (p : Paper) : Type 0 where
   pub paper : Paper
   pub reads : Reads p style paper

@@ -76,6 +76,7 @@ status_pane skin line s = record { area = last_row s.page.columns s.page.rows; r
 abbrev pub prompt_row : ℕ → List RowPiece
 prompt_row y = char_piece (styled_char unstyled 47) ∷ []
 
+-- that slash, in the first cell of the last row
 abbrev pub prompt_pane : State → Pane
 prompt_pane s = record { area = prompt_cell s.page.rows; row = prompt_row }
 

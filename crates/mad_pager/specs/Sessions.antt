@@ -113,6 +113,7 @@ abbrev pub start_after : Option ℕ → State → ℕ
 start_after None s = s.page.top
 start_after (Some row) s = if shows_row s.page row then min (row + 1) (2 ^ 64 - 1) else s.page.top
 
+-- where a search of this session goes on
 abbrev pub search_start : State → ℕ
 search_start s = start_after s.found s
 
@@ -121,6 +122,7 @@ abbrev pub end_before : Option ℕ → State → ℕ
 end_before None s = s.page.top
 end_before (Some row) s = if shows_row s.page row then row else s.page.top
 
+-- where one backwards of this session goes on
 abbrev pub search_end : State → ℕ
 search_end s = end_before s.found s
 
@@ -198,6 +200,7 @@ abbrev pub IsLaidAnew : Option ScreenSize → MadSkin → List LineContent → S
 IsLaidAnew None skin text s new = new ≡ s
 IsLaidAnew (Some size) skin text s new = IsResized skin text size.columns size.rows s new
 
+-- a session is laid out for the size that it was told, if it was told one
 abbrev pub IsSettled : MadSkin → List LineContent → State → State → Type 0
 IsSettled skin text s new = IsLaidAnew s.told skin text s new
 

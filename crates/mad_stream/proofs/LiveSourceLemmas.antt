@@ -43,6 +43,7 @@ abbrev pub LiveNow : RowSkin → Option ℕ → ℕ → List ℕ → List ℕ �
 LiveNow skin width height text bytes live columns p q =
     (done : List ℕ) × IsLive columns (p.reach + length p.below + 1) p.above text done live q × ((bytes ≡ []) ⊎ ShowsSoFar columns height p.above skin width text q)
 
+-- What was read of a source so far and shown, of which these bytes wait.
 pub record LiveSoFar (skin : RowSkin) (width : Option ℕ) (height : ℕ) (source out : Trace) (live : LiveText) (place : Place) (waiting : List ℕ) (blocks : ℕ) (source_now out_now : Trace) : Type 0 where
   pub streamed : Streamed source out source_now out_now
   pub rest : streamed.front.rest ≡ waiting
@@ -54,6 +55,7 @@ pub record LiveSoFar (skin : RowSkin) (width : Option ℕ) (height : ℕ) (sourc
   pub height_is : live.rows.height ≡ height
   pub shows : LeadsTo skin width height (growing streamed.text) streamed.bytes (LiveNow skin width height (growing streamed.text) streamed.bytes live)
 
+-- nothing was read yet
 pub live_start : (skin : RowSkin) (width : Option ℕ) (height : ℕ) (source out : Trace) (live : LiveText) (waiting : List ℕ) → waiting ≡ [] → StartsLive live → live.stream.skin ≡ skin → live.stream.width ≡ width → live.rows.height ≡ height
     → LiveSoFar skin width height source out live LineStart waiting 0 source out
 live_start skin width height source out live waiting none start skin_is width_is height_is = record {
@@ -110,6 +112,7 @@ shows_more skin width height text next piece bytes old new before now skin_is wi
       ),
     )
 
+-- one more block was read and shown
 pub live_more : (skin : RowSkin) (width : Option ℕ) (height : ℕ) (source out : Trace) (old new : LiveText) (place : Place) (waiting got block left : List ℕ) (shown : Shown) (blocks : ℕ) (source_now source_next out_now out_next : Trace)
     → LiveSoFar skin width height source out old place waiting blocks source_now out_now → source_now ≡ ahead_all got source_next → 0 < length got → block ≡ waiting ++ got → ShowsBlock old place block shown new out_now out_next → left ≡ drop shown.used block
     → (k : LiveSoFar skin width height source out new shown.place left (blocks + 1) source_next out_next) × (shown.is_wrong ≡ true → BeginNoText k.streamed.read)
@@ -221,6 +224,7 @@ stopped skin width height source out live place waiting blocks source_now out_no
       };
     }
 
+-- it stopped after some bytes more, as the call answers
 pub stops : (T : Type 0) (e : SourceError) (skin : RowSkin) (width : Option ℕ) (height : ℕ) (source out : Trace) (live : LiveText) (place : Place) (waiting : List ℕ) (blocks : ℕ) (source_now out_now out_next source_last : Trace)
     → LiveSoFar skin width height source out live place waiting blocks source_now out_now → StopsAt out_now e out_next → (source_last ≡ source_now) ⊎ (source_last ≡ failed source_now) → ShowsSource {T = T} skin width height source out (Err e) source_last out_next
 stops T (Device f) skin width height source out live place waiting blocks source_now out_now out_next source_last h (bytes, went) reached =
@@ -268,6 +272,7 @@ block_stops T Memory skin width height source out live place waiting got block t
 block_stops T (Source f) skin width height source out live place waiting got block text blocks source_now source_next out_now out_next h handed is front at = absurd at
 block_stops T NotUtf8 skin width height source out live place waiting got block text blocks source_now source_next out_now out_next h handed is front at = absurd at
 
+-- it stopped in the middle of a block, as the call answers
 pub block_exit : {T : Type 0} (r : Result T SourceError) (e : SourceError) (skin : RowSkin) (width : Option ℕ) (height : ℕ) (source out : Trace) (live : LiveText) (place : Place) (waiting got block : List ℕ) (blocks : ℕ) (source_now source_next out_now out_next : Trace)
     → LiveSoFar skin width height source out live place waiting blocks source_now out_now → source_now ≡ ahead_all got source_next → block ≡ waiting ++ got → StopsInBlock block out_now e out_next → IsErrAnd r (λ d. d ≡ e) → ShowsSource skin width height source out r source_next out_next
 block_exit {T} r e skin width height source out live place waiting got block blocks source_now source_next out_now out_next h handed is stop refused =
@@ -415,6 +420,7 @@ piece_fed x old new piece n r before now utf8 is all fed skin width height =
       height = height;
     }
 
+-- a piece that was fed was refused
 pub piece_refused : (e : Error) (f : SourceError) (old new : LiveText) (piece : List ℕ) (n : ℕ) (r : Result (Unit {0}) Error) (before now : Trace) → r ≡ Err e → f ≡ refusal_of e
     → FeedsLive {T = Unit {0}} old (take n piece) new before r now ⊎ IsErrOf r writing.Memory → (IsErrOf r writing.Memory → now ≡ before) → StopsAt before f now
 piece_refused e f old new piece n r before now is told fed early =
@@ -438,12 +444,13 @@ block_shown old new place next block text piece is_wrong before between now fron
       went = went;
     }
 
--- what was fed is at its end
+-- the end of what was fed was refused
 pub finish_refused : (e : Error) (f : SourceError) (live : LiveText) (r : Result (Unit {0}) Error) (before now : Trace) → r ≡ Err e → f ≡ refusal_of e → EndsLive live before r now ⊎ IsErrOf r writing.Memory → (IsErrOf r writing.Memory → now ≡ before) → StopsAt before f now
 finish_refused e f live r before now is told ends early =
     subst (λ (d : SourceError). StopsAt before d now) (sym told)
     (end_stops (Unit {0}) e live before now (subst (λ (q : Result (Unit {0}) Error). EndsLive live before q now ⊎ IsErrOf q writing.Memory) is ends) (subst (λ (q : Result (Unit {0}) Error). IsErrOf q writing.Memory → now ≡ before) is early))
 
+-- the end of what was fed was shown, and flushed
 pub finish_shown : (x : Unit {0}) (live : LiveText) (r : Result (Unit {0}) Error) (before between now : Trace) → r ≡ Ok x → EndsLive live before r between ⊎ IsErrOf r writing.Memory → now ≡ flushed between → EndsShown live [] before now
 finish_shown x live r before between now is ends flush = end_shown_now x live before between now (subst (λ (q : Result (Unit {0}) Error). EndsLive live before q between ⊎ IsErrOf q writing.Memory) is ends) flush
 
@@ -454,6 +461,7 @@ finish_went x live before between (inr is) = absurd (clash is)
     clash : Ok x ≡ Err writing.Memory → ⊥
     clash is = cc
 
+-- the flush at a text's end was refused
 pub end_flush_exit : (r ended : Result (Unit {0}) SourceError) (e : SourceError) (x : Unit {0}) (live : LiveText) (s : Result (Unit {0}) Error) (before between now : Trace) → s ≡ Ok x → EndsLive live before s between ⊎ IsErrOf s writing.Memory
     → FlushesOut {T = Unit {0}} between (Err e) now → IsErrAnd r (λ d. d ≡ e) → EndsWith live [] ended before r now
 end_flush_exit r ended e x live s before between now is ends flush refused =
@@ -467,6 +475,7 @@ end_stop_exit r ended e live last before now at refused =
     let p = err_from_is_err_and r refused in
     subst (λ (q : Result (Unit {0}) SourceError). EndsWith live last ended before q now) (sym (p.1 ∙ ap Err p.2)) (inr at)
 
+-- where no carriage return came last, nothing more is shown at the end
 pub no_return : (p : Place) → p ≢ AfterReturn → end_shown p ≡ []
 no_return LineStart other = refl
 no_return InLine other = refl
