@@ -3,7 +3,10 @@
 ghost use Rattle.std.specs.Prelude.{◌≡◌, ◌≤◌, ◌+◌, length, drop, IsTrue};
 ghost use Rattle.std.specs.List.{prefix_len};
 ghost use Rattle.std.specs.Char.{is_ascii_digit};
-ghost use Rattle.code_colors.specs.Bytes.{first, is_blank_byte, is_space_byte, is_in_line, is_continuation, is_among, char_len, line_len, is_word_byte, word_len, begins_word, digits_len, blanks_len, begins};
+ghost use Rattle.code_tables.specs.Kinds.{is_blank_byte};
+ghost use Rattle.code_colors.specs.Bytes.{first, is_in_line, is_continuation, is_among, char_len, line_len, is_word_byte, word_len, begins_word, digits_len, blanks_len, begins};
+
+use code_tables::kinds::is_blank_byte;
 
 /// The first byte, 0 if there is none.
 pub fn first(bytes: &[u8]) -> u8
@@ -21,19 +24,6 @@ pub fn tail(bytes: &[u8], from: usize) -> &[u8]
     } else {
         &[]
     }
-}
-
-pub fn is_blank_byte(b: u8) -> bool
-    ensures { result ≡ is_blank_byte b }
-{
-    b == b' ' || b == b'\t'
-}
-
-/// Whether the byte is a blank or an end of a line.
-pub fn is_space_byte(b: u8) -> bool
-    ensures { result ≡ is_space_byte b }
-{
-    is_blank_byte(b) || b == b'\n' || b == b'\r'
 }
 
 fn is_continuation(b: u8) -> bool

@@ -1,20 +1,19 @@
 //! The token that begins at a place.
 
 ghost use Rattle.std.specs.Prelude.{◌≡◌, ◌<◌, ◌≤◌, ◌+◌, ◌-◌, ◌^◌, map, length, false};
-ghost use Rattle.code_colors.specs.Rules.{bytes_of, rule_of, word_of, mode_of};
-ghost use Rattle.code_colors.specs.Tables.{mode_at, rules_at};
+ghost use Rattle.code_tables.specs.Rules.{bytes_of, rule_of, word_of, mode_of};
+ghost use Rattle.code_tables.specs.Tables.{mode_at, rules_at};
 ghost use Rattle.code_colors.specs.Tokens.{marked_word, marked_up_to, behind, extent_len, begins_any, is_followed, followed_len, is_marked, rule_len, taken_of, is_exponent, is_number_byte, number_from, is_base, is_based, number_len, lowered, is_same, find_class, other_class, word_class, word_taken, other_taken, first_rule, capped, token_at};
 
 use crate::bytes::{
-    begins, begins_word, blanks_len, char_len, first, is_blank_byte, is_space_byte, is_word_byte,
-    line_len, tail, word_len,
+    begins, begins_word, blanks_len, char_len, first, is_word_byte, line_len, tail, word_len,
 };
 use crate::extents::{digits, nested, pattern, quoted_char, through, two_parts, up_to};
-use crate::kinds::kind_of;
 use crate::labels::labelled;
 use crate::places::{Before, is_placed};
-use crate::rules::{Class, Extent, Language, ModeRow, RuleRow, Turn};
-use crate::tables::{mode_at, rules_at, words_with};
+use code_tables::kinds::{is_blank_byte, is_space_byte, kind_of};
+use code_tables::rules::{Class, Extent, Language, ModeRow, RuleRow, Turn};
+use code_tables::tables::{mode_at, rules_at, words_with};
 
 /// A token of a byte and so many more, and what it does to the open modes.
 #[derive(Debug, Clone, Copy)]

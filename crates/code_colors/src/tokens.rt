@@ -4,8 +4,8 @@ ghost use Rattle.std.specs.Prelude.{◌≡◌, IfOk, OnOk};
 ghost use Rattle.code_colors.specs.Tokens.{turned, innermost, tokens_of, plain_tokens, tokens_by};
 
 use crate::places::{nothing_before, passed};
-use crate::rules::{Class, Language, Turn};
 use crate::token_at::token_at;
+use code_tables::rules::{Class, Language, Turn};
 use std::alloc::{AllocError, Global};
 
 /// A token of a byte and so many more.

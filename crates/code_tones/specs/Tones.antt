@@ -3,9 +3,9 @@ use Rattle.std.specs.Prelude.{ℕ, suc, ◌==◌, ◌||◌, Bool, not, List, [],
 use Rattle.std.specs.List.{filter, flat_map}
 use Rattle.std.specs.Char.{is_whitespace}
 use Rattle.bstr.specs.Utf8.{Decoded, or_replacement, pieces}
-use Rattle.code_colors.specs.declared.rules.Class.{Class}
-use Rattle.code_colors.specs.declared.rules.Class.TheVariants.{Plain, Comment, Text, Number, Keyword, Name, Key, Inserted, Deleted}
-use Rattle.code_colors.specs.declared.rules.Language.{Language}
+use Rattle.code_tables.specs.declared.rules.Class.{Class}
+use Rattle.code_tables.specs.declared.rules.Class.TheVariants.{Plain, Comment, Text, Number, Keyword, Name, Key, Inserted, Deleted}
+use Rattle.code_tables.specs.declared.rules.Language.{Language}
 use Rattle.code_colors.specs.declared.tokens.Token.{Token}
 use Rattle.code_colors.specs.Tokens.{tokens_by}
 use Rattle.mad_printable.specs.Pictures.{picture}

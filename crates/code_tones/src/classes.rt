@@ -3,7 +3,7 @@
 ghost use Rattle.std.specs.Prelude.{◌≡◌, ◌<◌};
 ghost use Rattle.code_tones.specs.Tones.{tone_of};
 
-use code_colors::rules::Class;
+use code_tables::rules::Class;
 
 /// How many tones there are.
 pub const TONES: usize = 9;

@@ -8,8 +8,8 @@ ghost use Rattle.mad_mark_runs.specs.Values.{AreRising, values_of};
 use crate::byte_tones::ByteTones;
 use crate::characters::{first_char, is_counted};
 use code_colors::bytes::tail;
-use code_colors::rules::Language;
 use code_colors::tokens::{Token, tokens_by};
+use code_tables::rules::Language;
 use mad_mark_runs::{MarkRun, push_run};
 use std::alloc::{AllocError, Global};
 

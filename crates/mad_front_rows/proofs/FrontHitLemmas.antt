@@ -17,8 +17,8 @@ use Rattle.mad_sections.specs.Gutters.{columns_of}
 use Rattle.mad_sections.specs.declared.gutters.Gutter.{Gutter}
 use Rattle.mad_page_rows.specs.FaceLaws.{fronts}
 use Rattle.mad_page_rows.specs.Faces.{has_ascii_boxes, line_skin}
-use Rattle.mad_fronts.specs.Fronts.{FrontContent, front_at}
-use Rattle.mad_fronts.specs.declared.fronts.Front.{Front}
+use Rattle.mad_pages.specs.Fronts.{FrontContent, front_at}
+use Rattle.mad_pages.specs.declared.fronts.Front.{Front}
 use Rattle.mad_front_rows.specs.FrontHits.{AreHitsBehind, AreRowsMarked, IsRowMarked, hit_behind}
 
 -- a hit more

@@ -9,7 +9,7 @@ use Rattle.mad_draw.specs.declared.scroll_bars.ScrollBar.{ScrollBar}
 use Rattle.mad_format.specs.declared.line.FmtLine.{FmtLine}
 use Rattle.mad_rows.specs.declared.row_skin.RowSkin.{RowSkin}
 use Rattle.mad_hits.proofs.TookLemmas.{known, took_in_turn}
-use Rattle.mad_fronts.specs.declared.fronts.Front.{Front}
+use Rattle.mad_pages.specs.declared.fronts.Front.{Front}
 use Rattle.mad_front_rows.specs.FrontHits.{AreRowsMarked}
 use Rattle.mad_front_rows.specs.FrontRows.{page_row}
 use Rattle.mad_front_rows.specs.Pages.{ArePanesDrawn, IsPageDrawn, page_rows, whole_area}

@@ -6,8 +6,8 @@ use Rattle.mad_draw.specs.declared.scroll_bars.ScrollBar.{ScrollBar}
 use Rattle.mad_format.specs.declared.line.FmtLine.{FmtLine}
 use Rattle.mad_rows.specs.declared.row_skin.RowSkin.{RowSkin}
 use Rattle.mad_page_rows.specs.FaceLaws.{AreFacesShown}
-use Rattle.mad_fronts.specs.Fronts.{front_at}
-use Rattle.mad_fronts.specs.declared.fronts.Front.{Front}
+use Rattle.mad_pages.specs.Fronts.{front_at}
+use Rattle.mad_pages.specs.declared.fronts.Front.{Front}
 use Rattle.mad_front_rows.specs.FrontHits.{AreRowsMarked}
 use Rattle.mad_front_rows.specs.PageLaws.{PageHitsStand, RowsStand}
 use Rattle.mad_front_rows.proofs.RowStandLemmas.{row_hits_stand}

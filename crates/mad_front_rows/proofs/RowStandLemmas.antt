@@ -14,7 +14,7 @@ use Rattle.mad_search.specs.Searches.{row_text}
 use Rattle.mad_sections.specs.Gutters.{columns_of}
 use Rattle.mad_page_rows.specs.FaceLaws.{fronts}
 use Rattle.mad_page_rows.specs.Faces.{has_ascii_boxes, line_skin, page_row_pieces}
-use Rattle.mad_fronts.specs.Fronts.{row_behind}
+use Rattle.mad_pages.specs.Fronts.{row_behind}
 use Rattle.mad_hits.specs.Hits.{AreTextsHits, Marked, marked_at, placed_texts, text_column}
 use Rattle.mad_hits.specs.Overs.{overs_above, overs_below}
 use Rattle.mad_hits.specs.Parts.{line_parts, part_above, part_below}

@@ -34,7 +34,7 @@ use Rattle.mad_sections.specs.Gutters.{columns_of}
 use Rattle.mad_page_rows.specs.FaceLaws.{fronts}
 use Rattle.mad_page_rows.specs.Faces.{backs, faces, has_ascii_boxes, line_skin, page_row_pieces}
 use Rattle.mad_page_rows.proofs.FillLemmas.{faces_fill}
-use Rattle.mad_fronts.specs.Fronts.{row_behind}
+use Rattle.mad_pages.specs.Fronts.{row_behind}
 use Rattle.mad_hits.specs.Drawn.{marked_columns}
 use Rattle.mad_hits.specs.Hits.{Marked, span, widthless}
 use Rattle.mad_hits.specs.Styled.{reversed, styled_compound, styled_text}

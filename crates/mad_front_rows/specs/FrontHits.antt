@@ -9,8 +9,8 @@ use Rattle.mad_hits.specs.Parts.{AreRowHits}
 use Rattle.mad_sections.specs.Gutters.{columns_of}
 use Rattle.mad_page_rows.specs.FaceLaws.{fronts}
 use Rattle.mad_page_rows.specs.Faces.{has_ascii_boxes, line_skin}
-use Rattle.mad_fronts.specs.Fronts.{FrontContent, front_at}
-use Rattle.mad_fronts.specs.declared.fronts.Front.{Front}
+use Rattle.mad_pages.specs.Fronts.{FrontContent, front_at}
+use Rattle.mad_pages.specs.declared.fronts.Front.{Front}
 
 -- a hit of a line, so many columns further right
 abbrev pub hit_behind : ℕ → Marked → Marked

@@ -4,8 +4,8 @@ use Rattle.mad_format.specs.declared.line.FmtLine.{FmtLine}
 use Rattle.mad_draw.specs.Pieces.{RowPiece}
 use Rattle.mad_rows.specs.declared.row_skin.RowSkin.{RowSkin}
 use Rattle.mad_page_rows.specs.Faces.{blanks, page_row_pieces}
-use Rattle.mad_fronts.specs.Fronts.{FrontContent, front_at, row_behind}
-use Rattle.mad_fronts.specs.declared.fronts.Front.{Front}
+use Rattle.mad_pages.specs.Fronts.{FrontContent, front_at, row_behind}
+use Rattle.mad_pages.specs.declared.fronts.Front.{Front}
 
 -- what a place of `width` columns shows of a line behind a front, if there is a line; else spaces in the paragraph's style
 abbrev pub row_shown : RowSkin → ℕ → FrontContent → Option FmtLine → List RowPiece

@@ -16,7 +16,7 @@ use Rattle.mad_rows.specs.declared.row_skin.RowSkin.{RowSkin}
 use Rattle.mad_sections.specs.Gutters.{columns_of}
 use Rattle.mad_page_rows.specs.FaceLaws.{AreFacesShown, IsTypedGutter, fronts}
 use Rattle.mad_page_rows.specs.Faces.{behind_pieces, has_ascii_boxes, line_skin, page_row_pieces}
-use Rattle.mad_fronts.specs.Fronts.{FrontContent, row_behind}
+use Rattle.mad_pages.specs.Fronts.{FrontContent, row_behind}
 use Rattle.mad_hits.specs.Drawn.{marked_columns}
 use Rattle.mad_hits.specs.Hits.{Marked, marked_at, text_column}
 use Rattle.mad_hits.specs.Styled.{styled_text}

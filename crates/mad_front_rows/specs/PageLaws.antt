@@ -13,8 +13,8 @@ use Rattle.mad_rows.specs.Rows.{prefix_pieces}
 use Rattle.mad_rows.specs.declared.row_skin.RowSkin.{RowSkin}
 use Rattle.mad_page_rows.specs.FaceLaws.{AreFacesShown, IsTypedGutter, fronts}
 use Rattle.mad_page_rows.specs.Faces.{behind_pieces, line_skin, page_row_pieces}
-use Rattle.mad_fronts.specs.Fronts.{FrontContent, front_at, row_behind}
-use Rattle.mad_fronts.specs.declared.fronts.Front.{Front}
+use Rattle.mad_pages.specs.Fronts.{FrontContent, front_at, row_behind}
+use Rattle.mad_pages.specs.declared.fronts.Front.{Front}
 use Rattle.mad_front_rows.specs.FrontHits.{AreRowsMarked, hit_behind}
 use Rattle.mad_front_rows.specs.Pages.{IsPageDrawn}
 use Rattle.mad_front_rows.specs.RowHitLaws.{StandsWithin}

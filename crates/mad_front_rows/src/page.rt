@@ -10,7 +10,7 @@ use crate::rows::FrontRows;
 use mad_draw::scroll_bars::{ScrollBar, columns_beside, draw_rows_beside};
 use mad_fit::Area;
 use mad_format::FmtLine;
-use mad_fronts::Front;
+use mad_pages::Front;
 use mad_rows::RowSkin;
 use mad_term::{Error, Out};
 use std::alloc::Global;

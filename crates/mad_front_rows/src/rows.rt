@@ -4,16 +4,16 @@ ghost use Rattle.std.specs.Prelude.{◌≡◌, ◌++◌, ◌-◌, Some, true, On
 ghost use Rattle.std.specs.Option.{option_copied};
 ghost use Rattle.mad_draw.specs.Pieces.{AreKnown, pieces_bytes};
 ghost use Rattle.mad_sections.specs.Gutters.{columns_of};
-ghost use Rattle.mad_fronts.specs.Fronts.{front_at, front_content, row_behind};
+ghost use Rattle.mad_pages.specs.Fronts.{front_at, front_content, row_behind};
 ghost use Rattle.mad_page_rows.specs.Faces.{behind_pieces, blanks, has_ascii_boxes, page_row_pieces};
 ghost use Rattle.mad_front_rows.specs.FrontRows.{row_shown};
 
 use mad_draw::Rows;
 use mad_format::FmtLine;
-use mad_fronts::{Front, front_at};
 use mad_page_rows::area_rows::know_faces;
 use mad_page_rows::faces::{backs, blanks, is_filled, line_skin};
 use mad_page_rows::{Faces, columns_behind, has_ascii_boxes};
+use mad_pages::{Front, front_at};
 use mad_rows::{PlacedLine, RowSkin, know_row};
 use mad_sections::Gutter;
 use std::alloc::AllocError;
@@ -35,7 +35,7 @@ pub struct PlacedFrontRow<'a, 's> {
 }
 
 impl fmt::Display for PlacedFrontRow<'_, '_> {
-    ghost use Rattle.mad_fronts.specs.Fronts.{front_content, row_behind};
+    ghost use Rattle.mad_pages.specs.Fronts.{front_content, row_behind};
     ghost use Rattle.mad_page_rows.specs.Faces.{page_row_pieces};
 
     ghost output = { λ r. Some (pieces_bytes (page_row_pieces r.skin.now r.outer r.filled (row_behind (front_content r.front) r.line.now))) };
@@ -83,7 +83,7 @@ struct LineBehind<'a, 's> {
 }
 
 impl fmt::Display for LineBehind<'_, '_> {
-    ghost use Rattle.mad_fronts.specs.Fronts.{front_content, row_behind};
+    ghost use Rattle.mad_pages.specs.Fronts.{front_content, row_behind};
     ghost use Rattle.mad_page_rows.specs.Faces.{behind_pieces};
 
     ghost output = { λ r. Some (pieces_bytes (behind_pieces r.skin.now r.outer r.filled (row_behind (front_content r.front) r.line.now))) };

@@ -11,7 +11,7 @@ use Rattle.mad_blocks.specs.Layouts.{IsLayoutAt}
 use Rattle.mad_sections.specs.Gutters.{room, shown}
 use Rattle.mad_sections.specs.Sections.{SectionContent}
 use Rattle.mad_sections.specs.declared.gutters.Gutter.{Gutter}
-use Rattle.mad_unfolded.specs.Unfolded.{unfolded}
+use Rattle.mad_sections.specs.Unfolded.{unfolded}
 use Rattle.mad_pages.specs.PageCursors.{LaidSection}
 use Rattle.mad_pages.specs.PageLaws.{plain_rows, ArePlain, PlainIsLayout, PagesJoin, SectionsAreLayouts, LaterRowsAreOther}
 use Rattle.mad_pages.specs.PageLayouts.{IsSectionAt, BecomesAt, IsPageAt}
@@ -107,7 +107,8 @@ rest_lines : (gutters : List Gutter) (lines : List FmtLine) → map (λ (row : R
 rest_lines gutters [] = refl
 rest_lines gutters (line ∷ lines) = ap (λ (ls : List FmtLine). line ∷ ls) (rest_lines gutters lines)
 
-lines_behind : (gutters : List Gutter) (fresh : ℕ) (lines : List FmtLine) → map (λ (row : RowContent). row.line) (behind gutters fresh lines) ≡ lines
+-- lines behind gutters are these lines
+pub lines_behind : (gutters : List Gutter) (fresh : ℕ) (lines : List FmtLine) → map (λ (row : RowContent). row.line) (behind gutters fresh lines) ≡ lines
 lines_behind gutters fresh [] = refl
 lines_behind gutters fresh (line ∷ lines) = ap (λ (ls : List FmtLine). line ∷ ls) (rest_lines gutters lines)
 

@@ -6,7 +6,7 @@ use Rattle.mad_format.specs.declared.line.FmtLine.{FmtLine}
 use Rattle.mad_blocks.specs.Layouts.{IsLayoutAt}
 use Rattle.mad_sections.specs.Gutters.{room, shown}
 use Rattle.mad_sections.specs.Sections.{SectionContent}
-use Rattle.mad_unfolded.specs.Unfolded.{unfolded}
+use Rattle.mad_sections.specs.Unfolded.{unfolded}
 use Rattle.mad_pages.specs.PageRows.{RowContent, behind}
 
 -- The rows are those of a section at a width, if there is one: its lines laid out in the room behind its gutters, behind those that are shown.

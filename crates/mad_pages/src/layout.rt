@@ -11,8 +11,7 @@ use crate::page_cursor::PageCursor;
 use crate::page_rows::{PageRow, push_behind};
 use mad_blocks::lay_text;
 use mad_format::LineSkin;
-use mad_sections::{Page, Section, room_behind};
-use mad_unfolded::{Unfolded, unfold};
+use mad_sections::{Page, Section, Unfolded, room_behind, unfold};
 use std::alloc::{AllocError, Global};
 
 /// The rows of a page at a width in columns, if there is one: those of its sections, in order. Boxes of tasks are of ASCII characters, or

@@ -8,7 +8,7 @@ use Rattle.mad_style.specs.declared.kinds.CompositeKind.TheVariants.{Paragraph}
 use Rattle.markdown_marks.specs.Remaining.{Remaining}
 use Rattle.markdown_lines.specs.Steady.{steady_runs, steady_lines}
 use Rattle.markdown_lines.specs.Tables.{cells, shown_cells, row_of, row_said, body, alignments, table_lines}
-use Rattle.mad_page_tables.specs.WholeWords.{ArePlainCells}
+use Rattle.mad_pages.specs.WholeWords.{ArePlainCells}
 use Rattle.markdown_pages.specs.TableCells.{CellsArePlain}
 
 abbrev IsPlainRow : List StyledRuns → Type 0

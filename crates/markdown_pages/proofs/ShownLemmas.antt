@@ -7,9 +7,9 @@ use Rattle.mad_sections.specs.Gutters.{room as room_of}
 use Rattle.mad_sections.specs.Sections.{SectionContent}
 use Rattle.mad_sections.specs.declared.gutters.Gutter.{Gutter}
 use Rattle.mad_sections.specs.declared.gutters.Gutter.TheVariants.{Bullet}
-use Rattle.mad_unfolded.specs.Items.{item_lines, are_short, items_of}
-use Rattle.mad_unfolded.specs.TableTexts.{are_table, rows_in, has_room}
-use Rattle.mad_unfolded.specs.Unfolded.{lacks_room, list_sections, as_list, unfolded_in, unfolded}
+use Rattle.mad_sections.specs.Items.{item_lines, are_short, items_of}
+use Rattle.mad_sections.specs.TableTexts.{are_table, rows_in, has_room}
+use Rattle.mad_sections.specs.Unfolded.{lacks_room, list_sections, as_list, unfolded_in, unfolded}
 use Rattle.markdown_sections.specs.Faces.{items_in, faces_in, faces_of}
 use Rattle.markdown_sections.specs.ListedSections.{MayBeListed}
 use Rattle.markdown_sections.proofs.FaceLemmas.{items_with_last}

@@ -4,7 +4,7 @@ use Rattle.std.specs.List.{AllByRecursion}
 use Rattle.markdown_leaves.specs.Parts.{PartContent}
 use Rattle.mad_sections.specs.Sections.{SectionContent}
 use Rattle.mad_sections.specs.declared.gutters.Gutter.TheVariants.{Bullet}
-use Rattle.mad_unfolded.specs.Unfolded.{unfolded}
+use Rattle.mad_sections.specs.Unfolded.{unfolded}
 use Rattle.markdown_lines.specs.Links.{Defined}
 use Rattle.markdown_sections.specs.Faces.{faces_in, faces_of}
 use Rattle.markdown_sections.specs.Mapping.{nothing_shown, shown_parts}

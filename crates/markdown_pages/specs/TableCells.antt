@@ -1,7 +1,7 @@
 -- Cells of tables of Markdown.
 use Rattle.std.specs.Prelude.{ℕ, List}
 use Rattle.markdown_marks.specs.Remaining.{Remaining}
-use Rattle.mad_page_tables.specs.WholeWords.{ArePlainCells}
+use Rattle.mad_pages.specs.WholeWords.{ArePlainCells}
 use Rattle.markdown_lines.specs.Steady.{steady_lines}
 use Rattle.markdown_lines.specs.Tables.{table_lines}
 

@@ -2,7 +2,7 @@
 use Rattle.std.proofs.Common.{◌≡◌, ℕ, zero, suc, ◌+◌, ◌<◌, Bool, true, false, cond, Option, List, [], ◌∷◌, ◌++◌, map, length, drop, get_or, filter, refl, sym, ap, ◌∙◌, arith}
 use Rattle.std.specs.List.{flat_map}
 use Rattle.bstr.specs.Utf8.{Decoded, or_replacement, pieces}
-use Rattle.code_colors.specs.declared.rules.Language.{Language}
+use Rattle.code_tables.specs.declared.rules.Language.{Language}
 use Rattle.code_colors.specs.Tokens.{tokens_by}
 use Rattle.code_tones.specs.Tones.{byte_tones, is_counted, shown, toned, toned_text, tones_of, TonedChar}
 use Rattle.mad_md.specs.Flagged.{flagged, unflagged}

@@ -2,7 +2,7 @@
 use Rattle.std.specs.Prelude.{◌≡◌, ℕ, List, ◌++◌, length, map, Option}
 use Rattle.std.specs.List.{filter, flat_map}
 use Rattle.mad_md.specs.Flagged.{unflagged}
-use Rattle.code_colors.specs.declared.rules.Language.{Language}
+use Rattle.code_tables.specs.declared.rules.Language.{Language}
 use Rattle.code_tones.specs.Tones.{is_counted, shown, toned_text, tones_of, TonedChar}
 use Rattle.mad_mark_runs.specs.Values.{AreRising, values_of}
 use Rattle.mad_mark_runs.specs.declared.mark_runs.MarkRun.{MarkRun}

@@ -6,7 +6,7 @@ ghost use Rattle.mad_mark_runs.specs.Values.{AreRising, values_of};
 ghost use Rattle.markdown_marks.specs.Remaining.{remaining};
 ghost use Rattle.markdown_tones.specs.CodeSource.{code_source};
 
-use code_colors::rules::Language;
+use code_tables::rules::Language;
 use code_tones::push_tones;
 use mad_mark_runs::MarkRun;
 use markdown_marks::rest::Rest;

@@ -1,4 +1,4 @@
-use Rattle.mad_fronts.specs.Fronts.{front_content}
+use Rattle.mad_pages.specs.Fronts.{front_content}
 use Rattle.mad_front_rows.proofs.FrontHitLemmas.{row_marked}
 use Rattle.mad_front_rows.proofs.hits.draw_row.Goals as goal
 

@@ -1,4 +1,4 @@
-use Rattle.mad_fronts.specs.Fronts.{front_content, row_behind}
+use Rattle.mad_pages.specs.Fronts.{front_content, row_behind}
 use Rattle.mad_page_rows.proofs.KnownFaces.{row_known}
 use Rattle.mad_front_rows.proofs.rows.push_placed.Goals as goal
 

@@ -1,0 +1,3 @@
+pub mod Kinds
+pub mod Rules
+pub mod Tables

@@ -1,2 +1,0 @@
-pub mod BoxLemmas
-pub mod FitLemmas

@@ -1,2 +1,0 @@
-pub mod WholeLemmas
-pub mod WordLemmas

@@ -1,2 +1,0 @@
-pub mod WholeTables
-pub mod WholeWords
