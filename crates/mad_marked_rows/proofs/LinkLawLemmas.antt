@@ -28,9 +28,9 @@ use Rattle.mad_links.specs.LinkTerminal.{LinkedCell, LinkPaints}
 use Rattle.mad_links.specs.SkippingTerminal.{after_skipping}
 use Rattle.mad_links.proofs.PlainLemmas.{shows_the_same}
 use Rattle.mad_links.proofs.LinkRowLemmas.{links_are_in_their_cells, rows_are_woven, writes_nothing}
-use Rattle.mad_link_rows.specs.LinkedAreas.{in_no_link, without_link, without_links}
-use Rattle.mad_link_rows.specs.LinkedLines.{composite_links}
-use Rattle.mad_link_rows.proofs.AreaLemmas.{pieces_are, unlinked_is}
+use Rattle.mad_links.specs.LinkedAreas.{in_no_link, without_link, without_links}
+use Rattle.mad_links.specs.LinkedLines.{composite_links}
+use Rattle.mad_links.proofs.AreaLemmas.{pieces_are, unlinked_is}
 use Rattle.mad_mark_runs.specs.declared.mark_runs.MarkRun.{MarkRun}
 use Rattle.mad_marks.specs.RowMarks.{counted}
 use Rattle.mad_marked_text.specs.Laws.{told_cell, told_cells, TellsNothing}

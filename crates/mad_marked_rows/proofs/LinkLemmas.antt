@@ -3,7 +3,7 @@ use Rattle.std.proofs.Common.{◌≡◌, ℕ, List, [], ◌∷◌, ◌++◌, map
 use Rattle.mad_term.specs.Styles.{piece_bytes}
 use Rattle.mad_draw.specs.Pieces.{RowPiece, pieces_bytes}
 use Rattle.mad_links.specs.LinkRows.{LinkedPiece, change_bytes, linked_bytes, linked_bytes_from, written_link}
-use Rattle.mad_link_rows.specs.LinkedAreas.{in_no_link}
+use Rattle.mad_links.specs.LinkedAreas.{in_no_link}
 use Rattle.mad_marked_text.specs.LinkedTexts.{piece_on, pieces_on}
 
 pub on_both : (a : List (Option (List ℕ))) (row : List ℕ × Option ℕ) (ps qs : List LinkedPiece) → pieces_on a row (ps ++ qs) ≡ pieces_on a (pieces_on a row ps) qs

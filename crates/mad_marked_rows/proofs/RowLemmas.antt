@@ -20,9 +20,9 @@ use Rattle.mad_rows.specs.RowStyles.{compound_style, line_style}
 use Rattle.mad_rows.specs.Rows.{blanks_beside, compound_piece, inner_blanks, left_of_place, line_pieces, outer_blanks, prefix_pieces, right_of_place, row_columns, vertical_piece}
 use Rattle.mad_rows.specs.declared.row_skin.RowSkin.{RowSkin}
 use Rattle.mad_links.specs.LinkRows.{LinkedPiece, change_bytes, linked_bytes, linked_bytes_from}
-use Rattle.mad_link_rows.specs.LinkedAreas.{in_no_link}
-use Rattle.mad_link_rows.specs.LinkedLines.{composite_links}
-use Rattle.mad_link_rows.proofs.AreaLemmas.{no_link_no_byte}
+use Rattle.mad_links.specs.LinkedAreas.{in_no_link}
+use Rattle.mad_links.specs.LinkedLines.{composite_links}
+use Rattle.mad_links.proofs.AreaLemmas.{no_link_no_byte}
 use Rattle.mad_mark_runs.specs.Marks.{count_of, next_start, value_at}
 use Rattle.mad_mark_runs.specs.declared.mark_runs.MarkRun.{MarkRun}
 use Rattle.mad_marks.specs.RowMarks.{counted}

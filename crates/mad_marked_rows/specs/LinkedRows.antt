@@ -13,8 +13,8 @@ use Rattle.mad_rows.specs.RowStyles.{compound_style, line_style}
 use Rattle.mad_rows.specs.Rows.{compound_piece, left_of_place, line_pieces, margins_of, right_of_place, row_columns, vertical_piece}
 use Rattle.mad_rows.specs.declared.row_skin.RowSkin.{RowSkin}
 use Rattle.mad_links.specs.LinkRows.{LinkedPiece}
-use Rattle.mad_link_rows.specs.LinkedAreas.{in_no_link}
-use Rattle.mad_link_rows.specs.LinkedLines.{composite_links}
+use Rattle.mad_links.specs.LinkedAreas.{in_no_link}
+use Rattle.mad_links.specs.LinkedLines.{composite_links}
 use Rattle.mad_mark_runs.specs.declared.mark_runs.MarkRun.{MarkRun}
 use Rattle.mad_marks.specs.RowMarks.{counted}
 use Rattle.mad_marked_text.specs.LinkedTexts.{text_links}
