@@ -3,7 +3,7 @@
 use markdown_blocks::Container;
 use markdown_leaves::{Block, Kind, Part, read_parts};
 use markdown_marks::rest::Rest;
-use std::alloc::AllocError;
+use std::alloc::{AllocError, Global};
 use std::fmt::Write;
 
 /// Appends a text with blanks in place of a tab that was taken in part.
@@ -88,4 +88,11 @@ pub(crate) fn draw_blocks(picture: &mut String, text: &str) -> Result<(), AllocE
         }
     }
     Ok(())
+}
+
+/// What answers a row of that call.
+pub fn picture_of(alloc: Global, text: &str) -> Result<String, AllocError> {
+    let mut picture = String::new(alloc);
+    draw_blocks(&mut picture, text)?;
+    Ok(picture)
 }

@@ -4,7 +4,7 @@ use crate::blocks::{draw_marker, draw_text};
 use markdown_blocks::{BlockCursor, Container, Deed, Leaf, LineRead};
 use markdown_marks::headings::heading_text;
 use markdown_marks::rest::Rest;
-use std::alloc::AllocError;
+use std::alloc::{AllocError, Global};
 use std::fmt::Write;
 
 fn draw_container(picture: &mut String, container: Container) -> Result<(), AllocError> {
@@ -95,4 +95,11 @@ pub(crate) fn draw_lines(picture: &mut String, text: &str) -> Result<(), AllocEr
         draw_line(picture, read, cursor.containers())?;
     }
     Ok(())
+}
+
+/// What answers a row of that call.
+pub fn picture_of(alloc: Global, text: &str) -> Result<String, AllocError> {
+    let mut picture = String::new(alloc);
+    draw_lines(&mut picture, text)?;
+    Ok(picture)
 }

@@ -1,16 +1,22 @@
-//! Tests of the reader of Markdown: the blocks of texts, as worked rows and as a model has them.
+//! Tests of the reader of Markdown, as worked rows and as a model has them.
 //!
 //! The rows are in the files of `data/`. A row's call says what answers it:
 //!
 //! 1. [`blocks`]: `blocks`, the containers and leaves of a text.
 //! 2. [`lines`]: `lines`, what each line of a text does.
+//! 3. [`inlines`]: `inlines`, the inlines of a text.
+//! 4. [`pieces`]: `pieces`, the inlines of a text's leaves.
+//! 5. [`shown`]: `shown`, the lines that are shown of a text, and `links`, its links.
 //!
 //! As `--told CALL FILE` it answers the call of each text of a file, with a line `==` before each answer. A byte 1 stands between two texts. So
 //! `tools/commonmark` and `tools/markdown_files` ask it.
 #![tactic(auto)]
 
 mod blocks;
+mod inlines;
 mod lines;
+mod pieces;
+mod shown;
 
 use std::alloc::{AllocError, Global};
 use std::{env, fs, io};
@@ -20,12 +26,14 @@ struct MarkdownCalls;
 
 impl Calls for MarkdownCalls {
     fn answer(&self, alloc: Global, call: &str, text: &str) -> Result<String, AllocError> {
-        let mut picture = String::new(alloc);
         match call {
-            "lines" => lines::draw_lines(&mut picture, text)?,
-            _ => blocks::draw_blocks(&mut picture, text)?,
+            "lines" => lines::picture_of(alloc, text),
+            "blocks" => blocks::picture_of(alloc, text),
+            "pieces" => pieces::draw_leaves(alloc, text),
+            "links" => shown::draw_links(alloc, text),
+            "shown" => shown::draw_lines(alloc, text),
+            _ => inlines::draw_inlines(alloc, call, text),
         }
-        Ok(picture)
     }
 }
 
