@@ -5,6 +5,8 @@
 //! 1. [`lines`]: `shown`, the lines that are shown of a text, and `links`, its links.
 //! 2. [`pieces`]: `pieces`, the inlines of its leaves.
 //!
+//! In a text `▪` is a byte order mark.
+//!
 //! As `--told CALL FILE` it answers the call of each text of a file, with a line `==` before each answer. A byte 1 stands between two texts. So
 //! `tools/commonmark` and `tools/markdown_files` ask it.
 #![tactic(auto)]
@@ -20,11 +22,20 @@ struct MarkdownCalls;
 
 impl Calls for MarkdownCalls {
     fn answer(&self, alloc: Global, call: &str, text: &str) -> Result<String, AllocError> {
+        let text: String = text.chars().map(meant).collect(alloc)?;
         match call {
-            "pieces" => pieces::draw_leaves(alloc, text),
-            "links" => lines::draw_links(alloc, text),
-            _ => lines::draw_lines(alloc, text),
+            "pieces" => pieces::draw_leaves(alloc, text.as_str()),
+            "links" => lines::draw_links(alloc, text.as_str()),
+            _ => lines::draw_lines(alloc, text.as_str()),
         }
+    }
+}
+
+// The character that a sign means.
+fn meant(sign: char) -> char {
+    match sign {
+        '▪' => '\u{feff}',
+        _ => sign,
     }
 }
 

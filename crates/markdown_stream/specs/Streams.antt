@@ -1,5 +1,5 @@
 -- Markdown as people write it that comes in pieces: what a stream has read, what it has laid out, and what its device took.
-use Rattle.std.specs.Prelude.{◌≡◌, ℕ, List, [], ◌++◌, Option, Result, Ok, Err, string_bytes}
+use Rattle.std.specs.Prelude.{◌≡◌, ℕ, ◌==◌, ◌&&◌, Bool, if◌then◌else◌, List, [], ◌++◌, length, Option, Result, Ok, Err, string_bytes}
 use Rattle.mad_blocks.specs.Layouts.{IsLayoutAt}
 use Rattle.mad_format.specs.declared.line.FmtLine.{FmtLine}
 use Rattle.mad_md.specs.Lines.{LineContent}
@@ -11,6 +11,7 @@ use Rattle.mad_term.specs.Trace.{Trace, after, failed}
 use Rattle.mad_term.specs.declared.errors.Error.{Error}
 use Rattle.mad_term.specs.declared.errors.Error.TheVariants.{IO, InsufficientWidth, Memory}
 use Rattle.markdown_blocks.specs.Steps.{state_of, step}
+use Rattle.markdown_lines.specs.Texts.{behind_mark}
 use Rattle.markdown_stream.specs.Cuts.{Cutting, source_lines, content, line_cut, nothing_open, open_after, cut_so_far}
 use Rattle.markdown_stream.specs.Streamed.{Showing, nothing_shown, parts_shown, streamed_lines, added, last_after}
 use Rattle.markdown_stream.specs.declared.stream.MarkdownStream.{MarkdownStream}
@@ -57,13 +58,27 @@ pub record Stands (cut : Cutting) (s : MarkdownStream) (sent : List ℕ) : Type 
   pub passed : s.passed ≡ cut.passed
   pub rows : HasRows (parts_shown nothing_shown cut.parts) s sent
 
--- A stream has read this text, whose whole lines are these, and its device took these bytes. What comes yet goes on with the line that has begun.
-pub record IsInStep (read : List ℕ) (s : MarkdownStream) (sent : List ℕ) : Type 0 where
+-- what a piece adds to a text behind its byte order mark: all of it, unless nothing came before
+abbrev pub coming : Bool → List ℕ → List ℕ
+coming fresh piece = if fresh then behind_mark piece else piece
+
+-- whether nothing came yet
+abbrev pub still_fresh : Bool → List ℕ → Bool
+still_fresh fresh piece = fresh && (length piece == 0)
+
+-- A stream has read this text behind its byte order mark, whose whole lines are these, and its device took these bytes. What comes yet goes on with
+-- the line that has begun.
+pub record HasRead (read : List ℕ) (s : MarkdownStream) (sent : List ℕ) : Type 0 where
   pub done : List (List ℕ)
   pub joins : (later : List ℕ) → source_lines (read ++ later) ≡ done ++ source_lines (string_bytes s.line ++ later)
   pub begun : HasNoNewline (string_bytes s.line)
   pub «open» : state_of s.reader ≡ open_after nothing_open done
   pub stands : Stands (cut_so_far done) s sent
+
+-- a stream has read this text, and its device took these bytes
+pub record IsInStep (read : List ℕ) (s : MarkdownStream) (sent : List ℕ) : Type 0 where
+  pub goes_on : (later : List ℕ) → behind_mark (read ++ later) ≡ behind_mark read ++ coming s.fresh later
+  pub behind : HasRead (behind_mark read) s sent
 
 -- all rows of complete parts went out
 abbrev pub IsPrompt : MarkdownStream → Type 0
@@ -89,6 +104,12 @@ Feeds old piece new before (Err Memory) now = now ≡ before
 -- the piece was taken, and nothing went out
 pub record TakesPiece (old : MarkdownStream) (piece : List ℕ) (new : MarkdownStream) : Type 0 where
   pub keeps : (read sent : List ℕ) → IsInStep read old sent → IsInStep (read ++ piece) new sent
+  pub skin : new.skin ≡ old.skin
+  pub width : new.width ≡ old.width
+
+-- so was a piece of the text behind its byte order mark
+pub record TakesText (old : MarkdownStream) (text : List ℕ) (new : MarkdownStream) : Type 0 where
+  pub keeps : (read sent : List ℕ) → HasRead read old sent → HasRead (read ++ text) new sent
   pub skin : new.skin ≡ old.skin
   pub width : new.width ≡ old.width
 
