@@ -8,16 +8,17 @@ use Rattle.mad_md.specs.Lines.{LineContent}
 use Rattle.mad_md.proofs.PartsLemmas.{true_test}
 use Rattle.markdown_blocks.specs.Events.{events_from, events_of}
 use Rattle.markdown_blocks.specs.Lines.{text_lines}
-use Rattle.markdown_blocks.specs.Steps.{State, Line, step}
+use Rattle.markdown_blocks.specs.Steps.{State}
 use Rattle.markdown_leaves.specs.Gather.{closed}
 use Rattle.markdown_leaves.specs.Told.{parts_of, told}
 use Rattle.markdown_lines.specs.Steady.{steady_lines}
 use Rattle.markdown_reader.specs.Mapping.{shown_parts}
 use Rattle.markdown_lines.specs.Texts.{behind_mark}
 use Rattle.markdown_reader.specs.Markdown.{unmarked_lines, printable_lines}
-use Rattle.markdown_stream.specs.Cuts.{SourcePart, Cutting, source_lines, content, begins_anew, ends_all, completed, completed_if, cut_so_far, joined_by, line_cut, lines_cut, nothing_cut, nothing_open, source_parts}
+use Rattle.markdown_stream.specs.Cuts.{SourcePart, Cutting, source_lines, source_read, completed, completed_if, cut_so_far, joined_by, line_cut, lines_cut, nothing_cut, nothing_open, source_parts}
 use Rattle.markdown_stream.specs.Streamed.{Showing, nothing_shown, added, gap, lines_shown, part_shown, parts_shown, unmarked_streamed, streamed_lines}
 use Rattle.markdown_stream.specs.Gaps.{begins_big}
+use Rattle.markdown_stream.specs.declared.cuts.Role.{Role}
 use Rattle.markdown_stream.specs.declared.stream.Shown.{Shown}
 use Rattle.markdown_stream.specs.PartLaws.{PartsAreTheText, OnePartIsWhole}
 use Rattle.markdown_stream.proofs.ShownLemmas.{shown_both}
@@ -56,17 +57,17 @@ completed_if_joined : (over : Bool) (c : Cutting) → so_far (completed_if over 
 completed_if_joined true c = completed_joined c
 completed_if_joined false c = refl
 
-line_joined : (line : Line) (text : List ℕ) (c : Cutting) → so_far (line_cut line text c) ≡ so_far c ++ text
-line_joined line text c =
-    let d : Cutting = completed_if (begins_anew line) c in
-    completed_if_joined (ends_all line) (joined_by line text d) ∙ sym (append_assoc (sources d.parts) d.held text) ∙ ap (λ (l : List ℕ). l ++ text) (completed_if_joined (begins_anew line) c)
+line_joined : (role : Role) (text : List ℕ) (c : Cutting) → so_far (line_cut role text c) ≡ so_far c ++ text
+line_joined role text c =
+    let d : Cutting = completed_if role.begins c in
+    completed_if_joined role.ends (joined_by role text d) ∙ sym (append_assoc (sources d.parts) d.held text) ∙ ap (λ (l : List ℕ). l ++ text) (completed_if_joined role.begins c)
 
 cut_joined : (state : State) (c : Cutting) (texts : List (List ℕ)) → so_far (lines_cut state c texts) ≡ so_far c ++ joined_lines texts
 unfolding lines_cut
 cut_joined state c [] = sym (append-nil (so_far c))
 cut_joined state c (text ∷ texts) =
-    let next = step state (content text) in
-    cut_joined next.state (line_cut next.line text c) texts ∙ ap (λ (l : List ℕ). l ++ joined_lines texts) (line_joined next.line text c) ∙ append_assoc (so_far c) text (joined_lines texts)
+    let next = source_read state text in
+    cut_joined next.state (line_cut next.role text c) texts ∙ ap (λ (l : List ℕ). l ++ joined_lines texts) (line_joined next.role text c) ∙ append_assoc (so_far c) text (joined_lines texts)
 
 pub parts_are_the_text : PartsAreTheText
 parts_are_the_text text =

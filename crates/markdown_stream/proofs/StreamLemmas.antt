@@ -19,14 +19,15 @@ use Rattle.mad_term.specs.Trace.{Trace, failed}
 use Rattle.mad_term.specs.declared.errors.Error.{Error}
 use Rattle.mad_term.specs.declared.errors.Error.TheVariants.{IO, InsufficientWidth, Memory}
 use Rattle.mad_term.proofs.Traces.{after-nil}
-use Rattle.markdown_blocks.specs.Steps.{State, Step, Line, state_of, step}
+use Rattle.markdown_blocks.specs.Steps.{State, state_of}
 use Rattle.markdown_lines.specs.Texts.{behind_mark}
 use Rattle.markdown_lines.proofs.MarkLemmas.{behind_more}
 use Rattle.markdown_reader.specs.Markdown.{unmarked_lines}
-use Rattle.markdown_stream.specs.Cuts.{SourcePart, Cutting, source_lines, content, begins_anew, ends_all, is_passed, completed, completed_if, joined_by, line_cut, nothing_open, nothing_cut, open_after, lines_cut, cut_so_far}
+use Rattle.markdown_stream.specs.Cuts.{SourcePart, Cutting, Reading, source_lines, source_read, is_apart, completed, completed_if, joined_by, line_cut, nothing_open, nothing_cut, open_after, lines_cut, cut_so_far}
 use Rattle.markdown_stream.specs.Streamed.{Showing, nothing_shown, gap, is_spaced, added, last_after, parts_shown, unmarked_streamed, streamed_lines}
 use Rattle.markdown_stream.specs.Streams.{IsStreamed, BeginsStreamed, Finishes, HasRows, Stands, coming, still_fresh, HasRead, IsInStep, IsPrompt, Fed, Feeds, TakesText, TakesPiece, EndsText, ReadsLine, EndsLine, Turns, KeepsRows, ShowsLines, Sent, Sends}
 use Rattle.markdown_stream.specs.declared.stream.MarkdownStream.{MarkdownStream}
+use Rattle.markdown_stream.specs.declared.cuts.Role.{Role}
 use Rattle.markdown_stream.specs.declared.stream.Shown.{Shown}
 use Rattle.markdown_stream.proofs.CutLemmas.{line_first, no_lines, last_line, no_newline_both, open_more, cut_more, cut_both, goes_on_to_end}
 use Rattle.markdown_stream.proofs.GapLemmas.{apart_added}
@@ -160,17 +161,17 @@ turns_not old = record { stands = λ cut sent s. s; reader = refl; line = refl; 
 -- ---- a line
 
 -- A line comes: what is held ends before it or not, and with it or not.
-pub reads_line : (old first second joined new : MarkdownStream) (text : List ℕ) (line : Line) (state : State) → record { state = state; line = line } ≡ step (state_of old.reader) (content text) → string_bytes first.held ≡ string_bytes old.held → first.apart ≡ old.apart → first.passed ≡ old.passed → first.last ≡ old.last → first.rows ≡ old.rows
+pub reads_line : (old first second joined new : MarkdownStream) (text : List ℕ) (role : Role) (state : State) → record { state = state; role = role } ≡ source_read (state_of old.reader) text → string_bytes first.held ≡ string_bytes old.held → first.apart ≡ old.apart → first.passed ≡ old.passed → first.last ≡ old.last → first.rows ≡ old.rows
     → first.line ≡ old.line → first.skin ≡ old.skin → first.width ≡ old.width → state_of first.reader ≡ state
-    → Turns (completed_if (begins_anew line)) first second
-    → string_bytes joined.held ≡ string_bytes second.held ++ text → joined.apart ≡ second.apart → joined.passed ≡ is_passed line → joined.last ≡ second.last → joined.rows ≡ second.rows → joined.reader ≡ second.reader → joined.line ≡ second.line → joined.skin ≡ second.skin → joined.width ≡ second.width
-    → Turns (completed_if (ends_all line)) joined new → ReadsLine old text new
-reads_line old first second joined new text line state is held apart passed last rows line_is skin width reads t held2 apart2 passed2 last2 rows2 reader2 line2 skin2 width2 u = record {
-  «open» = ap state_of (u.reader ∙ reader2 ∙ t.reader) ∙ reads ∙ ap (λ (d : Step). d.state) is;
+    → Turns (completed_if role.begins) first second
+    → string_bytes joined.held ≡ string_bytes second.held ++ text → joined.apart ≡ is_apart second.apart (string_bytes second.held) role.led → joined.passed ≡ role.passed → joined.last ≡ second.last → joined.rows ≡ second.rows → joined.reader ≡ second.reader → joined.line ≡ second.line → joined.skin ≡ second.skin → joined.width ≡ second.width
+    → Turns (completed_if role.ends) joined new → ReadsLine old text new
+reads_line old first second joined new text role state is held apart passed last rows line_is skin width reads t held2 apart2 passed2 last2 rows2 reader2 line2 skin2 width2 u = record {
+  «open» = ap state_of (u.reader ∙ reader2 ∙ t.reader) ∙ reads ∙ ap (λ (d : Reading). d.state) is;
   stands = λ cut sent s.
-      subst (λ (l : Line). Stands (line_cut l text cut) new sent) (ap (λ (d : Step). d.line) is)
-      (u.stands (joined_by line text (completed_if (begins_anew line) cut)) sent
-      (joins (completed_if (begins_anew line) cut) sent (t.stands cut sent (begins cut sent s))));
+      subst (λ (r : Role). Stands (line_cut r text cut) new sent) (ap (λ (d : Reading). d.role) is)
+      (u.stands (joined_by role text (completed_if role.begins cut)) sent
+      (joins (completed_if role.begins cut) sent (t.stands cut sent (begins cut sent s))));
   line = ap string_bytes (u.line ∙ line2 ∙ t.line ∙ line_is);
   skin = u.skin ∙ skin2 ∙ t.skin ∙ skin;
   width = u.width ∙ width2 ∙ t.width ∙ width;
@@ -187,10 +188,10 @@ reads_line old first second joined new text line state is held apart passed last
     begins : (cut : Cutting) (sent : List ℕ) → Stands cut old sent → Stands cut first sent
     begins cut sent s = record { held = held ∙ s.held; apart = apart ∙ s.apart; passed = passed ∙ s.passed; rows = rows_as (parts_shown nothing_shown cut.parts) old first sent last rows skin width s.rows }
 
-    joins : (cut : Cutting) (sent : List ℕ) → Stands cut second sent → Stands (joined_by line text cut) joined sent
+    joins : (cut : Cutting) (sent : List ℕ) → Stands cut second sent → Stands (joined_by role text cut) joined sent
     joins cut sent s = record {
       held = held2 ∙ ap (λ (b : List ℕ). b ++ text) s.held;
-      apart = apart2 ∙ s.apart;
+      apart = apart2 ∙ ap (λ (a : Bool). is_apart a (string_bytes second.held) role.led) s.apart ∙ ap (λ (b : List ℕ). is_apart cut.apart b role.led) s.held;
       passed = passed2;
       rows = rows_as (parts_shown nothing_shown cut.parts) second joined sent last2 rows2 skin2 width2 s.rows;
     }
@@ -226,9 +227,9 @@ in_step_line read line rest old new sent first h e = record {
       ap source_lines (append_assoc read line later) ∙ h.joins (line ++ later) ∙ ap (λ (ls : List (List ℕ)). h.done ++ ls) (ends later)
       ∙ sym (append_assoc h.done (text ∷ []) (source_lines later)) ∙ ap (λ (l : List ℕ). (h.done ++ text ∷ []) ++ source_lines (l ++ later)) (sym e.line);
   begun = subst HasNoNewline (sym e.line) tt;
-  «open» = e.«open» ∙ ap (λ (st : State). (step st (content text)).state) h.«open» ∙ sym (open_more nothing_open h.done text);
+  «open» = e.«open» ∙ ap (λ (st : State). (source_read st text).state) h.«open» ∙ sym (open_more nothing_open h.done text);
   stands = subst (λ (c : Cutting). Stands c new sent) (sym (cut_more nothing_open nothing_cut h.done text))
-      (subst (λ (st : State). Stands (line_cut (step st (content text)).line text (cut_so_far h.done)) new sent) h.«open» (e.stands (cut_so_far h.done) sent h.stands));
+      (subst (λ (st : State). Stands (line_cut (source_read st text).role text (cut_so_far h.done)) new sent) h.«open» (e.stands (cut_so_far h.done) sent h.stands));
 }
   where
     text : List ℕ
@@ -333,10 +334,10 @@ takes_piece old mid piece text fresh u is still t = record {
 pub line_ended : (old mid new : MarkdownStream) (end text : List ℕ) → text ≡ string_bytes old.line ++ end → string_bytes mid.line ≡ [] → state_of mid.reader ≡ state_of old.reader → ((cut : Cutting) (sent : List ℕ) → Stands cut old sent → Stands cut mid sent) → mid.skin ≡ old.skin → mid.width ≡ old.width
     → ReadsLine mid text new → EndsLine old end new
 line_ended old mid new end text is empty reader stands skin width r = record {
-  «open» = r.«open» ∙ ap (λ (st : State). (step st (content text)).state) reader ∙ ap (λ (t : List ℕ). (step (state_of old.reader) (content t)).state) is;
+  «open» = r.«open» ∙ ap (λ (st : State). (source_read st text).state) reader ∙ ap (λ (t : List ℕ). (source_read (state_of old.reader) t).state) is;
   stands = λ cut sent s.
-      subst (λ (t : List ℕ). Stands (line_cut (step (state_of old.reader) (content t)).line t cut) new sent) is
-      (subst (λ (st : State). Stands (line_cut (step st (content text)).line text cut) new sent) reader (r.stands cut sent (stands cut sent s)));
+      subst (λ (t : List ℕ). Stands (line_cut (source_read (state_of old.reader) t).role t cut) new sent) is
+      (subst (λ (st : State). Stands (line_cut (source_read st text).role text cut) new sent) reader (r.stands cut sent (stands cut sent s)));
   line = r.line ∙ empty;
   skin = r.skin ∙ skin;
   width = r.width ∙ width;
@@ -378,8 +379,8 @@ ended_within old mid next new text is some reader stands skin width r t = record
       let all : source_lines (behind_mark read) ≡ k.done ++ text ∷ [] =
       ap source_lines (sym (append-nil (behind_mark read))) ∙ k.joins [] ∙ ap (λ (l : List ℕ). k.done ++ source_lines l) (append-nil (string_bytes old.line) ∙ sym is)
       ∙ ap (λ (ls : List (List ℕ)). k.done ++ ls) (one_line text (subst HasNoNewline (sym is) k.begun) some) in
-      let read_it : Stands (line_cut (step (open_after nothing_open k.done) (content text)).line text (cut_so_far k.done)) next sent =
-      subst (λ (st : State). Stands (line_cut (step st (content text)).line text (cut_so_far k.done)) next sent) (reader ∙ k.«open») (r.stands (cut_so_far k.done) sent (stands (cut_so_far k.done) sent k.stands)) in
+      let read_it : Stands (line_cut (source_read (open_after nothing_open k.done) text).role text (cut_so_far k.done)) next sent =
+      subst (λ (st : State). Stands (line_cut (source_read st text).role text (cut_so_far k.done)) next sent) (reader ∙ k.«open») (r.stands (cut_so_far k.done) sent (stands (cut_so_far k.done) sent k.stands)) in
       let cut : Stands (cut_so_far (k.done ++ text ∷ [])) next sent = subst (λ (c : Cutting). Stands c next sent) (sym (cut_more nothing_open nothing_cut k.done text)) read_it in
       streamed_rows old new read sent (k.done ++ text ∷ []) all (t.skin ∙ r.skin ∙ skin) (t.width ∙ r.width ∙ width) (t.stands (cut_so_far (k.done ++ text ∷ [])) sent cut);
 }

@@ -10,9 +10,9 @@ use Rattle.mad_rows.specs.declared.row_skin.RowSkin.{RowSkin}
 use Rattle.mad_term.specs.Trace.{Trace, after, failed}
 use Rattle.mad_term.specs.declared.errors.Error.{Error}
 use Rattle.mad_term.specs.declared.errors.Error.TheVariants.{IO, InsufficientWidth, Memory}
-use Rattle.markdown_blocks.specs.Steps.{state_of, step}
+use Rattle.markdown_blocks.specs.Steps.{state_of}
 use Rattle.markdown_lines.specs.Texts.{behind_mark}
-use Rattle.markdown_stream.specs.Cuts.{Cutting, source_lines, content, line_cut, nothing_open, open_after, cut_so_far}
+use Rattle.markdown_stream.specs.Cuts.{Cutting, source_lines, source_read, line_cut, nothing_open, open_after, cut_so_far}
 use Rattle.markdown_stream.specs.Streamed.{Showing, nothing_shown, parts_shown, streamed_lines, added, last_after}
 use Rattle.markdown_stream.specs.declared.stream.MarkdownStream.{MarkdownStream}
 
@@ -119,16 +119,16 @@ pub record EndsText (old new : MarkdownStream) : Type 0 where
 
 -- a line was taken
 pub record ReadsLine (old : MarkdownStream) (text : List ℕ) (new : MarkdownStream) : Type 0 where
-  pub «open» : state_of new.reader ≡ (step (state_of old.reader) (content text)).state
-  pub stands : (cut : Cutting) (sent : List ℕ) → Stands cut old sent → Stands (line_cut (step (state_of old.reader) (content text)).line text cut) new sent
+  pub «open» : state_of new.reader ≡ (source_read (state_of old.reader) text).state
+  pub stands : (cut : Cutting) (sent : List ℕ) → Stands cut old sent → Stands (line_cut (source_read (state_of old.reader) text).role text cut) new sent
   pub line : string_bytes new.line ≡ string_bytes old.line
   pub skin : new.skin ≡ old.skin
   pub width : new.width ≡ old.width
 
 -- the line that had begun ended so, and was taken
 pub record EndsLine (old : MarkdownStream) (end : List ℕ) (new : MarkdownStream) : Type 0 where
-  pub «open» : state_of new.reader ≡ (step (state_of old.reader) (content (string_bytes old.line ++ end))).state
-  pub stands : (cut : Cutting) (sent : List ℕ) → Stands cut old sent → Stands (line_cut (step (state_of old.reader) (content (string_bytes old.line ++ end))).line (string_bytes old.line ++ end) cut) new sent
+  pub «open» : state_of new.reader ≡ (source_read (state_of old.reader) (string_bytes old.line ++ end)).state
+  pub stands : (cut : Cutting) (sent : List ℕ) → Stands cut old sent → Stands (line_cut (source_read (state_of old.reader) (string_bytes old.line ++ end)).role (string_bytes old.line ++ end) cut) new sent
   pub line : string_bytes new.line ≡ []
   pub skin : new.skin ≡ old.skin
   pub width : new.width ≡ old.width

@@ -3,11 +3,11 @@
 ghost use Rattle.std.specs.Prelude.{◌≡◌, ◌≤◌, ◌||◌, ℕ, List, [], ◌∷◌, OnOk, IfOk, length, drop};
 ghost use Rattle.markdown_layout.specs.WrittenMarkdown.{markdown_skin};
 ghost use Rattle.mad_md.specs.Lines.{contents};
-ghost use Rattle.markdown_stream.specs.Cuts.{completed, completed_if};
+ghost use Rattle.markdown_stream.specs.Cuts.{completed, completed_if, is_apart};
 ghost use Rattle.markdown_stream.specs.Streamed.{blank_line, gap, is_spaced};
 ghost use Rattle.markdown_stream.specs.Streams.{IsInStep, Feeds, Finishes, IsPrompt, Turns, ReadsLine, coming, still_fresh, TakesText, TakesPiece, EndsLine, EndsText, ShowsLines, KeepsRows, Sends};
 
-use crate::cuts::{begins_anew, content, ends_all, is_passed};
+use crate::cuts::read_source_line;
 use crate::gaps::{begins_big, ends_big};
 use mad_blocks::lay_text;
 use mad_layout::MadSkin;
@@ -162,15 +162,16 @@ impl MarkdownStream {
         Ok(())
     }
 
-    // A line comes. It belongs to the part that is held, unless that ends before it.
+    // A line of the source comes. It belongs to the part that is held, unless that ends before it.
     fn read_line(&mut self, alloc: Global, line: &str) -> Result<(), AllocError>
         ensures { OnOk result (ReadsLine self.old line.now self.new) }
     {
-        let read = self.reader.read_line(content(line).as_bytes())?;
-        self.complete_if(alloc, begins_anew(&read))?;
+        let role = read_source_line(&mut self.reader, line.as_bytes())?;
+        self.complete_if(alloc, role.begins)?;
+        self.apart = is_apart(self.apart, self.held.as_str(), role.led);
         self.held.push_str(line)?;
-        self.passed = is_passed(&read);
-        self.complete_if(alloc, ends_all(&read))?;
+        self.passed = role.passed;
+        self.complete_if(alloc, role.ends)?;
         Ok(())
     }
 
@@ -272,6 +273,13 @@ fn still_fresh(fresh: bool, piece: &str) -> bool
     ensures { result ≡ still_fresh fresh piece.now }
 {
     fresh && piece.is_empty()
+}
+
+// Whether a blank line is before a part, or is its first.
+fn is_apart(apart: bool, held: &str, led: bool) -> bool
+    ensures { result ≡ is_apart apart held.now led }
+{
+    apart || (held.is_empty() && led)
 }
 
 fn either(first: bool, second: bool) -> bool
