@@ -1,13 +1,18 @@
 -- A terminal that scrolls and passes over the commands of links.
-use Rattle.std.specs.Prelude.{◌≡◌, ◌↔◌, ℕ, List, Some}
+use Rattle.std.specs.Prelude.{◌≡◌, ◌↔◌, ℕ, Bool, false, List, Some}
 use Rattle.std.specs.Str.{chars, IsUtf8}
-use Rattle.mad_live.specs.Papers.{Paper, PaperReading, Reads, at_rest, feed_on}
+use Rattle.mad_live.specs.Papers.{Paper, PaperMode, PaperReading, Plain, Switching, Reads, at_rest, feed_on}
 use Rattle.mad_links.specs.LinkLaws.{IsWoven}
 use Rattle.mad_links.specs.SkippingTerminal.{Reader, after_escape, passing, skip_all}
 
+-- right after ESC
+abbrev pub begins_command : PaperMode → Bool
+begins_command (Plain mode) = after_escape mode
+begins_command (Switching now) = false
+
 -- the terminal that scrolls, as what passes over links needs to know it
 abbrev pub paper_reader : Reader PaperReading
-paper_reader = record { feed = λ r c. feed_on r.mode r.paper c; at_escape = λ r. after_escape r.mode; before_escape = λ r. at_rest r.paper }
+paper_reader = record { feed = λ r c. feed_on r.mode r.paper c; at_escape = λ r. begins_command r.mode; before_escape = λ r. at_rest r.paper }
 
 -- it reads these bytes, passing over the commands of links, and is then so
 pub record ReadsSkipping (p : Paper) (bytes : List ℕ) (q : Paper) : Type 0 where

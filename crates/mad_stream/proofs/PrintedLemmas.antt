@@ -9,7 +9,7 @@ use Rattle.mad_printable.specs.Pictures.{picture}
 use Rattle.mad_md.proofs.PartsLemmas.{true_test}
 use Rattle.mad_blocks.proofs.LayoutJoins.{by_bool}
 use Rattle.mad_stream.proofs.TextFrontLemmas.{rest_of}
-use Rattle.mad_stream.specs.PrintedPieces.{shown_growing, growing, printed, place_of, place_after, place_char, place_shown, piece_shown, end_shown}
+use Rattle.mad_stream.specs.PrintedPieces.{shown_growing, place_of, place_after, place_char, place_shown, piece_shown, end_shown}
 use Rattle.mad_stream.specs.declared.printed.Place.{Place}
 use Rattle.mad_stream.specs.declared.printed.Place.TheVariants.{LineStart, InLine, AfterReturn}
 
@@ -89,31 +89,13 @@ all_ended b (c ∷ []) p none = one_ended b c
 all_ended b (c ∷ d ∷ cs) p none =
     ap (λ (l : List ℕ). shown_as b c (d ∷ cs) ++ l) (all_ended (c == 10) (d ∷ cs) LineStart refl) ∙ sym (append_assoc (shown_as b c (d ∷ cs)) (shown_growing (c == 10) (d ∷ cs)) (end_shown (place_after (place_of d) cs)))
 
--- ---- texts
+-- ---- a piece that is placed behind a character
 
--- of an empty text nothing is shown
-pub growing_none : growing [] ≡ []
-growing_none = ap (λ (cs : List ℕ). encode_utf8_all (shown_growing true cs)) chars-nil
-
--- a text that goes on is shown as before, and then its piece by the place
-pub growing_more : (a b : List ℕ) → IsUtf8 a → growing (a ++ b) ≡ growing a ++ encode_utf8_all (piece_shown (place_after LineStart (chars a)) (chars b))
-growing_more a b utf8 =
-    ap (λ (cs : List ℕ). encode_utf8_all (shown_growing true cs)) (chars-append a b utf8) ∙ ap encode_utf8_all (some_then true (chars a) (chars b) LineStart refl)
-    ∙ encodes-append (shown_growing true (chars a)) (piece_shown (place_after LineStart (chars a)) (chars b))
-
-encode_end : (p : Place) → encode_utf8_all (end_shown p) ≡ end_shown p
+pub encode_end : (p : Place) → encode_utf8_all (end_shown p) ≡ end_shown p
 unfolding lib.Utf8.encode
 encode_end LineStart = refl
 encode_end InLine = refl
 encode_end AfterReturn = refl
-
--- what is printable of a text is what was shown as it grew, and what is shown at the end
-pub printed_all : (text : List ℕ) → printed text ≡ growing text ++ end_shown (place_after LineStart (chars text))
-printed_all text =
-    ap encode_utf8_all (all_ended true (chars text) LineStart refl) ∙ encodes-append (shown_growing true (chars text)) (end_shown (place_after LineStart (chars text)))
-    ∙ ap (λ (l : List ℕ). growing text ++ l) (encode_end (place_after LineStart (chars text)))
-
--- ---- a piece that is placed behind a character
 
 -- the place after some characters and others
 pub after_both : (p : Place) (cs ds : List ℕ) → place_after p (cs ++ ds) ≡ place_after (place_after p cs) ds
