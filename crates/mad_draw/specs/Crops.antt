@@ -14,6 +14,10 @@ use Rattle.mad_fit.specs.TextColumns.{columns}
 use Rattle.mad_draw.specs.Fillings.{filling_pieces}
 use Rattle.mad_draw.specs.Pieces.{pieces_bytes}
 
+-- what a tab is written as where nothing else is asked for: two spaces
+abbrev pub default_tab : List ℕ
+default_tab = 32 ∷ 32 ∷ []
+
 -- what a crop writer is given: characters that are measured in columns, one character, characters that are counted, a character so many
 -- times
 pub data Given : Type 0 where
