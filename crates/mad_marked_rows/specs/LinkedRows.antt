@@ -17,7 +17,7 @@ use Rattle.mad_links.specs.LinkedAreas.{in_no_link}
 use Rattle.mad_links.specs.LinkedLines.{composite_links}
 use Rattle.mad_mark_runs.specs.declared.mark_runs.MarkRun.{MarkRun}
 use Rattle.mad_marks.specs.RowMarks.{counted}
-use Rattle.mad_marked_text.specs.LinkedTexts.{text_links}
+use Rattle.mad_marked_rows.specs.LinkedTexts.{text_links}
 
 -- a compound before which so many counted characters are: its parts in their links where it is counted, else its piece, in none
 abbrev pub linked_compound : (ℕ → ContentStyle → ContentStyle) → (Flags → Bool) → List MarkRun → RowSkin → LineStyle → ℕ → Compound → List LinkedPiece
