@@ -1,4 +1,4 @@
--- What callers rely on.
+-- The laws of rows with marks, without links: what callers rely on.
 use Rattle.std.specs.Prelude.{◌≡◌, ℕ, ◌<◌, Bool, List, [], Option, chars, length}
 use Rattle.std.specs.List.{AllByRecursion}
 use Rattle.std.specs.Str.{IsUtf8}

@@ -1,4 +1,4 @@
--- What callers rely on.
+-- The law of what is drawn again: it is what the row shows.
 use Rattle.std.specs.Prelude.{◌≡◌, ℕ, Bool, List, map}
 use Rattle.std.specs.List.{AllByRecursion}
 use Rattle.std.specs.Str.{IsUtf8}

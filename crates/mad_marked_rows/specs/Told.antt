@@ -1,4 +1,4 @@
--- What is seen of pieces, and what is told of their pens.
+-- What is told of the characters and cells of pieces, by their pens.
 use Rattle.std.specs.Prelude.{◌≡◌, ℕ, List, map}
 use Rattle.mad_term.specs.declared.styles.ContentStyle.{ContentStyle}
 use Rattle.mad_screen.specs.Glyph.{Glyph, Look}
