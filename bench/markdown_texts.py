@@ -16,11 +16,23 @@ def labels(size):
     return "".join(f"[{number}]: a\n" for number in range(count)) + "\n" + " ".join(f"[{number}]" for number in range(count))
 
 
+# A hash that multiplies 16 bytes at a time is nought for all texts of 32 bytes that begin so, whatever the last eight are: the eight before
+# them are what the first 16 come to, so one factor is nought. Of random letters one in some million comes to letters.
+COLLIDING = "nzrqkwuutsdcrhacborstpsw"
+
+
+def colliding_labels(size):
+    """Many definitions whose labels collide in a hash of a fixed seed, and a bracket for each."""
+    labels = [f"[{COLLIDING}{number:08}]" for number in range(size // 73)]
+    return "".join(f"{label}: a\n" for label in labels) + "\n" + " ".join(labels)
+
+
 TEXTS = {
     **OF_THE_MODEL,
     "prose": repeated("some words, and **bold** ones; "),
     "links": repeated("[a](b)"),
     "labels and their definitions": labels,
+    "labels that collide": colliding_labels,
     "instructions and a sign >": repeated("a <? ", end=">"),
     "images of html": repeated("<img alt='a'>", "a "),
     "names": repeated("&la;"),

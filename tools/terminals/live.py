@@ -1,16 +1,26 @@
 """Texts that grow in tmux: what `termimad-view live` leaves there, in the history and on the screen."""
 import os
 import random
+import re
 import shlex
 import subprocess
+import sys
 import time
 
-from windows import Tmux, tmux
+from windows import ROOT, Tmux, tmux
+
+sys.path.insert(0, str(ROOT / "tools"))
+
+from markdown_model.steady import steady
 
 # The terminal's columns and rows; the text has one column less.
 SIZES = [(80, 24), (60, 10), (20, 5)]
 LOOKS = 40
 SECONDS = 6.0
+# Emoji with selectors, skin tones and joiners, as language models write them, and words with soft hyphens, in rows that are full.
+EMOJI = ["\u26a0\ufe0f", "1\ufe0f\u20e3", "\u2764\ufe0f", "\u2705", "\U0001f44d\U0001f3fd", "\U0001f468\u200d\U0001f469\u200d\U0001f467", "\U0001f1e9\U0001f1ea", "co\u00ado\u00adper\u00adate"]
+# Vowel signs that tmux counts, and we don't: their rows are too wide for it.
+BENGALI = "\u09ac\u09be\u0982\u09b2\u09be \u09ad\u09be\u09b7\u09be "
 
 
 def growing_text():
@@ -19,7 +29,8 @@ def growing_text():
     code = "".join(f"let line_{n} = {'very ' * (n % 4)}long({n});\n" for n in range(30))
     return ("# A text that grows\n\nIt has **words** that come one after another, and it is laid out as they come.\n\n* an item of a list, with enough words for two rows\n"
         f"  * and one below\n1. the first\n> a quote of some words\n|n|what|square|\n|:-:|:-|-:|\n{rows}\nBelow the table, 日本語のテキスト and `code`.\n---\n"
-        f"```\n{code}```\n\tcode by a tab\r\nThe last line, which has **no** newline")
+        f"```\n{code}```\n\tcode by a tab\r\n{' '.join(EMOJI * 6)}\n* {BENGALI * 20}\n|{EMOJI[0]}|{EMOJI[1]}|\n|{BENGALI * 3}|{EMOJI[7]}|\n"
+        "The last line, which has **no** newline")
 
 
 def kind_of(line, fenced):
@@ -43,7 +54,7 @@ def complete(text):
 
 
 def rows_of(program, text, width):
-    shown = text.replace("\r\n", "\n").replace("\n\t", "\n    ").removesuffix("\r")
+    shown = steady(text.replace("\r\n", "\n").replace("\n\t", "\n    ").removesuffix("\r"))
     written = subprocess.run([program, "text", str(width)], input=shown.encode(), capture_output=True, check=True).stdout
     return [row.rstrip() for row in written.decode().split("\n")[:-1]]
 
@@ -53,6 +64,11 @@ def wanted(program, text, width, height, is_last):
     rows = rows_of(program, text, width)
     done = len(rows) if is_last else len(rows_of(program, text[: complete(text)], width))
     return rows[:done] + rows[done:][-height:]
+
+
+def without_half(text):
+    """A text so far without half of a flag: the next character tells what that is."""
+    return text[:-1] if len(re.search("[\U0001f1e6-\U0001f1ff]*$", text)[0]) % 2 else text
 
 
 def without_blanks(rows):
@@ -82,17 +98,22 @@ def grow(program, folder, columns, height, chance):
                 if at >= next_look:
                     next_look = at + len(data) // LOOKS
                     looks += 1
-                    if fault := differs(window, wanted(program, data[:at].decode(errors="ignore"), columns - 1, height, False), f"after {at} bytes"):
+                    if fault := differs(window, wanted(program, without_half(data[:at].decode(errors="ignore")), columns - 1, height, False), f"after {at} bytes"):
                         return fault, looks
         return differs(window, wanted(program, text, columns - 1, height, True), "at the end"), looks + 1
     finally:
         window.close()
 
 
+def before_signs(row):
+    """A row up to where tmux counts more columns: there its end stands elsewhere, or past the last column."""
+    return re.split("[\u0980-\u09ff]", row)[0].rstrip()
+
+
 def differs(window, rows, when):
-    rows = without_blanks(rows)
+    rows = [before_signs(row) for row in without_blanks(rows)]
     end = time.monotonic() + SECONDS
-    while (shown := history(window)) != rows:
+    while (shown := [before_signs(row) for row in history(window)]) != rows:
         if time.monotonic() > end:
             first = next((n for n, (a, b) in enumerate(zip(rows, shown)) if a != b), min(len(rows), len(shown)))
             return f"{when}: {len(rows)} rows wanted and {len(shown)} shown; from row {first} on {rows[first : first + 2]} / {shown[first : first + 2]}"

@@ -98,6 +98,7 @@ none_among : (at : ℕ) (ls : List FmtLine) → NoCode ls → blocks_among at (p
 none_among at [] h = refl
 none_among at (l ∷ ls) h = skip_among at l ls h.0 ∙ none_among (at + 1) ls h.1
 
+-- where no line is left that is code, no block is
 pub found_none : (lines : List FmtLine) (at : ℕ) → NoCode (drop at lines) → blocks_among at (parts_of (drop at lines)) ≡ []
 found_none lines at h = none_among at (drop at lines) h
 
@@ -127,6 +128,7 @@ some_among : (at : ℕ) (own : List FmtComposite) (rest : List FmtLine) → 0 < 
 some_among at [] rest some code ends = absurd (omega (arith, some))
 some_among at (l ∷ ls) rest some code ends = ap (blocks_among at) (block_first l ls rest code ends)
 
+-- a closed block that has lines is the first of those that are left
 pub found_some : (lines : List FmtLine) (at : ℕ) (b : CodeBlock) → IsClosedBlock lines at b → 0 < b.height → blocks_among at (parts_of (drop at lines)) ≡ b ∷ blocks_among (at + b.height) (parts_of (drop (at + b.height) lines))
 found_some lines at b h some =
     let rest = drop (at + b.height) lines in
@@ -148,6 +150,7 @@ past_skipped lines from b h =
     let is : from + (b.start - from) ≡ b.start = omega (arith, h.after) in
     drop-drop (b.start - from) from lines ∙ ap (λ (n : ℕ). drop n lines) is
 
+-- the next block is the first of those that are left
 pub found_next : (lines : List FmtLine) (from : ℕ) (b : CodeBlock) → IsNextBlock lines from b
     → blocks_among from (parts_of (drop from lines)) ≡ b ∷ blocks_among (b.start + b.height) (parts_of (drop (b.start + b.height) lines))
 found_next lines from b h =
@@ -163,11 +166,13 @@ pub record NoCodeSoFar (lines : List FmtLine) (from at : ℕ) : Type 0 where
   pub inside : at ≤ length lines
   pub none : NoCode (take (at - from) (drop from lines))
 
+-- no line was passed yet
 pub no_code_start : (lines : List FmtLine) (from : ℕ) → from ≤ length lines → NoCodeSoFar lines from from
 no_code_start lines from inside =
     let none : 0 ≡ from - from = omega arith in
     record { after = omega arith; inside = inside; none = subst (λ (n : ℕ). NoCode (take n (drop from lines))) none tt }
 
+-- a line at which the block has no line is passed
 pub no_code_more : (lines : List FmtLine) (from at : ℕ) (b : CodeBlock) → NoCodeSoFar lines from at → IsClosedBlock lines at b → at < length lines → b.height ≡ 0 → NoCodeSoFar lines from (at + 1)
 no_code_more lines from at b h closed inside none =
     let n = at - from in
@@ -183,11 +188,13 @@ no_code_more lines from at b h closed inside none =
           (all_push (λ (l : FmtLine). is_code_line l ≡ false) (take n (drop from lines)) (get_or (drop from lines) n HorizontalRule) h.none (ap is_code_line here ∙ none_here lines at b closed inside none)));
     }
 
+-- past the last line none of those that were left is code
 pub no_code_left : (lines : List FmtLine) (from at : ℕ) → NoCodeSoFar lines from at → length lines ≤ at → NoCode (drop from lines)
 no_code_left lines from at h past =
     let all : at - from ≡ length (drop from lines) = omega (arith, past, h.after, h.inside, length-drop from lines) in
     subst NoCode (ap (λ (n : ℕ). take n (drop from lines)) all ∙ take-length (drop from lines)) h.none
 
+-- a block with lines that begins behind the lines that were passed is the next one
 pub next_found : (lines : List FmtLine) (from at : ℕ) (b : CodeBlock) → NoCodeSoFar lines from at → IsClosedBlock lines at b → 0 < b.height → IsNextBlock lines from b
 next_found lines from at b h closed some = record {
   after = omega (arith, h.after, closed.start);
@@ -206,6 +213,7 @@ columns_none : (b : Bool) (l : FmtComposite) → (if b then Some l.visible_lengt
 columns_none true l h = absurd (cc)
 columns_none false l h = refl
 
+-- a line without columns of code is no line of code
 pub code_none : (l : FmtLine) → code_columns l ≡ None → is_code_line l ≡ false
 code_none (Normal l) h = columns_none (is_code_kind l.kind) l h
 code_none _ h = refl
@@ -217,6 +225,7 @@ pub record IsCodeLine (l : FmtLine) (columns : ℕ) : Type 0 where
   pub code : is_code_kind own.kind ≡ true
   pub columns_are : columns ≡ own.visible_length
 
+-- a line with columns of code is a line of code
 pub code_some : (l : FmtLine) (n : ℕ) → code_columns l ≡ Some n → IsCodeLine l n
 code_some (Normal l) n h = let is = columns_if (is_code_kind l.kind) l n h in record { own = l; is = refl; code = is.0; columns_are = is.1 }
 code_some _ n h = absurd (cc)
@@ -230,6 +239,7 @@ pub record CodeSoFar (lines : List FmtLine) (at height width : ℕ) : Type 0 whe
   pub lines_are : drop at lines ≡ map Normal own ++ drop (at + height) lines
   pub inside : at + height ≤ length lines
 
+-- no line of the block was counted yet
 pub code_start : (lines : List FmtLine) (at : ℕ) → at ≤ length lines → CodeSoFar lines at 0 0
 code_start lines at inside = let same : at ≡ at + 0 = omega arith in record {
   own = [];
@@ -240,6 +250,7 @@ code_start lines at inside = let same : at ≡ at + 0 = omega arith in record {
   inside = omega (arith, inside);
 }
 
+-- one more line of code is counted
 pub code_more : (lines : List FmtLine) (at height width columns new : ℕ) (l : FmtLine) → CodeSoFar lines at height width → at + height < length lines → l ≡ get_or lines (at + height) l → IsCodeLine l columns → new ≡ max columns width
     → CodeSoFar lines at (height + 1) new
 code_more lines at height width columns new l h inside here line new_is =
@@ -254,12 +265,15 @@ code_more lines at height width columns new l h inside here line new_is =
       inside = omega (arith, inside);
     }
 
+-- where no line of code follows, the block is closed
 pub code_ends : (lines : List FmtLine) (at height width : ℕ) (b : CodeBlock) → CodeSoFar lines at height width → NoCodeFirst (drop (at + height) lines) → b ≡ record { start = at; height = height; width = width } → IsClosedBlock lines at b
 code_ends lines at height width b h ends is = subst (IsClosedBlock lines at) (sym is) (record { own = h.own; code = h.code; start = refl; height = h.height_is; width = h.width_is; lines_are = h.lines_are; ends = ends })
 
+-- none follows where the line there isn't code
 pub ends_at : (lines : List FmtLine) (at : ℕ) (l : FmtLine) → at < length lines → l ≡ get_or lines at l → is_code_line l ≡ false → NoCodeFirst (drop at lines)
 ends_at lines at l inside here h = subst NoCodeFirst (sym (next_of lines at l inside here)) h
 
+-- none follows past the last line
 pub ends_past : (lines : List FmtLine) (at : ℕ) → length lines ≤ at → NoCodeFirst (drop at lines)
 ends_past lines at past = subst NoCodeFirst (sym (at_drop_all (λ l. l) lines at past)) tt
 
@@ -268,6 +282,7 @@ pub within_lines : (lines : List FmtLine) (at : ℕ) (b : CodeBlock) → IsClose
 within_lines lines at b h inside =
     omega (arith, inside, h.height, ap length h.lines_are, length-append (map Normal h.own) (drop (at + b.height) lines), length-normal h.own, length-drop at lines, length-drop (at + b.height) lines)
 
+-- so does the next block
 pub within_next : (lines : List FmtLine) (from : ℕ) (b : CodeBlock) → IsNextBlock lines from b → b.start + b.height ≤ length lines
 within_next lines from b h =
     let begins : b.start < length lines = begins_inside lines b.start b h.closed h.some in
@@ -309,11 +324,13 @@ placed_step width start index old lines l m from inside held here is =
     ap (λ ls. set ls index m) held ∙ set-append_right front (first_placed width n back) start index m size from ∙ ap (λ (x : FmtLine). front ++ set (first_placed width n back) n x) is
     ∙ ap (λ ls. front ++ ls) (placed_more width n back l room read) ∙ ap (λ (k : ℕ). front ++ first_placed width k back) next
 
+-- no line was placed yet
 pub placed_start : (width start : ℕ) (old : List FmtLine) → old ≡ take start old ++ first_placed width (start - start) (drop start old)
 placed_start width start old =
     let none : 0 ≡ start - start = omega arith in
     sym (take-append-drop start old) ∙ ap (λ (n : ℕ). take start old ++ first_placed width n (drop start old)) none
 
+-- after as many lines as the block has, all of these are in their place
 pub placed_whole : (start height index width : ℕ) (old : List FmtLine) → start ≤ index → index ≡ start + height
     → take start old ++ first_placed width (index - start) (drop start old) ≡ take start old ++ (map (placed_line width) (take height (drop start old)) ++ drop (start + height) old)
 placed_whole start height index width old from all =
@@ -345,9 +362,11 @@ pub record PlacedSoFar (room : Option ℕ) (all lines : List FmtLine) (at : ℕ)
   pub inside : at ≤ length lines
   pub so_far : take at lines ++ blocks_placed room (drop at lines) ≡ blocks_placed room all
 
+-- no block was placed yet
 pub so_far_start : (room : Option ℕ) (all : List FmtLine) → PlacedSoFar room all all 0
 so_far_start room all = record { inside = omega arith; so_far = refl }
 
+-- the lines before the next block stay
 pub so_far_next : (room : Option ℕ) (all lines : List FmtLine) (from : ℕ) (b : CodeBlock) → PlacedSoFar room all lines from → IsNextBlock lines from b → PlacedSoFar room all lines b.start
 so_far_next room all lines from b h next =
     let n = b.start - from in
@@ -373,6 +392,7 @@ normal_length : (room : Option ℕ) (ls : List FmtComposite) (n : ℕ) → lengt
 normal_length room [] n = refl
 normal_length room (l ∷ ls) n = ap suc (normal_length room ls n)
 
+-- that block is placed
 pub so_far_block : (room : Option ℕ) (all lines new : List FmtLine) (at width : ℕ) (b : CodeBlock) → PlacedSoFar room all lines at → IsClosedBlock lines at b → width ≡ width_within room b.width
     → new ≡ with_block_placed (record { start = b.start; height = b.height; width = width }) lines → PlacedSoFar room all new (at + b.height)
 so_far_block room all lines new at width b h is lowered placed =
@@ -393,5 +413,6 @@ so_far_block room all lines new at width b h is lowered placed =
           ∙ h.so_far;
     }
 
+-- where no code is left, all blocks are placed
 pub so_far_end : (room : Option ℕ) (all lines : List FmtLine) (at : ℕ) → PlacedSoFar room all lines at → NoCode (drop at lines) → lines ≡ blocks_placed room all
 so_far_end room all lines at h none = sym (take-append-drop at lines) ∙ ap (λ ls. take at lines ++ ls) (sym (none_placed room (drop at lines) none)) ∙ h.so_far

@@ -37,6 +37,7 @@ tested : (skin : LineRules) (l : FmtComposite) → (style_margins skin 10 l).0 �
 tested skin l none (inl (fits, is)) = absurd (omega (arith, ap first_left is, none))
 tested skin l none (inr (wide, (wrap, wraps, is))) = absurd (omega (arith, ap first_left is, no_left (style_margins skin 10 l) wrap none))
 
+-- margins that are tested again at the width that is drawn are refused
 pub margins_tested_again : MarginsTestedAgainAreRefused
 margins_tested_again skin l code left right laid =
     let style : skin.line_style l.kind ≡ skin.line_style Code = ap skin.line_style code in
@@ -59,6 +60,7 @@ left skin width l margins wide room (inl (fits, is)) = absurd (omega (arith, wid
 left skin width l margins wide room (inr (wider, (wrap, wraps, is))) =
     absurd (omega (arith, wide, first_fits skin (width - (style_margins skin width l).0 - (style_margins skin width l).1) l wrap l.visible_length (style_margins skin width l) room wraps (ap first_length is)))
 
+-- a long line that is left as it is, where its characters have room, is refused
 pub long_line_left : LongLineLeftIsRefused
 long_line_left skin width l margins wide room laid = left skin width l margins wide room laid
 
@@ -71,5 +73,6 @@ abbrev first_width : List FmtComposite → ℕ
 first_width [] = 0
 first_width (l ∷ ls) = place_width l.spacing
 
+-- a block as wide as its last line, which is narrower than the first, is refused
 pub last_lines_width : LastLinesWidthIsRefused
 last_lines_width a b wider same = absurd (omega (arith, wider, ap first_width same))

@@ -31,6 +31,7 @@ at_most_one : (cells : List FmtComposite) → tallest (alone cells) ≤ 1
 at_most_one [] = omega arith
 at_most_one (x ∷ xs) = omega (arith, at_most_one xs)
 
+-- a row whose cells all fit is laid out as one row, with each cell in its place
 pub row_stays : (wraps : Wrap) (skin : LineRules) (columns : List Spacing) (cells : List FmtComposite) (row : FmtTableRow) → AllFit columns cells → ArePlaced columns cells row.cells.items → IsRowLaidOutBy wraps skin columns cells (row ∷ [])
 row_stays wraps skin columns cells row fit placed = record {
   lines = alone cells;

@@ -16,18 +16,21 @@ use Rattle.mad_blocks.proofs.PartRuns.{table_in_front, block_in_front, alone_fir
 
 -- ---- tests
 
+-- what holds in either case of a test holds
 pub by_bool : (P : Bool → Type 0) (b : Bool) → (b ≡ true → P true) → (b ≡ false → P false) → P b
 by_bool P true on off = on refl
 by_bool P false on off = off refl
 
 -- ---- no part goes on from these lines to those
 
+-- no part goes on from the last of these lines to the first of those
 abbrev pub apart : List LineContent → List LineContent → Bool
 apart [] rest = true
 apart (c ∷ []) [] = true
 apart (c ∷ []) (d ∷ ds) = not (stand_together c d)
 apart (c ∷ d ∷ cs) rest = apart (d ∷ cs) rest
 
+-- none goes on where nothing follows
 pub apart_end : (front : List LineContent) → apart front [] ≡ true
 apart_end [] = refl
 apart_end (c ∷ []) = refl
@@ -68,6 +71,7 @@ off_of false h = refl
 ends_there : (c d : LineContent) (ds : List LineContent) (ps : List (List LineContent)) → stand_together c d ≡ false → in_front c ((d ∷ ds) ∷ ps) ≡ (c ∷ []) ∷ (d ∷ ds) ∷ ps
 ends_there c d ds ps h = ap (λ (b : Bool). if b then (c ∷ d ∷ ds) ∷ ps else (c ∷ []) ∷ (d ∷ ds) ∷ ps) h
 
+-- then the parts of all lines are those of these, and then those of those
 pub apart_parts : (front rest : List LineContent) → apart front rest ≡ true → text_parts (front ++ rest) ≡ text_parts front ++ text_parts rest
 apart_parts [] rest h = refl
 apart_parts (c ∷ []) [] h = refl
@@ -83,6 +87,7 @@ apart_parts (c ∷ d ∷ cs) rest h =
 
 -- ---- so it is for what was read of them
 
+-- what is read of a line is code, or a line of a table, where the line is
 pub is_as_read : (skin : LineRules) (c : LineContent) (l : FmtLine) → IsLineRead skin c l → (is_code_line l ≡ is_code c) × (is_table_line l ≡ is_table c)
 is_as_read skin (normal said) (Normal l) h = (ap is_code_kind h.kind, refl)
 is_as_read skin (table_row cells) (TableRow row) h = (refl, refl)
@@ -177,6 +182,7 @@ read_apart skin (c ∷ d ∷ cs) rest (l ∷ k ∷ ls) ms h f r =
     ∙ ap (λ (ps : List Part). with_line l ps ++ parts_of ms) (sym some.2)
 read_apart skin _ _ _ _ h f r = absurd f
 
+-- lines and then others are read as all of them
 pub both_read : (skin : LineRules) (front rest : List LineContent) (ls ms : List FmtLine) → AreRead skin front ls → AreRead skin rest ms → AreRead skin (front ++ rest) (ls ++ ms)
 both_read skin [] rest [] ms f r = r
 both_read skin (c ∷ cs) rest (l ∷ ls) ms f r = (f.0, both_read skin cs rest ls ms f.1 r)

@@ -30,10 +30,12 @@ record TellsParts (test : LineContent → Bool) : Type 0 where
   both : (c d : LineContent) → test c ≡ true → test d ≡ true → stand_together c d ≡ true
   other : (c d : LineContent) → test c ≡ true → test d ≡ false → stand_together c d ≡ false
 
+-- a line of code is none of a table
 pub code_no_table : (c : LineContent) → is_code c ≡ true → is_table c ≡ false
 code_no_table (normal said) h = refl
 code_no_table _ h = absurd (cc)
 
+-- a line of a table is none of code
 pub table_no_code : (c : LineContent) → is_table c ≡ true → is_code c ≡ false
 table_no_code (normal said) h = absurd (cc)
 table_no_code (table_row cells) h = refl
@@ -89,6 +91,7 @@ part_laid skin width first others before after lines new own joins one cut added
   layout = layout;
 }
 
+-- a line that is neither is laid out as a part
 pub single_laid : (skin : LineRules) (width : Option ℕ) (c : LineContent) (after : List LineContent) (l : FmtLine) (lines new own : List FmtLine) → is_code c ≡ false → is_table c ≡ false → IsLineRead skin c l
     → new ≡ lines ++ own → IsLineAt IsCompositeWrap skin (wrap_width width) l own → LaidPart skin width (c ∷ after) lines after new
 single_laid skin width c after l lines new own no_code no_table read added becomes =
@@ -110,9 +113,11 @@ pub record RunSoFar (test : LineContent → Bool) (skin : LineRules) (first : Li
   pub told : AllByRecursion (λ c. test c ≡ true) others
   pub reads : AreRead skin (first ∷ others) read
 
+-- the first line of a run was read
 pub run_start : (test : LineContent → Bool) (skin : LineRules) (first : LineContent) (before : List LineContent) (l : FmtLine) (read : List FmtLine) → IsLineRead skin first l → read ≡ l ∷ [] → RunSoFar test skin first before before read
 run_start test skin first before l read is pushed = record { others = []; joins = refl; told = tt; reads = subst (AreRead skin (first ∷ [])) (sym pushed) (is, tt) }
 
+-- one line more was read, which the test tells
 pub run_more : (test : LineContent → Bool) (skin : LineRules) (first : LineContent) (before left after : List LineContent) (c : LineContent) (l : FmtLine) (read new : List FmtLine) → RunSoFar test skin first before left read
     → left ≡ c ∷ after → test c ≡ true → IsLineRead skin c l → new ≡ read ++ l ∷ [] → RunSoFar test skin first before after new
 run_more test skin first before left after c l read new h next on is pushed = record {
@@ -122,11 +127,13 @@ run_more test skin first before left after c l read new h next on is pushed = re
   reads = subst (AreRead skin (first ∷ (h.others ++ c ∷ []))) (sym pushed) (both_read skin (first ∷ h.others) (c ∷ []) read (l ∷ []) h.reads (is, tt));
 }
 
+-- the cached lengths of lines that were read are right
 pub measured_read : (skin : LineRules) (cs : List LineContent) (ls : List FmtLine) → AreRead skin cs ls → AllMeasured skin ls
 measured_read skin [] [] h = tt
 measured_read skin (c ∷ cs) (l ∷ ls) h = (line_measured skin c l h.0, measured_read skin cs ls h.1)
 measured_read skin _ _ h = absurd h
 
+-- so are those of a block
 pub block_measured : (skin : LineRules) (cs : List LineContent) (ls : List FmtComposite) → AreRead skin cs (map Normal ls) → AllByRecursion (IsMeasured skin) ls
 block_measured skin [] [] h = tt
 block_measured skin (c ∷ cs) (l ∷ ls) h = (line_measured skin c (Normal l) h.0, block_measured skin cs ls h.1)
@@ -142,6 +149,7 @@ code_read skin [] [] all h = tt
 code_read skin (c ∷ cs) (l ∷ ls) all h = ((is_as_read skin c (Normal l) h.0).0 ∙ all.0, code_read skin cs ls all.1 h.1)
 code_read skin _ _ all h = absurd h
 
+-- a run of code that is laid out as a block is the first part of what was left
 pub block_part : (skin : LineRules) (width : Option ℕ) (first : LineContent) (before left : List LineContent) (block : List FmtComposite) (lines new own : List FmtLine) → is_code first ≡ true → RunSoFar is_code skin first before left (map Normal block)
     → NoneNext is_code left → new ≡ lines ++ own → IsBlockAt skin width block own → LaidPart skin width (first ∷ before) lines left new
 block_part skin width first before left block lines new own on h none added becomes =
@@ -154,6 +162,7 @@ block_part skin width first before left block lines new own on h none added beco
       laid = subst (λ (ps : List Part). ArePartsAt IsCompositeWrap skin (table_width width) (wrap_width width) ps own) (sym parts) (block_laid skin (table_width width) (wrap_width width) block own becomes);
     })
 
+-- a run of lines of a table that is laid out is the first part of what was left
 pub table_part : (skin : LineRules) (width : Option ℕ) (first : LineContent) (before left : List LineContent) (table lines new own : List FmtLine) → is_table first ≡ true → RunSoFar is_table skin first before left table
     → NoneNext is_table left → new ≡ lines ++ own → IsTableLaidOutBy IsCompositeWrap skin (columns_count table) (table_width width) table own → LaidPart skin width (first ∷ before) lines left new
 table_part skin width first before left table lines new own on h none added becomes =
@@ -175,6 +184,7 @@ pub record LaidSoFar (skin : LineRules) (width : Option ℕ) (all left : List Li
   pub whole : apart front left ≡ true
   pub layout : IsLayoutAt skin width front lines
 
+-- no part is laid out yet
 pub laid_none : (skin : LineRules) (width : Option ℕ) (all : List LineContent) → LaidSoFar skin width all all []
 laid_none skin width all = record { front = []; joins = refl; whole = refl; layout = record { read = []; reads = tt; laid = refl } }
 
@@ -217,14 +227,17 @@ laid_more skin width all left after done lines new h p =
 pub laid_on : (skin : LineRules) (width : Option ℕ) (all left after : List LineContent) (lines new : List FmtLine) → LaidSoFar skin width all left lines → LaidPart skin width left lines after new → LaidSoFar skin width all after new
 laid_on skin width all left after lines new h p = subst (LaidSoFar skin width all after) (sym p.added) (laid_more skin width all left after lines lines new h p)
 
+-- after a part fewer lines are left
 pub laid_shorter : (skin : LineRules) (width : Option ℕ) (left after : List LineContent) (lines new : List FmtLine) → LaidPart skin width left lines after new → length after < length left
 laid_shorter skin width left after lines new p = omega (arith, ap length p.joins, length-append p.others after)
 
+-- where none are left, the lines are a layout of the text
 pub laid_whole : (skin : LineRules) (width : Option ℕ) (all left : List LineContent) (lines new : List FmtLine) → LaidSoFar skin width all left lines → left ≡ [] → new ≡ lines → IsLayoutAt skin width all new
 laid_whole skin width all left lines new h none same =
     let front : h.front ≡ all = sym (h.joins ∙ ap (λ (cs : List LineContent). h.front ++ cs) none ∙ append-nil h.front) in
     subst (IsLayoutAt skin width all) (sym same) (subst (λ (cs : List LineContent). IsLayoutAt skin width cs lines) front h.layout)
 
+-- where none are left, or as many rows are there as are asked for, they are a layout of a front
 pub laid_front : (skin : LineRules) (width : Option ℕ) (rows : ℕ) (all left : List LineContent) (lines : List FmtLine) → LaidSoFar skin width all left lines → (left ≡ []) ⊎ (rows ≤ length lines) → IsFrontLayout skin width rows all lines
 laid_front skin width rows all left lines h stop = record {
   front = h.front;

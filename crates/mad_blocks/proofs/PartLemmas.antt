@@ -32,6 +32,7 @@ IsPlacedCodeLine skin width _ m = ⊥
 abbrev pub IsPlacedOrKept : LineRules → ℕ → FmtLine → FmtLine → Type 0
 IsPlacedOrKept skin width l m = (m ≡ l) ⊎ IsPlacedCodeLine skin width l m
 
+-- each of the lines stays, or is placed so
 abbrev pub ArePlacedOrKept : LineRules → ℕ → List FmtLine → List FmtLine → Type 0
 ArePlacedOrKept skin width [] [] = Unit {0}
 ArePlacedOrKept skin width (l ∷ ls) (m ∷ ms) = IsPlacedOrKept skin width l m × ArePlacedOrKept skin width ls ms
@@ -65,6 +66,7 @@ with_composite_kinds : (b : Bool) (l : FmtComposite) (ps : List Part) → is_cod
 with_composite_kinds true l ps code h = with_code_kinds l ps code h
 with_composite_kinds false l ps code h = (refl, h)
 
+-- the parts of lines are so
 pub parts_kinds : (ls : List FmtLine) → AllByRecursion IsPartOfKind (parts_of ls)
 parts_kinds [] = tt
 parts_kinds (Normal l ∷ ls) = with_composite_kinds (is_code_kind l.kind) l (parts_of ls) refl (parts_kinds ls)
@@ -72,6 +74,7 @@ parts_kinds (TableRow row ∷ ls) = with_table_kinds (TableRow row) (parts_of ls
 parts_kinds (TableRule rule ∷ ls) = with_table_kinds (TableRule rule) (parts_of ls) refl (parts_kinds ls)
 parts_kinds (HorizontalRule ∷ ls) = (refl, parts_kinds ls)
 
+-- the kind of code is `Code`
 pub code_is : (k : CompositeKind) → is_code_kind k ≡ true → k ≡ Code
 code_is Code h = refl
 code_is _ h = absurd (cc)

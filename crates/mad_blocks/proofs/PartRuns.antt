@@ -13,16 +13,20 @@ use Rattle.mad_format.specs.declared.line.FmtLine.TheVariants.{Normal, TableRow,
 
 -- ---- what lines are
 
+-- each line is one of a table
 abbrev pub AllTableLines : List FmtLine → Type 0
 AllTableLines ls = AllByRecursion (λ l. is_table_line l ≡ true) ls
 
+-- each line is one of code
 abbrev pub AllCode : List FmtComposite → Type 0
 AllCode ls = AllByRecursion (λ l. is_code_kind l.kind ≡ true) ls
 
+-- no line of a table comes first
 abbrev pub NoTableFirst : List FmtLine → Type 0
 NoTableFirst [] = Unit {0}
 NoTableFirst (l ∷ ls) = is_table_line l ≡ false
 
+-- a line of a table is none of code
 pub table_not_code : (l : FmtLine) → is_table_line l ≡ true → is_code_line l ≡ false
 table_not_code (Normal l) h = absurd (cc)
 table_not_code (TableRow row) h = refl
@@ -66,6 +70,7 @@ abbrev pub table_parts : List FmtLine → List Part
 table_parts [] = []
 table_parts (l ∷ ls) = table (l ∷ ls) ∷ []
 
+-- lines of a table in front of others are a part of their own
 pub table_in_front : (run rest : List FmtLine) → AllTableLines run → NoTableFirst rest → parts_of (run ++ rest) ≡ table_parts run ++ parts_of rest
 table_in_front [] rest run first = refl
 table_in_front (l ∷ ls) rest run first = one_table l ls rest run first
@@ -96,6 +101,7 @@ abbrev pub block_parts : List FmtComposite → List Part
 block_parts [] = []
 block_parts (l ∷ ls) = block (l ∷ ls) ∷ []
 
+-- lines of code in front of others are a part of their own
 pub block_in_front : (ls : List FmtComposite) (rest : List FmtLine) → AllCode ls → NoCodeFirst rest → parts_of (map Normal ls ++ rest) ≡ block_parts ls ++ parts_of rest
 block_in_front [] rest h n = refl
 block_in_front (l ∷ []) rest h n = ap (λ b. with_composite b l (parts_of rest)) h.0 ∙ last_of_block l rest n
@@ -103,6 +109,7 @@ block_in_front (l ∷ m ∷ ls) rest h n = ap (λ b. with_composite b l (parts_o
 
 -- ---- any other line
 
+-- any other line in front of others is a part by itself
 pub alone_first : (l : FmtLine) (ls : List FmtLine) → is_code_line l ≡ false → is_table_line l ≡ false → parts_of (l ∷ ls) ≡ single l ∷ parts_of ls
 alone_first (Normal l) ls h k = ap (λ b. with_composite b l (parts_of ls)) h
 alone_first (TableRow row) ls h k = absurd (cc)
@@ -116,6 +123,7 @@ stays_in_front wraps skin width true l (block ls ∷ ps) lines (own, others, joi
     (Normal l ∷ own, others, ap (λ xs. Normal l ∷ xs) joins, ap (λ xs. Normal l ∷ xs) is, more)
 stays_in_front wraps skin width _ l _ lines h = (Normal l ∷ [], lines, refl, refl, h)
 
+-- a line that is not of a table stays where tables are laid out
 pub line_stays : (wraps : Wrap) (skin : LineRules) (width : ℕ) (l : FmtLine) (rest lines : List FmtLine) → is_table_line l ≡ false
     → AreTablesLaidOut wraps skin width rest lines → AreTablesLaidOut wraps skin width (l ∷ rest) (l ∷ lines)
 line_stays wraps skin width (Normal l) rest lines outside h = stays_in_front wraps skin width (is_code_kind l.kind) l (parts_of rest) lines h

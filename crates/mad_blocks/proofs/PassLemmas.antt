@@ -22,10 +22,12 @@ use Rattle.mad_blocks.proofs.PartRuns.{AllTableLines, AllCode, NoTableFirst, tab
 
 -- ---- parts that are apart
 
+-- no table comes first of these parts
 abbrev pub NoTableNext : List Part → Type 0
 NoTableNext (table ls ∷ ps) = ⊥
 NoTableNext _ = Unit {0}
 
+-- no block comes first of these parts
 abbrev pub NoBlockNext : List Part → Type 0
 NoBlockNext (block ls ∷ ps) = ⊥
 NoBlockNext _ = Unit {0}
@@ -53,6 +55,7 @@ apart_composite : (b : Bool) (l : FmtComposite) (ps : List Part) → is_code_kin
 apart_composite true l ps is h = apart_code l ps is h
 apart_composite false l ps is h = (refl, is, h)
 
+-- the parts of lines are so
 pub parts_apart : (ls : List FmtLine) → StandApart (parts_of ls)
 parts_apart [] = tt
 parts_apart (Normal l ∷ ls) = apart_composite (is_code_kind l.kind) l (parts_of ls) refl (parts_apart ls)
@@ -94,6 +97,7 @@ laid_run wraps skin ws cs first [] lines some are h = absurd (omega (arith, some
 laid_run wraps skin ws cs first (l ∷ ls) lines some are (own, others, joins, here, more) =
     subst IsTableRun (sym joins) (runs_joined own others (part_run wraps skin (columns_from ws cs l) (position_at first (length ls == 0)) l own are.0 here) (laid_parts wraps skin ws (columns_from ws cs l) false ls others are.1 more))
 
+-- a table becomes a table's lines, one at least
 pub table_run : (wraps : Wrap) (skin : LineRules) (n width : ℕ) (parts lines : List FmtLine) → 0 < length parts → AllTableLines parts → IsTableLaidOutBy wraps skin n width parts lines → IsTableRun lines
 table_run wraps skin n width parts lines some are (inl none) = subst IsTableRun (sym none.1) (some, are)
 table_run wraps skin n width parts lines some are (inr (columns, place, (ws, widths, laid))) = laid_run wraps skin ws _ true parts lines some are laid
@@ -223,9 +227,11 @@ parts_passes wraps skin tables width (single l ∷ ps) lines apart (own, others,
 
 -- ---- the laws
 
+-- tables, then blocks of code, then wrapping, each over all lines, make the layout part by part
 pub passes_are_parts : (wraps : Wrap) → PassesAreParts wraps
 passes_are_parts wraps skin tables width source tabled lines = passes wraps skin tables width (parts_of source) tabled lines (parts_apart source)
 
+-- each layout part by part is one that these passes make
 pub parts_are_passes : (wraps : Wrap) → PartsArePasses wraps
 parts_are_passes wraps skin tables width source lines h =
     let made : ArePasses wraps skin tables width (parts_of source) lines = parts_passes wraps skin tables width (parts_of source) lines (parts_apart source) h in

@@ -43,6 +43,7 @@ pub record CellsSoFar (skin : LineRules) (columns : List Spacing) (cells : List 
   pub so_far : (more : List (List FmtComposite)) → AreCellsLaidOut IsCompositeWrap skin (drop i columns) rest more → AreCellsLaidOut IsCompositeWrap skin columns cells (cell_lines_left parts ++ more)
   pub height_is : height ≡ max (tallest (cell_lines_left parts)) 1
 
+-- no cell is laid out yet
 pub cells_start : (skin : LineRules) (columns : List Spacing) (cells : List FmtComposite) → AllByRecursion (IsMeasured skin) cells → CellsSoFar skin columns cells 0 cells [] 1
 cells_start skin columns cells measured = record {
   measured = measured;
@@ -55,6 +56,7 @@ below_measured : (skin : LineRules) (rest : List FmtComposite) → AllByRecursio
 below_measured skin [] h = tt
 below_measured skin (l ∷ ls) h = h.1
 
+-- one more cell is laid out in its column
 pub cells_more : (skin : LineRules) (columns : List Spacing) (cells : List FmtComposite) (i : ℕ) (d : Spacing) (rest after : List FmtComposite) (parts new : List CellLines) (p : CellLines) (lines : List FmtComposite) (height taller : ℕ)
     → i < length columns → CellsSoFar skin columns cells i rest parts height → p.column ≡ get_or columns i d → lines_to_come p ≡ lines → IsNextLaidOut IsCompositeWrap skin (get_or columns i d).width rest lines
     → after ≡ below rest → new ≡ parts ++ p ∷ [] → taller ≡ max (length lines) height → CellsSoFar skin columns cells (i + 1) after new taller
@@ -78,6 +80,7 @@ cells_more skin columns cells i d rest after parts new p lines height taller ins
       height_is = let before : height ≡ max (tallest (cell_lines_left parts)) 1 = held.height_is in omega (arith, before, most, taller_is);
     }
 
+-- where no column is left, all cells are laid out
 pub cells_all : (skin : LineRules) (columns : List Spacing) (cells : List FmtComposite) (i : ℕ) (rest : List FmtComposite) (parts : List CellLines) (height : ℕ)
     → drop i columns ≡ [] → CellsSoFar skin columns cells i rest parts height → AreCellsLeft skin columns cells parts
 cells_all skin columns cells i rest parts height none held = record {
@@ -88,6 +91,7 @@ cells_all skin columns cells i rest parts height none held = record {
 
 -- ---- a row taken off the cells
 
+-- What was taken off the first cells, with whatever is taken off the rest, is a row taken off all.
 abbrev pub TakesSoFar : List CellLines → List CellLines → List FmtComposite → List CellLines → Type 0
 TakesSoFar all there cells rest = (xs : List FmtComposite) (qs : List CellLines) → TakesRow there xs qs → TakesRow all (cells ++ xs) (rest ++ qs)
 
@@ -113,6 +117,7 @@ pub record TakenSoFar (all cells : List CellLines) (i : ℕ) (row : List FmtComp
   pub is : cells ≡ done ++ drop i all
   pub so_far : TakesSoFar all (drop i all) row done
 
+-- nothing was taken yet
 pub taken_none : (all cells : List CellLines) (row : List FmtComposite) → cells ≡ all → row ≡ [] → TakenSoFar all cells 0 row
 taken_none all cells row same none = record {
   done = [];
@@ -121,6 +126,7 @@ taken_none all cells row same none = record {
   so_far = subst (λ (r : List FmtComposite). TakesSoFar all all r []) (sym none) (λ xs qs h. h);
 }
 
+-- the first line of the next cell is taken
 pub taken_next : (all cells : List CellLines) (i : ℕ) (row new_row : List FmtComposite) (x : FmtComposite) (p q : CellLines) → i < length all → TakenSoFar all cells i row → p ≡ get_or cells i p
     → IsTop p.column (lines_to_come p) x → q.column ≡ p.column → lines_to_come q ≡ below (lines_to_come p) → new_row ≡ row ++ x ∷ [] → TakenSoFar all (set cells i q) (i + 1) new_row
 taken_next all cells i row new_row x p q inside held there top column rest pushed =
@@ -137,6 +143,7 @@ taken_next all cells i row new_row x p q inside held there top column rest pushe
           (subst (λ (r : CellLines). q.column ≡ r.column) read column) (subst (λ (r : CellLines). lines_to_come q ≡ below (lines_to_come r)) read rest) pushed refl;
     }
 
+-- past the last cell a row is taken
 pub taken_all : (all cells : List CellLines) (i : ℕ) (row : List FmtComposite) → length all ≤ i → TakenSoFar all cells i row → TakesRow all row cells
 taken_all all cells i row past held =
     let none : drop i all ≡ [] = drop_all i all past in
@@ -171,9 +178,11 @@ pub record RowsSoFar (columns : List Spacing) (all parts : List CellLines) (rows
   pub count : length rows ≡ n
   pub so_far : (more : List FmtTableRow) → AreDown columns (cell_lines_left parts) more → AreDown columns (cell_lines_left all) (rows ++ more)
 
+-- no row was taken yet
 pub rows_start : (columns : List Spacing) (all : List CellLines) → columns_left all ≡ columns → RowsSoFar columns all all [] 0
 rows_start columns all columns_are = record { columns_are = columns_are; count = refl; so_far = λ more h. h }
 
+-- one more row was taken
 pub rows_more : (columns : List Spacing) (all parts rest : List CellLines) (rows new : List FmtTableRow) (n : ℕ) (row : FmtTableRow) → RowsSoFar columns all parts rows n
     → TakesRow parts row.cells.items rest → new ≡ rows ++ row ∷ [] → RowsSoFar columns all rest new (n + 1)
 rows_more columns all parts rest rows new n row held taken pushed =
@@ -189,6 +198,7 @@ rows_more columns all parts rest rows new n row held taken pushed =
           (held.so_far (row ∷ more) (across, down));
     }
 
+-- after as many rows as the tallest cell has lines, the row of the table is laid out
 pub rows_all : (skin : LineRules) (columns : List Spacing) (cells : List FmtComposite) (all parts : List CellLines) (rows : List FmtTableRow) (n : ℕ)
     → AreCellsLeft skin columns cells all → n ≡ max (tallest (cell_lines_left all)) 1 → RowsSoFar columns all parts rows n → IsRowLaidOutBy IsCompositeWrap skin columns cells rows
 rows_all skin columns cells all parts rows n laid height held = record {
@@ -214,6 +224,7 @@ columns_next (w ∷ ws) [] (suc i) d inside =
     ap (λ (none : List Alignment). columns_with (drop i ws) none) (sym (drop_none i)) ∙ columns_next ws [] i d less
 columns_next (w ∷ ws) (a ∷ aligns) (suc i) d inside = let less : i < length ws = omega (arith, inside) in columns_next ws aligns i d less
 
+-- one more column has its width and its alignment
 pub columns_more : (ws : List ℕ) (aligns : List Alignment) (i : ℕ) (d : ℕ) (done new : List Spacing) (w : ℕ) (a : Alignment) → i < length ws
     → done ++ columns_with (drop i ws) (drop i aligns) ≡ columns_with ws aligns → w ≡ get_or ws i d → a ≡ unwrap_or (slice_get aligns i) Unspecified
     → new ≡ done ++ record { width = w; align = a } ∷ [] → new ++ columns_with (drop (i + 1) ws) (drop (i + 1) aligns) ≡ columns_with ws aligns
@@ -228,12 +239,14 @@ columns_more ws aligns i d done new w a inside held width_is align_is pushed =
 
 -- ---- lines that are moved
 
+-- one more line is moved from what is left to what was taken
 pub taken_more : (xs : List FmtLine) (n : ℕ) (x : FmtLine) (after : List FmtLine) → drop n xs ≡ x ∷ after → (take (suc n) xs ≡ take n xs ++ x ∷ []) × (drop (suc n) xs ≡ after)
 taken_more [] zero x after e = absurd (cc)
 taken_more [] (suc n) x after e = absurd (cc)
 taken_more (y ∷ ys) zero x after e = (cc, cc)
 taken_more (y ∷ ys) (suc n) x after e = let rest = taken_more ys n x after e in (ap (λ zs. y ∷ zs) rest.0, rest.1)
 
+-- where none is left, all were moved
 pub moved_all : (xs : List FmtLine) (n count : ℕ) → drop n xs ≡ [] → n ≤ count → (take n xs ≡ take count xs) × (drop count xs ≡ [])
 moved_all [] zero zero none less = (refl, refl)
 moved_all [] zero (suc count) none less = (refl, refl)
@@ -281,6 +294,7 @@ pub record PartsSoFar (skin : LineRules) (widths : List ℕ) (all before : List 
   pub lines_are : lines ≡ before ++ done
   pub so_far : (more : List FmtLine) → AreTableLinesBy IsCompositeWrap skin widths columns first rest more → AreTableLinesBy IsCompositeWrap skin widths (centered widths) true all (done ++ more)
 
+-- no line of a table is laid out yet
 pub parts_start : (skin : LineRules) (widths : List ℕ) (all before : List FmtLine) (columns : List Spacing) (rest : List FmtLine) → AllMeasured skin all → columns ≡ centered widths → rest ≡ all
     → PartsSoFar skin widths all before columns true rest before
 parts_start skin widths all before columns rest measured is same =
@@ -292,6 +306,7 @@ parts_start skin widths all before columns rest measured is same =
       so_far = λ more h. subst (λ (cs : List Spacing). AreTableLinesBy IsCompositeWrap skin widths cs true all more) is h;
     })
 
+-- one more line of it is laid out
 pub parts_more : (skin : LineRules) (widths : List ℕ) (all before : List FmtLine) (columns new_columns : List Spacing) (first : Bool) (rest after lines own new : List FmtLine) (line : FmtLine) (cs : List Spacing) (position : RelativePosition) (left : ℕ)
     → PartsSoFar skin widths all before columns first rest lines → rest ≡ line ∷ after → new_columns ≡ columns_from widths columns line → cs ≡ new_columns → left ≡ length after → position ≡ position_at first (left == 0)
     → IsTableLineBy IsCompositeWrap skin cs position line own → new ≡ lines ++ own → PartsSoFar skin widths all before new_columns false after new
@@ -312,6 +327,7 @@ parts_more skin widths all before columns new_columns first rest after lines own
           (held.so_far (own ++ more) (subst (λ (ls : List FmtLine). AreTableLinesBy IsCompositeWrap skin widths columns first ls (own ++ more)) (sym next) both));
     }
 
+-- where no line is left, all lines of the table are laid out
 pub parts_all : (skin : LineRules) (widths : List ℕ) (all before : List FmtLine) (columns : List Spacing) (first : Bool) (rest lines : List FmtLine) → rest ≡ []
     → PartsSoFar skin widths all before columns first rest lines
     → (own : List FmtLine) × (lines ≡ before ++ own) × AreTableLinesBy IsCompositeWrap skin widths (centered widths) true all own
@@ -339,6 +355,7 @@ pub record TablesSoFar (skin : LineRules) (width : ℕ) (all open_table rest lin
   pub parts : AllTableLines open_table
   pub so_far : (more : List FmtLine) → AreTablesLaidOut IsCompositeWrap skin width (open_table ++ rest) more → AreTablesLaidOut IsCompositeWrap skin width all (lines ++ more)
 
+-- no line was passed yet
 pub tables_start : (skin : LineRules) (width : ℕ) (all open_table rest lines : List FmtLine) → AllMeasured skin all → open_table ≡ [] → rest ≡ all → lines ≡ [] → TablesSoFar skin width all open_table rest lines
 tables_start skin width all open_table rest lines measured no_table same none =
     subst (λ (ts : List FmtLine). TablesSoFar skin width all ts rest lines) (sym no_table)
@@ -378,6 +395,7 @@ tables_then_line skin width all open_table rest after lines own between new line
           (held.so_far (own ++ line ∷ more) (subst (λ (ls : List FmtLine). AreTablesLaidOut IsCompositeWrap skin width (open_table ++ ls) (own ++ line ∷ more)) (sym next) both));
     }
 
+-- any other line comes after the table that was open, and none is open then
 pub tables_other : (skin : LineRules) (width : ℕ) (all open_table whole begun rest after lines own between new : List FmtLine) (line : FmtLine) → TablesSoFar skin width all open_table rest lines
     → rest ≡ line ∷ after → is_table_line line ≡ false → whole ≡ open_table → IsTableLaidOutBy IsCompositeWrap skin (columns_count whole) width whole own
     → between ≡ lines ++ own → new ≡ between ++ line ∷ [] → begun ≡ [] → TablesSoFar skin width all begun after new
@@ -386,6 +404,7 @@ tables_other skin width all open_table whole begun rest after lines own between 
     subst (λ (ls : List FmtLine). TablesSoFar skin width all ls after new) (sym begun_is)
     (tables_then_line skin width all open_table rest after lines own between new line held next no_part laid with_table pushed)
 
+-- where no line is left, and the last table is laid out, all tables are
 pub tables_all : (skin : LineRules) (width : ℕ) (all open_table rest lines own new : List FmtLine) → rest ≡ [] → TablesSoFar skin width all open_table rest lines
     → IsTableLaidOutBy IsCompositeWrap skin (columns_count open_table) width open_table own → new ≡ lines ++ own → AreTablesLaidOut IsCompositeWrap skin width all new
 tables_all skin width all open_table rest lines own new none held laid pushed =

@@ -99,6 +99,7 @@ CellsSeen b before fit cells column =
     (width n : ℕ) (rows : List (List FmtComposite)) → TableHasSeen before width (measures_in b n rows)
     → (seen : List (List ℕ)) × TableHasSeen fit width seen × (cells_seen b seen column (drop column cells) ≡ cells_seen b (measures_in b n rows) 0 cells)
 
+-- one more cell of a row is seen
 pub seen_more : (b : Bool) → (before fit after : TblFit) (cells : List FmtComposite) (column : ℕ) (cell : FmtComposite) → CellsSeen b before fit cells column → drop column cells ≡ cell ∷ drop (column + 1) cells
     → ((width : ℕ) (seen : List (List ℕ)) → TableHasSeen fit width seen → TableHasSeen after width (cell_added seen column (measure_of b cell))) → CellsSeen b before after cells (column + 1)
 seen_more b before fit after cells column cell held next sees width n rows start =
@@ -108,6 +109,7 @@ seen_more b before fit after cells column cell held next sees width n rows start
       sym (ap (cells_seen b so_far.0 column) next) ∙ so_far.2,
     )
 
+-- where no cell is left, the row is seen
 pub seen_all : (b : Bool) → (before fit : TblFit) (cells : List FmtComposite) (column : ℕ) → CellsSeen b before fit cells column → drop column cells ≡ []
     → (width n : ℕ) (rows : List (List FmtComposite)) → TableHasSeen before width (measures_in b n rows) → TableHasSeen fit width (measures_in b n (rows ++ cells ∷ []))
 seen_all b before fit cells column held none width n rows start =
@@ -123,9 +125,11 @@ RowsSeen b before fit table i =
     (width n : ℕ) (rows : List (List FmtComposite)) → TableHasSeen before width (measures_in b n rows)
     → (seen : List (List FmtComposite)) × TableHasSeen fit width (measures_in b n seen) × (seen ++ rows_among (drop i table) ≡ rows ++ rows_among table)
 
+-- no row of a table is seen yet
 pub rows_seen_start : (b : Bool) → (before : TblFit) (table : List FmtLine) → RowsSeen b before before table 0
 rows_seen_start b before table width n rows start = (rows, start, refl)
 
+-- one more row is seen
 pub rows_seen_more : (b : Bool) → (before fit after : TblFit) (table : List FmtLine) (i : ℕ) (row : FmtTableRow) → RowsSeen b before fit table i → drop i table ≡ TableRow row ∷ drop (i + 1) table
     → ((width n : ℕ) (rows : List (List FmtComposite)) → TableHasSeen fit width (measures_in b n rows) → TableHasSeen after width (measures_in b n (rows ++ row.cells.items ∷ []))) → RowsSeen b before after table (i + 1)
 rows_seen_more b before fit after table i row held next sees width n rows start =
@@ -139,12 +143,14 @@ no_row : (l : FmtLine) (ls : List FmtLine) → ((row : FmtTableRow) → l ≡ Ta
 no_row (TableRow row) ls h = absurd (h row refl)
 no_row _ ls h = refl
 
+-- a line that is no row is passed
 pub rows_seen_other : (b : Bool) → (before fit : TblFit) (table : List FmtLine) (i : ℕ) (l : FmtLine) → RowsSeen b before fit table i → drop i table ≡ l ∷ drop (i + 1) table → ((row : FmtTableRow) → l ≡ TableRow row → ⊥)
     → RowsSeen b before fit table (i + 1)
 rows_seen_other b before fit table i l held next other width n rows start =
     let so_far = held width n rows start in
     (so_far.0, so_far.1, ap (λ rs. so_far.0 ++ rs) (sym (ap rows_among next ∙ no_row l (drop (i + 1) table) other)) ∙ so_far.2)
 
+-- where no line is left, all rows are seen
 pub rows_seen_all : (b : Bool) → (before fit : TblFit) (table : List FmtLine) (i : ℕ) → RowsSeen b before fit table i → drop i table ≡ []
     → (width n : ℕ) (rows : List (List FmtComposite)) → TableHasSeen before width (measures_in b n rows) → TableHasSeen fit width (measures_in b n (rows ++ rows_among table))
 rows_seen_all b before fit table i held none width n rows start =
@@ -152,6 +158,7 @@ rows_seen_all b before fit table i held none width n rows start =
     let same : so_far.0 ≡ rows ++ rows_among table = sym (append-nil so_far.0) ∙ ap (λ ls. so_far.0 ++ rows_among ls) (sym none) ∙ so_far.2 in
     subst (λ (rs : List (List FmtComposite)). TableHasSeen fit width (measures_in b n rs)) same so_far.1
 
+-- before the first row no column has a cell
 pub lengths_start : (b : Bool) → (n : ℕ) → replicate {A = List ℕ} n [] ≡ measures_in b n []
 lengths_start b zero = refl
 lengths_start b (suc n) = ap (λ ls. [] ∷ ls) (lengths_start b n)
@@ -215,6 +222,7 @@ few_cells b n table few =
     let rows : List (List ℕ) = map (λ cells. map (measure_of b) cells) (rows_among table) in
     All-from_recursion (λ c. length c < 2 ^ 64) (first_columns n rows) (few_each n rows (omega (arith, few, rows-le table, length-map (rows_among table) (λ cells. map (measure_of b) cells))))
 
+-- fitted widths are those that a table keeps
 pub kept_fitted : (n width : ℕ) (table : List FmtLine) (fitted : TblFitResult) → 4 * n + 1 ≤ width → length table < 2 ^ 64 → IsTableFit width (lengths_in n (rows_among table)) fitted
     → AreKeptWidths false n width table fitted.col_widths.items
 kept_fitted n width table fitted wide few fit =
@@ -227,6 +235,7 @@ kept_fitted n width table fitted wide few fit =
     kept_of false n width table ws fitted.reduced wide (same_count ∙ count) fit.least (omega (arith, count, within)) (each.widths ∙ ap (λ k. column_widths (width - 1 - k) (map needs_of cells)) count)
     (subst (λ (k : ℕ). AreShared (width - 1 - k) (natural_widths (map needs_of cells)) fitted.reduced ws) count fit.shared) (λ on. absurd (false≢true on))
 
+-- so are those that are fitted with regard to words
 pub kept_whole : (n width : ℕ) (table : List FmtLine) (fitted : TblFitResult) → 4 * n + 1 ≤ width → length table < 2 ^ 64 → IsTableWordFit width (lengths_in n (rows_among table)) (words_in n (rows_among table)) fitted
     → AreKeptWidths true n width table fitted.col_widths.items
 kept_whole n width table fitted wide few fit =
@@ -241,6 +250,7 @@ kept_whole n width table fitted wide few fit =
     (subst (λ (k : ℕ). AreShared (width - 1 - k) (natural_widths (map needs_of cells)) fitted.reduced ws) count fit.shared)
     (λ _. subst (λ (k : ℕ). AreWhole (width - 1 - k) cells words ws) count fit.whole)
 
+-- where not all columns have room, those that have get three columns each
 pub kept_narrow : (b : Bool) (n width : ℕ) (table : List FmtLine) (ws : List ℕ) → 0 < width → (width - 1) / 4 < n → ws ≡ replicate ((width - 1) / 4) 3 → AreKeptWidths b n width table ws
 kept_narrow b n width table ws some few is =
     let k : ℕ = (width - 1) / 4 in
@@ -255,6 +265,7 @@ kept_narrow b n width table ws some few is =
       narrow = λ less. refl;
     })
 
+-- so it is where a call answers these widths
 pub ok_narrow : {E : Type 0} (r : Result (Vec ℕ) E) (b : Bool) (n width : ℕ) (table : List FmtLine) → 0 < width → (width - 1) / 4 < n → IfOk r (λ ws. ws.items ≡ replicate ((width - 1) / 4) 3) → IfOk r (λ ws. AreKeptWidths b n width table ws.items)
 ok_narrow {E} (Ok ws) b n width table some few is = kept_narrow b n width table ws.items some few is
 ok_narrow {E} (Err e) b n width table some few is = tt

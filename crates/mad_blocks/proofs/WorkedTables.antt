@@ -15,6 +15,7 @@ use Rattle.mad_format.specs.declared.line.FmtLine.TheVariants.{TableRule}
 use Rattle.mad_format.specs.declared.table.FmtTableRule.{FmtTableRule}
 use Rattle.mad_blocks.proofs.TableLemmas.{top_spacing}
 
+-- the worked tables have the widths that are named
 pub worked_tables : AreWorkedTables
 unfolding word_widths column_widths after_second after_first second_requests first_requests grants
 worked_tables = record {
@@ -48,6 +49,7 @@ across_place : (column : Spacing) (columns : List Spacing) (lines : List (List F
 across_place column columns [] x xs h = absurd h
 across_place column columns (l ∷ lines) x xs h = top_spacing column l x h.0
 
+-- what is named as no layout of a table is none
 pub no_tables : AreNoTables
 no_tables = record {
   word_parted = word_parted;
@@ -79,6 +81,7 @@ lines_by wraps skin n width table lines some wide (inl (inl none, stays)) = absu
 lines_by wraps skin n width table lines some wide (inl (inr none, stays)) = absurd (omega (arith, none, wide))
 lines_by wraps skin n width table lines some wide (inr (_, _, (ws, kept, laid))) = (ws, laid)
 
+-- nor is what has its rules in other positions
 pub no_rules : (wraps : Wrap) → AreNoRules wraps
 no_rules wraps = record {
   first = λ skin n width source rule table lines some wide other h.

@@ -61,6 +61,7 @@ table_lines_by wraps others each skin widths columns first (l ∷ ls) lines (own
   table_lines_by wraps others each skin widths (columns_from widths columns l) _ ls more rest,
 )
 
+-- a table that is laid out by the first kind is so by the second
 pub table_by : (wraps others : Wrap) → Implies wraps others → (skin : LineRules) (n width : ℕ) (source lines : List FmtLine) → IsTableLaidOutBy wraps skin n width source lines → IsTableLaidOutBy others skin n width source lines
 table_by wraps others each skin n width source lines (inl stays) = inl stays
 table_by wraps others each skin n width source lines (inr (columns, place, (widths, kept, laid))) =
@@ -68,6 +69,7 @@ table_by wraps others each skin n width source lines (inr (columns, place, (widt
 
 -- ---- a layout with the fewest lines
 
+-- a wrap with the fewest lines is a fitting one
 pub wrap_fits : (skin : LineRules) (width : ℕ) (source : FmtComposite) (lines : List FmtComposite) → IsCompositeWrap skin width source lines → IsFittingWrap skin width source lines
 wrap_fits skin width source lines wrap = record {
   keeps = by_keeps skin.whole_words _ _ _ wrap.wrap;
@@ -93,6 +95,7 @@ part_fits skin width (single l) own here = lines_fit skin width (l ∷ []) own h
 parts_fit : (skin : LineRules) (width : ℕ) (ps : List Part) (lines : List FmtLine) → ArePartsAt IsCompositeWrap skin width (Some width) ps lines → ArePartsAt IsFittingWrap skin width (Some width) ps lines
 parts_fit skin width = become_by (IsPartAt IsCompositeWrap skin width (Some width)) (IsPartAt IsFittingWrap skin width (Some width)) (part_fits skin width)
 
+-- a layout with the fewest lines is a fitting one
 pub layout_fits : (skin : LineRules) (width : ℕ) (text : List LineContent) (lines : List FmtLine) → IsLayout skin width text lines → IsFittingLayout skin width text lines
 layout_fits skin width text lines layout = record { read = layout.read; reads = layout.reads; laid = parts_fit skin width (parts_of layout.read) lines layout.laid }
 

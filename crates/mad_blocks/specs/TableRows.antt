@@ -12,10 +12,11 @@ use Rattle.mad_blocks.specs.declared.table_rows.CellLines.{CellLines}
 abbrev pub lines_to_come : CellLines → List FmtComposite
 lines_to_come p = into_iter_items p.lines
 
--- the columns of cells, and the lines to come of each
+-- the columns of cells
 abbrev pub columns_left : List CellLines → List Spacing
 columns_left parts = map (λ p. p.column) parts
 
+-- the lines to come of each cell
 abbrev pub cell_lines_left : List CellLines → List (List FmtComposite)
 cell_lines_left parts = map lines_to_come parts
 

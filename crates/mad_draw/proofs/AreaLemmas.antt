@@ -25,6 +25,7 @@ pub record DrawnSoFar (row : ℕ → List RowPiece) (area : Area) (y : ℕ) (old
   pub known : AllByRecursion AreKnown done
   pub went : new ≡ after old (drawing area.left area.top (map pieces_bytes done))
 
+-- before the first row nothing went out
 pub drawn_none : (row : ℕ → List RowPiece) (area : Area) (t : Trace) → DrawnSoFar row area 0 t t
 drawn_none row area t = record {
   done = [];
@@ -85,6 +86,7 @@ done_all row area y old new all h =
     let none : area.height - y ≡ 0 = omega arith in
     sym (append-nil h.done) ∙ sym (ap (λ n. h.done ++ rows_from row y n) none) ∙ h.whole
 
+-- after the last row the bytes of all rows went out
 pub drawn_all : (row : ℕ → List RowPiece) (area : Area) (y : ℕ) (old new : Trace) → area.height ≤ y → DrawnSoFar row area y old new → new ≡ after old (rows_bytes row area)
 drawn_all row area y old new all h = h.went ∙ ap (λ rs. after old (drawing area.left area.top (map pieces_bytes rs))) (done_all row area y old new all h)
 

@@ -12,6 +12,7 @@ one_column : (c : ℕ) → IsScalar c → char_width false c ≡ Some 1 → IsCo
 unfolding char_columns
 one_column c scalar width = record { scalar = scalar; one = ap (λ o. unwrap_or o 0) width }
 
+-- a space takes one column
 pub space_column : IsColumnChar 32
 space_column = record { scalar = refl; one = char_columns-ascii 32 (omega arith) (omega arith) }
 

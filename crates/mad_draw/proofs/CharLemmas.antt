@@ -40,6 +40,7 @@ also_nil false h = cc
 pub one_char : (c : ℕ) → IsScalar c → chars (encode_utf8 c) ≡ c ∷ []
 one_char c h = ap chars (sym (append-nil (encode_utf8 c))) ∙ chars-encodes (c ∷ []) (also_nil (scalar c) h)
 
+-- a character that takes one column is a piece that is shown in one
 pub column_piece : (c : StyledChar) → IsColumnChar (char_alone c) → IsColumnPiece (char_piece c)
 column_piece c h =
     let n : ℕ = char_alone c in
@@ -54,14 +55,17 @@ column_piece c h =
 
 -- ---- some of them
 
+-- single characters of one column show cells of their own
 pub single_shown : (c : StyledChar) (n : ℕ) → IsColumnChar (char_alone c) → AreShownPieces (single_chars c n)
 single_shown c zero h = tt
 single_shown c (suc n) h = ((column_piece c h).shown, single_shown c n h)
 
+-- single characters of one column take a column each
 pub single_columns : (c : StyledChar) (n : ℕ) → IsColumnChar (char_alone c) → pieces_columns (single_chars c n) ≡ n
 single_columns c zero h = refl
 single_columns c (suc n) h = let one = (column_piece c h).one in let rest : pieces_columns (single_chars c n) ≡ n = single_columns c n h in omega (arith, one, rest)
 
+-- the numbers of the colors of single characters are bytes where those of their style are
 pub single_chars_known : (c : StyledChar) (n : ℕ) → IsStyle (char_style c).object_style → AreKnown (single_chars c n)
 single_chars_known c zero known = tt
 single_chars_known c (suc n) known = (known, single_chars_known c n known)
@@ -72,6 +76,7 @@ single_chars_suc c zero = append-nil (styled_char_bytes c)
 single_chars_suc c (suc n) =
     ap (λ bytes. styled_char_bytes c ++ bytes) (single_chars_suc c n) ∙ sym (append_assoc (styled_char_bytes c) (pieces_bytes (single_chars c n)) (styled_char_bytes c))
 
+-- the bytes of one single character more come after those of the others
 pub single_chars_more : (c : StyledChar) (n : ℕ) → pieces_bytes (single_chars c (n + 1)) ≡ pieces_bytes (single_chars c n) ++ styled_char_bytes c
 single_chars_more c n = let e : n + 1 ≡ suc n = omega arith in ap (λ k. pieces_bytes (single_chars c k)) e ∙ single_chars_suc c n
 
@@ -81,21 +86,26 @@ single_chars_more c n = let e : n + 1 ≡ suc n = omega arith in ap (λ k. piece
 abbrev pub penned : Look → ℕ → PennedChar
 penned pen c = record { char = c; pen = pen }
 
+-- a character with its pen, alone in a cell
 abbrev pub in_cell : Look → ℕ → Glyph
 in_cell pen c = record { chars = c ∷ []; pen = pen }
 
+-- joined pieces have the penned characters of the first, and then those of the others
 pub penned_both : (ps qs : List RowPiece) → penned_chars (ps ++ qs) ≡ penned_chars ps ++ penned_chars qs
 penned_both ps qs = flat_map-append (λ (p : RowPiece). map (λ c. penned (look_of_style p.style) c) (chars p.text)) ps qs
 
+-- the piece of a character puts it, with its pen, before those of the others
 pub penned_piece : (c : StyledChar) (ps : List RowPiece) → IsScalar (char_alone c) → penned_chars (char_piece c ∷ ps) ≡ penned (look_of_style (char_style c).object_style) (char_alone c) ∷ penned_chars ps
 penned_piece c ps h = ap (λ cs. map (penned (look_of_style (char_style c).object_style)) cs ++ penned_chars ps) (one_char (char_alone c) h)
 
+-- single characters are one character so many times, with its pen
 pub penned_single : (c : StyledChar) (n : ℕ) → IsScalar (char_alone c) → penned_chars (single_chars c n) ≡ map (penned (look_of_style (char_style c).object_style)) (replicate n (char_alone c))
 penned_single c zero h = refl
 penned_single c (suc n) h =
     penned_piece c (single_chars c n) h
     ∙ ap (λ rest. penned (look_of_style (char_style c).object_style) (char_alone c) ∷ rest) (penned_single c n h)
 
+-- a piece of spaces is so many spaces, with their pen
 pub penned_spaces : (style : CompoundStyle) (n : ℕ) → penned_chars (spaces style n) ≡ map (penned (look_of_style style.object_style)) (replicate n 32)
 penned_spaces style zero = refl
 penned_spaces style (suc n) =

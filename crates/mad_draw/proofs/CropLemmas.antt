@@ -63,6 +63,7 @@ pub command_left_out : (allowed : ℕ) (bytes : List ℕ) (old : Trace) (r : Res
 command_left_out allowed bytes old r full is =
     subst (λ (t : List ℕ). Draws old t r old) (sym (ap (λ b. cond b [] bytes) full)) (subst (λ (s : Result (Unit {0}) Error). Draws old [] s old) (sym is) (took_none old))
 
+-- a command goes out as it is where a column is left
 pub command_written : (allowed : ℕ) (bytes : List ℕ) (old new : Trace) (r : Result (Unit {0}) Error) → (allowed == 0) ≡ false → Draws old bytes r new → Draws old (unless_full allowed bytes) r new
 command_written allowed bytes old new r some h = subst (λ (t : List ℕ). Draws old t r new) (sym (ap (λ b. cond b [] bytes) some)) h
 
@@ -70,37 +71,47 @@ command_written allowed bytes old new r some h = subst (λ (t : List ℕ). Draws
 pub none_left : (n : ℕ) → (n == 0) ≡ true → n ≡ 0
 none_left n h = grind (arith, nat_tests)
 
+-- a column is left where the test for 0 fails
 pub some_left : (n : ℕ) → (n == 0) ≡ false → 0 < n
 some_left n h = grind (arith, nat_tests)
 
+-- a character that isn't a tab is given as any other
 pub crops_otherwise : (bytes : List ℕ → List ℕ) (c : ℕ) (x y : Given) (old new : Trace) (allowed left : ℕ) (r : Result (Unit {0}) Error) → c ≢ 9 → Crops bytes y old allowed r new left → Crops bytes (cond (c == 9) x y) old allowed r new left
 crops_otherwise bytes c x y old new allowed left r other h =
     let test : (c == 9) ≡ false = grind (arith, nat_tests) in
     subst (λ (given : Given). Crops bytes given old allowed r new left) (sym (ap (λ t. cond t x y) test)) h
 
+-- a character has the bytes of a text of it alone
 pub one_encoded : (c : ℕ) → encode_utf8 c ≡ encode_utf8_all (c ∷ [])
 one_encoded c = sym (append-nil (encode_utf8 c))
 
 -- ---- what is kept
 
+-- nothing is kept of a text where no column is left
 pub text_full : (allowed : ℕ) (cs : List ℕ) → allowed ≡ 0 → IsKept allowed (Text cs) nothing
 text_full allowed cs none = (λ _. refl, λ h. absurd (omega (arith, none, h)))
 
+-- the longest front of a text is kept where a column is left, its tabs replaced
 pub text_kept : (allowed : ℕ) (front cs : List ℕ) → 0 < allowed → IsLongestFront allowed front cs → IsKept allowed (Text cs) (some (tabs_replaced front) (running_width front))
 text_kept allowed front cs room longest = (λ none. absurd (omega (arith, none, room)), λ _. (front, longest, refl))
 
+-- a character that leaves no column over isn't kept
 pub char_left_out : (allowed c : ℕ) → allowed ≤ char_columns c → IsKept allowed (Char c) nothing
 char_left_out allowed c h = (λ k. absurd (omega (arith, h, k)), λ _. refl)
 
+-- a character that leaves a column over is kept
 pub char_kept : (allowed c : ℕ) → char_columns c < allowed → IsKept allowed (Char c) (some (c ∷ []) (char_columns c))
 char_kept allowed c h = (λ _. refl, λ k. absurd (omega (arith, h, k)))
 
+-- no counted character is kept where no column is left
 pub counted_full : (allowed : ℕ) (cs : List ℕ) → allowed ≡ 0 → IsKept allowed (Counted cs) nothing
 counted_full allowed cs none = (λ _. refl, λ h. absurd (omega (arith, none, h)))
 
+-- the first of counted characters are kept where a column is left, each for a column
 pub counted_kept : (allowed : ℕ) (cs : List ℕ) → 0 < allowed → IsKept allowed (Counted cs) (some (take allowed cs) (min allowed (length cs)))
 counted_kept allowed cs room = (λ none. absurd (omega (arith, none, room)), λ _. refl)
 
+-- nothing is kept of a filling of no characters, or where no column is left
 pub filled_none : (allowed c n : ℕ) → min n allowed ≡ 0 → IsKept allowed (Filled c n) nothing
 filled_none allowed c n none = sym (ap (filled c) none)
 
@@ -108,6 +119,7 @@ filled_is : (c n : ℕ) → 0 < n → filled c n ≡ some (replicate n c) n
 filled_is c zero h = absurd (omega (arith, h))
 filled_is c (suc n) h = refl
 
+-- a filling is kept as far as columns are left
 pub filled_kept : (allowed c n : ℕ) → 0 < min n allowed → IsKept allowed (Filled c n) (some (replicate (min n allowed) c) (min n allowed))
 filled_kept allowed c n room = sym (filled_is c (min n allowed) room)
 
@@ -232,5 +244,6 @@ limit_reached limit (g ∷ gs) cs left measured kept =
     let all : columns cs ≡ columns (written_chars crop.written) + columns kept.1 = ap columns kept.3 ∙ columns-append (written_chars crop.written) kept.1 in
     omega (arith, one.0, one.1, others, all)
 
+-- whatever a crop writer is given, it keeps its limit
 pub limits : KeepsTheLimit
 limits = record { at_most = limit_kept; exactly = limit_reached }

@@ -26,6 +26,7 @@ use Rattle.mad_draw.proofs.PieceLemmas.{bytes_both, repeat-one}
 
 -- ---- a text many times
 
+-- a list m + n times is it m times, and then n times
 pub repeat-add : {A : Type 0} (m n : ℕ) (xs : List A) → repeat (m + n) xs ≡ repeat m xs ++ repeat n xs
 repeat-add {A} zero n xs = let e : zero + n ≡ n = omega arith in ap (λ k. repeat k xs) e
 repeat-add {A} (suc m) n xs =
@@ -42,9 +43,11 @@ repeat-times {A} (suc n) k xs =
 pub no_time : (text : List ℕ) (t : Trace) → t ≡ after t (repeat 0 text)
 no_time text t = sym (after-nil t)
 
+-- a text that goes out once more has gone out one time more
 pub time_more : (text : List ℕ) (n : ℕ) (old mid new : Trace) → mid ≡ after old (repeat n text) → new ≡ after mid text → new ≡ after old (repeat (n + 1) text)
 time_more text n old mid new went more = took_both old mid new (repeat n text) text went more ∙ ap (after old) (repeat-more n text)
 
+-- where a text is refused at one of its times, all its times are
 pub refused_time : (text : List ℕ) (n count : ℕ) (e : Error) (old mid new : Trace) → n < count → mid ≡ after old (repeat n text) → Refused mid text e new → Refused old (repeat count text) e new
 refused_time text n count e old mid new inside went refused =
     let rest : ℕ = count - (n + 1) in
@@ -54,10 +57,12 @@ refused_time text n count e old mid new inside went refused =
 
 -- ---- a character many times
 
+-- a piece has 1000 characters at most
 pub piece_chars_is : piece_chars ≡ 1000
 unfolding piece_chars
 piece_chars_is = refl
 
+-- what is at most 1000 is no more than a piece has
 pub most_is : (n : ℕ) → n ≤ 1000 → n ≤ piece_chars
 most_is n h = omega (arith, h, piece_chars_is)
 
@@ -75,6 +80,7 @@ length-repeat : (n c : ℕ) → length (repeat n (encode_utf8 c)) ≡ n * len_ut
 length-repeat zero c = omega arith
 length-repeat (suc n) c = let rest : length (repeat n (encode_utf8 c)) ≡ n * len_utf8 c = length-repeat n c in let e : len_utf8 c + n * len_utf8 c ≡ suc n * len_utf8 c = omega arith in length-append (encode_utf8 c) (repeat n (encode_utf8 c)) ∙ omega (arith, length-encode c, rest, e)
 
+-- a character so many times is a text
 pub repeat_utf8 : (n c : ℕ) → IsScalar c → IsUtf8 (repeat n (encode_utf8 c))
 repeat_utf8 zero c h = IsUtf8-nil
 repeat_utf8 (suc n) c h = IsUtf8-append (encode_utf8 c) (repeat n (encode_utf8 c)) (IsUtf8-encode c h) (repeat_utf8 n c h)
@@ -84,11 +90,13 @@ in_two content count c is within =
     let e : piece_chars ≡ count + (piece_chars - count) = omega (arith, within) in
     is ∙ ap (λ k. repeat k (encode_utf8 c)) e ∙ repeat-add count (piece_chars - count) (encode_utf8 c)
 
+-- the first characters of a full piece are the character so many times
 pub front_is : (content : List ℕ) (count bytes c : ℕ) → content ≡ repeat piece_chars (encode_utf8 c) → count ≤ piece_chars → bytes ≡ count * len_utf8 c → take bytes content ≡ repeat count (encode_utf8 c)
 front_is content count bytes c is within at =
     ap (take bytes) (in_two content count c is within)
     ∙ take_at (repeat count (encode_utf8 c)) (repeat (piece_chars - count) (encode_utf8 c)) bytes (length-repeat count c ∙ sym at)
 
+-- a full piece may be cut after any of its characters
 pub front_border : (content : List ℕ) (count bytes c : ℕ) → IsScalar c → content ≡ repeat piece_chars (encode_utf8 c) → count ≤ piece_chars → bytes ≡ count * len_utf8 c → IsCharBoundary content bytes
 front_border content count bytes c scalar is within at =
     subst (IsCharBoundary content) (length-repeat count c ∙ sym at)
@@ -120,6 +128,7 @@ filling_bytes c n most within whole =
         (λ (many : piece_chars ≤ n). ap (λ k. repeat (n / 1000) (pieces_bytes (char_repeat c k))) (whole many))
         (cases_lt n piece_chars)
 
+-- full pieces and then the last one are the bytes of a filling
 pub filling_written : (c : StyledChar) (n most : ℕ) (whole last : List ℕ) → whole ≡ pieces_bytes (char_repeat c most) → last ≡ pieces_bytes (char_repeat c (n % 1000)) → most ≤ piece_chars → (piece_chars ≤ n → most ≡ piece_chars) → repeat (n / 1000) whole ++ last ≡ pieces_bytes (filling_pieces c n)
 filling_written c n most whole last whole_is last_is within all =
     ap (λ (t : List ℕ). repeat (n / 1000) t ++ last) whole_is ∙ ap (λ (t : List ℕ). repeat (n / 1000) (pieces_bytes (char_repeat c most)) ++ t) last_is ∙ filling_bytes c n most within all
@@ -140,6 +149,7 @@ unstyled_spaces (suc n) =
 
 -- ---- one after another, as characters
 
+-- the bytes of a character n times are those of n characters
 pub encoded_repeat : (n c : ℕ) → repeat n (encode_utf8 c) ≡ encode_utf8_all (replicate n c)
 encoded_repeat zero c = refl
 encoded_repeat (suc n) c = ap (λ bytes. encode_utf8 c ++ bytes) (encoded_repeat n c)

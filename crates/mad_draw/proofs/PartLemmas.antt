@@ -13,9 +13,11 @@ use Rattle.mad_draw.specs.Parts.{parts_bytes}
 abbrev pub PartsWent : (ℕ → List ℕ) → ℕ → Trace → Trace → Type 0
 PartsWent part n old new = new ≡ after old (parts_bytes part n)
 
+-- before the first part nothing went out
 pub no_part : (part : ℕ → List ℕ) (t : Trace) → PartsWent part 0 t t
 no_part part t = sym (after-nil t)
 
+-- one part more went out
 pub part_more : (part : ℕ → List ℕ) (n : ℕ) (old mid new : Trace) → PartsWent part n old mid → new ≡ after mid (part n) → PartsWent part (n + 1) old new
 part_more part n old mid new went more =
     let next : suc n ≡ n + 1 = omega arith in

@@ -56,6 +56,7 @@ single-suc style (suc n) =
     let space : List ℕ = piece_bytes style.object_style (32 ∷ []) in
     ap (λ bytes. space ++ bytes) (single-suc style n) ∙ sym (append_assoc space (pieces_bytes (single_spaces style n)) space)
 
+-- the bytes of one single space more come after those of the others
 pub single-more : (style : CompoundStyle) (n : ℕ) → pieces_bytes (single_spaces style (n + 1)) ≡ pieces_bytes (single_spaces style n) ++ piece_bytes style.object_style (32 ∷ [])
 single-more style n = let e : n + 1 ≡ suc n = omega arith in ap (λ k. pieces_bytes (single_spaces style k)) e ∙ single-suc style n
 
@@ -73,6 +74,7 @@ pieces_taken {X} f xs i d inside =
 pub bytes_taken_of : {X Y : Type 0} (f : X → List Y) (xs : List X) (i : ℕ) (x : X) → i < length xs → x ≡ get_or xs i x → flat_map f (take i xs) ++ f x ≡ flat_map f (take (i + 1) xs)
 bytes_taken_of f xs i x inside is = ap (λ y. flat_map f (take i xs) ++ f y) is ∙ piece_more f xs i x inside
 
+-- joined pieces have the bytes of the first, and then those of the others
 pub bytes_both : (ps qs : List RowPiece) → pieces_bytes (ps ++ qs) ≡ pieces_bytes ps ++ pieces_bytes qs
 bytes_both ps qs = flat_map-append (λ (p : RowPiece). piece_bytes p.style p.text) ps qs
 
@@ -82,14 +84,17 @@ bytes_one p = append-nil (piece_bytes p.style p.text)
 
 -- ---- colors
 
+-- the numbers of the colors of spaces are bytes where those of their style are
 pub spaces_known : (style : CompoundStyle) (n : ℕ) → IsStyle style.object_style → AreKnown (spaces style n)
 spaces_known style zero known = tt
 spaces_known style (suc n) known = (known, tt)
 
+-- the numbers of the colors of single spaces are bytes where those of their style are
 pub single_known : (style : CompoundStyle) (n : ℕ) → IsStyle style.object_style → AreKnown (single_spaces style n)
 single_known style zero known = tt
 single_known style (suc n) known = (known, single_known style n known)
 
+-- the numbers of the colors of a repeated character are bytes where those of its style are
 pub char_repeat_known : (c : StyledChar) (n : ℕ) → IsStyle (char_style c).object_style → AreKnown (char_repeat c n)
 char_repeat_known c zero known = tt
 char_repeat_known c (suc n) known = (known, tt)
@@ -109,6 +114,7 @@ each_paints : (ps : List RowPiece) → AreKnown ps → AreShownPieces ps → All
 each_paints [] known shown = tt
 each_paints (p ∷ ps) known shown = (paints_piece p.style p.text known.0 shown.0.utf8 shown.0.shown, each_paints ps known.1 shown.1)
 
+-- the bytes of pieces that show cells of their own paint these
 pub pieces_paint : (ps : List RowPiece) → AreKnown ps → AreShownPieces ps → Paints (pieces_bytes ps) (pieces_cells ps)
 pieces_paint ps known shown = paints_row (λ (p : RowPiece). piece_bytes p.style p.text) (λ (p : RowPiece). piece_cells p.style p.text) ps (each_paints ps known shown)
 
@@ -118,6 +124,7 @@ sum_columns : (cs : List ℕ) → sum_by char_columns cs ≡ columns cs
 sum_columns [] = refl
 sum_columns (c ∷ cs) = sum_by-cons char_columns c cs ∙ ap (λ n. char_columns c + n) (sum_columns cs)
 
+-- pieces have as many cells as they take columns
 pub length-pieces_cells : (ps : List RowPiece) → length (pieces_cells ps) ≡ pieces_columns ps
 length-pieces_cells [] = refl
 length-pieces_cells (p ∷ ps) =
@@ -126,10 +133,12 @@ length-pieces_cells (p ∷ ps) =
     let both : length (piece_cells p.style p.text ++ pieces_cells ps) ≡ length (piece_cells p.style p.text) + length (pieces_cells ps) = length-append (piece_cells p.style p.text) (pieces_cells ps) in
     both ∙ ap (λ n. n + length (pieces_cells ps)) own ∙ ap (λ n. columns (chars p.text) + n) rest
 
+-- joined pieces take as many columns as both together
 pub columns-both : (ps qs : List RowPiece) → pieces_columns (ps ++ qs) ≡ pieces_columns ps + pieces_columns qs
 columns-both [] qs = omega arith
 columns-both (p ∷ ps) qs = let rest : pieces_columns (ps ++ qs) ≡ pieces_columns ps + pieces_columns qs = columns-both ps qs in omega (arith, rest)
 
+-- spaces are ASCII
 pub ascii_spaces : (n : ℕ) → IsAscii (replicate n 32)
 ascii_spaces zero = IsAscii-nil
 ascii_spaces (suc n) = IsAscii-cons 32 (replicate n 32) (lit< tt) (ascii_spaces n)
@@ -139,12 +148,14 @@ columns-spaces n =
     sym (sum_columns (replicate n 32)) ∙ sym (length-cells_of plain_pen (replicate n 32)) ∙ ap length (spaces_cells plain_pen n)
     ∙ length-replicate n (record { chars = 32 ∷ []; pen = plain_pen })
 
+-- spaces take a column each
 pub spaces_columns : (style : CompoundStyle) (n : ℕ) → pieces_columns (spaces style n) ≡ n
 spaces_columns style zero = refl
 spaces_columns style (suc n) =
     let text : columns (chars (replicate (suc n) 32)) ≡ suc n = ap columns (chars-IsAscii (replicate (suc n) 32) (ascii_spaces (suc n))) ∙ columns-spaces (suc n) in
     omega (arith, text)
 
+-- a piece of spaces shows cells of its own
 pub shown_spaces : (style : CompoundStyle) (n : ℕ) → AreShownPieces (spaces style n)
 shown_spaces style zero = tt
 shown_spaces style (suc n) = (

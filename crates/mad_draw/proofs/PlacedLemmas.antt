@@ -51,6 +51,7 @@ none_outside area (p ∷ ps) x y before h out =
     ap (cell_under (map placed_strip ps) x y) (not_under (placed_strip p) x y before uncovered)
     ∙ none_outside area ps x y before h.1 out
 
+-- pieces that are placed in an area show there, and nowhere else
 pub placed_shown : (area : Area) (ps : List Placed) → IsWithinLimits area → AllByRecursion (λ p. AreKnown p.pieces) ps → AllByRecursion (IsPlacedIn area) ps → ArePlacedShown area ps (placed_bytes ps)
 placed_shown area ps limits known h g on_screen =
     let done = strips_drawn (map placed_strip ps) g on_screen.grid on_screen.pen (all_fit area ps g limits on_screen known h) in

@@ -23,6 +23,7 @@ full_block : 226 ∷ 150 ∷ 136 ∷ [] ≡ encode_utf8 0x2588
 unfolding lib.Utf8.encode
 full_block = refl
 
+-- full blocks without style, and then the last block, are a bar's text
 pub bar_bytes : (style : ContentStyle) (last : List ℕ) (num den len : ℕ) → IsUnstyled style → last ≡ encode_utf8_all (block ((16 * (len * num % den) + den) / (2 * den))) → styled_repeat_bytes style (226 ∷ 150 ∷ 136 ∷ []) (len * num / den) ++ last ≡ encode_utf8_all (bar_chars num den len)
 bar_bytes style last num den len unstyled is =
     let whole : ℕ = len * num / den in
@@ -48,6 +49,7 @@ no_block n den none some =
     small_quotient zero den h some = refl
     small_quotient (suc q) den h some = let one : 1 * (2 * den) ≤ suc q * (2 * den) = mul-le-mul_right (2 * den) (omega arith) in absurd (omega (arith, one, h, some))
 
+-- a bar is no longer than its length
 pub bars_are_short : (num den len : ℕ) → 1 ≤ den → num ≤ den → length (bar_chars num den len) ≤ len
 bars_are_short num den len some part =
     let whole : ℕ = len * num / den in

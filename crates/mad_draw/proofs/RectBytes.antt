@@ -55,6 +55,7 @@ filled_bytes r y =
     ap (λ bytes. move_to_bytes r.area.left y ++ bytes) (row_bytes left right (spaces r.colors (r.area.width - 2)) _ _ _ (sym (bytes_one left)) refl (sym (bytes_one right)))
     ∙ sym (append-nil (move_to_bytes r.area.left y ++ pieces_bytes (left ∷ (spaces r.colors (r.area.width - 2) ++ right ∷ []))))
 
+-- each open side is written after a move of its own
 pub open_bytes : (r : Rect) (y : ℕ)
     → move_to_bytes r.area.left y ++ (styled_char_bytes (styled_char r.colors r.border_style.left) ++ (move_to_bytes (r.area.left + (r.area.width - 1)) y ++ styled_char_bytes (styled_char r.colors r.border_style.right)))
     ≡ placed_bytes (open_sides r y)
@@ -79,6 +80,7 @@ sides_filled r y y' n left right is row left_is right_is columns =
     ∙ filled_bytes r y'
     ∙ sym (ap (λ f. placed_bytes (cond f (filled_sides r y') (open_sides r y'))) is)
 
+-- the sides are written so where the rectangle isn't filled
 pub sides_open : (r : Rect) (y y' x : ℕ) (left right : StyledChar) → r.fill ≡ false → y ≡ y' → left ≡ styled_char r.colors r.border_style.left → right ≡ styled_char r.colors r.border_style.right → x ≡ r.area.left + (r.area.width - 1)
     → move_to_bytes r.area.left y ++ (styled_char_bytes left ++ (move_to_bytes x y ++ styled_char_bytes right)) ≡ placed_bytes (sides r y')
 sides_open r y y' x left right is row left_is right_is column =

@@ -39,6 +39,7 @@ junctions_known style chars [] known = tt
 junctions_known style chars (w ∷ ws) known =
     (known, known_both (horizontals style chars w) (flat_map (junction style chars) ws) (char_repeat_known (styled_char style chars.horizontal) w known) (junctions_known style chars ws known))
 
+-- the numbers of a rule's colors are bytes where those of its style are
 pub rule_known : (style : CompoundStyle) (chars : RuleChars) (ws : List ℕ) → IsStyle style.object_style → AreKnown (rule_pieces style chars ws)
 rule_known style chars [] known = (known, (known, tt))
 rule_known style chars (w ∷ ws) known = (

@@ -34,6 +34,7 @@ whole-append : (cs ds : List ℕ) → columns cs ≡ 1 → IsWhole cs → IsWhol
 whole-append [] ds one h = absurd (omega (arith, one))
 whole-append (c ∷ cs) ds one h = h
 
+-- a character of one column shows cells of its own where it is repeated
 pub run_shown : (c : StyledChar) (n : ℕ) → IsColumnPiece (char_piece c) → AreShownPieces (char_repeat c n)
 run_shown c zero h = tt
 run_shown c (suc n) h =
@@ -42,6 +43,7 @@ run_shown c (suc n) h =
     let whole : IsWhole (chars (t ++ repeat n t)) = subst IsWhole (sym (chars-append t (repeat n t) utf8)) (whole-append (chars t) (chars (repeat n t)) h.one h.shown.shown.whole) in
     (record { utf8 = repeat_utf8 (suc n) t utf8; shown = record { printed = repeat_printed (suc n) t utf8 h.shown.shown.printed; whole = whole } }, tt)
 
+-- a character of one column takes a column each time that it is repeated
 pub run_columns : (c : StyledChar) (n : ℕ) → IsColumnPiece (char_piece c) → pieces_columns (char_repeat c n) ≡ n
 run_columns c zero h = refl
 run_columns c (suc n) h = let text : columns (chars (repeat (suc n) (encode_utf8 (char_alone c)))) ≡ suc n = repeat_columns (suc n) (encode_utf8 (char_alone c)) h.shown.utf8 h.one in omega (arith, text)

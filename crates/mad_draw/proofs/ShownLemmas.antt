@@ -41,6 +41,7 @@ rows_paint row width y zero fill known = tt
 rows_paint row width y (suc count) fill known =
     (pieces_paint (row y) known.0 (fill y (omega arith) (omega arith)).shown, rows_paint row width (suc y) count (fill_next row width y count fill) known.1)
 
+-- rows that fill an area are shown there, and nowhere else
 pub area_shown : (row : ℕ → List RowPiece) (area : Area) → area.left < 2 ^ 16 → area.top + area.height < 2 ^ 16 → AllByRecursion AreKnown (rows_from row 0 area.height)
     → FillArea row area → AreRowsShown row area (rows_bytes row area)
 area_shown row area small_x small_y known fill g on_screen =

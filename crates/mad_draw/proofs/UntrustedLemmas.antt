@@ -56,6 +56,7 @@ no_newline (c ∷ cs) h = (
   no_newline cs (all_back (λ b. b ≢ 10) (encode_utf8 c) (encode_utf8_all cs) h),
 )
 
+-- a printable text without a newline has no control character
 pub lines_printed : PrintableLinesArePrinted
 lines_printed text utf8 h none = printed_chars (chars text) h (no_newline (chars text) (subst HasNoNewline (sym (encodes-chars text utf8)) none))
 
@@ -76,6 +77,7 @@ part_printable text front (b ∷ part) back parts utf8 own h =
     let later : are_printable (chars whole ++ chars back) ≡ true = (and_parts _ _ (sym (list_all-append is_printable_char (chars front) (chars whole ++ chars back)) ∙ sym (ap are_printable cut) ∙ h)).1 in
     (and_parts _ _ (sym (list_all-append is_printable_char (chars whole) (chars back)) ∙ later)).0
 
+-- a slice of a printable text has no control character where it holds no newline
 pub slices_printed : PrintableSlicesArePrinted
 slices_printed text front slice back parts utf8 own h none = lines_printed slice own (part_printable text front slice back parts utf8 own h) none
 
@@ -96,5 +98,6 @@ runs_printed : (text : List ℕ) (spans : List RunSpan) → IsUtf8 text → are_
 runs_printed text [] utf8 h none borders = tt
 runs_printed text (span ∷ spans) utf8 h none borders = (run_printed text span utf8 h none borders.0, runs_printed text spans utf8 h none borders.1)
 
+-- nothing that is read of a printable line by its marks has a control character
 pub inlines_printed : PrintableInlinesArePrinted
 inlines_printed text utf8 h none reading reads = runs_printed text (runs reading) utf8 h none (runs_bordered text reading utf8 reads)

@@ -14,6 +14,10 @@ use Rattle.mad_fit.specs.TextColumns.{columns}
 use Rattle.mad_draw.specs.Fillings.{filling_pieces}
 use Rattle.mad_draw.specs.Pieces.{pieces_bytes}
 
+-- what a tab is written as where nothing else is asked for: two spaces
+abbrev pub default_tab : List ℕ
+default_tab = 32 ∷ 32 ∷ []
+
 -- what a crop writer is given: characters that are measured in columns, one character, characters that are counted, a character so many
 -- times
 pub data Given : Type 0 where
@@ -59,6 +63,7 @@ IsKept allowed (Filled c n) crop = crop ≡ filled c (min n allowed)
 abbrev pub unstyled_bytes : List ℕ → List ℕ
 unstyled_bytes cs = encode_utf8_all cs
 
+-- the bytes of characters in a style, as one piece
 abbrev pub styled_bytes : CompoundStyle → List ℕ → List ℕ
 styled_bytes style cs = piece_bytes style.object_style (encode_utf8_all cs)
 

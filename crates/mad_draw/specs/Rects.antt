@@ -13,6 +13,26 @@ use Rattle.mad_draw.specs.PlacedPieces.{Placed}
 use Rattle.mad_draw.specs.declared.rects.Rect.{Rect}
 use Rattle.mad_draw.specs.declared.rects.RectBorderStyle.{RectBorderStyle}
 
+-- ---- the border styles
+
+-- ▛▀▜ ▐ ▟▄▙ ▌: half blocks, at the outside of their cells
+abbrev pub half_width_outside : RectBorderStyle
+half_width_outside =
+    record { top_left = 0x259B; top = 0x2580; top_right = 0x259C; right = 0x2590; bottom_right = 0x259F; bottom = 0x2584; bottom_left = 0x2599; left = 0x258C }
+
+-- ┌─┐ │ ┘─└ │: lines with square corners
+abbrev pub middle_square_line : RectBorderStyle
+middle_square_line =
+    record { top_left = 0x250C; top = 0x2500; top_right = 0x2510; right = 0x2502; bottom_right = 0x2518; bottom = 0x2500; bottom_left = 0x2514; left = 0x2502 }
+
+-- the same with round corners: ╭ ╮ ╯ ╰
+abbrev pub middle_round_line : RectBorderStyle
+middle_round_line = record middle_square_line { top_left = 0x256D; top_right = 0x256E; bottom_right = 0x256F; bottom_left = 0x2570 }
+
+-- spaces
+abbrev pub bland : RectBorderStyle
+bland = record { top_left = 32; top = 32; top_right = 32; right = 32; bottom_right = 32; bottom = 32; bottom_left = 32; left = 32 }
+
 -- ---- what is written
 
 -- a border character in the rectangle's colors
@@ -44,9 +64,11 @@ abbrev pub sides_below : Rect → ℕ → List Placed
 sides_below r zero = []
 sides_below r (suc count) = sides_below r count ++ sides r (r.area.top + suc count)
 
+-- the top edge stands in the area's first row, from corner to corner
 abbrev pub top_edge : Rect → Placed
 top_edge r = edge r r.area.top r.border_style.top_left r.border_style.top r.border_style.top_right
 
+-- the bottom edge stands in the area's last row, from corner to corner
 abbrev pub bottom_edge : Rect → Placed
 bottom_edge r = edge r (r.area.top + (r.area.height - 1)) r.border_style.bottom_left r.border_style.bottom r.border_style.bottom_right
 

@@ -8,7 +8,7 @@ ghost use Rattle.mad_term.specs.declared.errors.Error.TheVariants.{Memory};
 ghost use Rattle.mad_term.specs.Styles.{foreground_bytes, background_bytes, present_bytes};
 ghost use Rattle.mad_style.specs.StyledChars.{styled_char};
 ghost use Rattle.mad_fit.specs.RunningWidths.{IsCropped, HasTabWithin};
-ghost use Rattle.mad_draw.specs.Crops.{Text, Char, Counted, Filled, Crops, unstyled_bytes, styled_bytes, filled_bytes, left_after, unless_full};
+ghost use Rattle.mad_draw.specs.Crops.{Text, Char, Counted, Filled, Crops, default_tab, unstyled_bytes, styled_bytes, filled_bytes, left_after, unless_full};
 
 use crate::fillings::{Filling, queue_spaces};
 use mad_columns::char_columns;
@@ -39,7 +39,7 @@ impl<'w, O: Out> CropWriter<'w, O> {
         ensures same_device { result.w.ghost_name ≡ w.entry.ghost_name }
         ensures device { result.w.now ≡ w.old }
         ensures allowed { result.allowed ≡ limit }
-        ensures tab { result.tab_replacement.now ≡ DEFAULT_TAB_REPLACEMENT.now }
+        ensures tab { result.tab_replacement.now ≡ default_tab }
     {
         Self {
             w,

@@ -7,7 +7,7 @@ ghost use Rattle.mad_term.specs.Trace.{TookWith};
 ghost use Rattle.mad_style.specs.StyledChars.{styled_char};
 ghost use Rattle.mad_fit.specs.Areas.{IsWithinLimits};
 ghost use Rattle.mad_draw.specs.PlacedPieces.{one_placed_bytes, placed_bytes};
-ghost use Rattle.mad_draw.specs.Rects.{edge, sides, rect_pieces, AreBorderChars, IsRectShown};
+ghost use Rattle.mad_draw.specs.Rects.{bland, edge, sides, rect_pieces, AreBorderChars, IsRectShown};
 
 use crate::char_repeats::SingleChars;
 use crate::parts::{Parts, put_parts};
@@ -95,7 +95,7 @@ pub struct Rect {
 impl Rect {
     /// A rectangle that isn't filled, its border of spaces.
     pub fn new(area: Area, colors: CompoundStyle) -> Self
-        ensures { result ≡ record { area = area; colors = colors; fill = false; border_style = BORDER_STYLE_BLAND } }
+        ensures { result ≡ record { area = area; colors = colors; fill = false; border_style = bland } }
     {
         Self {
             area,

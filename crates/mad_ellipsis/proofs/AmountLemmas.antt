@@ -63,6 +63,7 @@ min_serves d g left is some small = elim (cases_lt left 18446744073709551615) as
 room_first : (l : Last) → (if nat_le 0 l.number then l.left + 2 else 0) ≤ l.left + 2
 room_first l = grind (arith, nat_tests)
 
+-- what the turns say of a part serves for what is due when its own comes
 pub serves : (e n : ℕ) (gs back : List Gain) (g : Gain) (last : Option Last) → IsLast e gs last → drop n gs ≡ g ∷ back → g.gained < 18446744073709551615 → Serves (due e gs n g.columns) g.gained (amount_of last n g.columns)
 serves e n gs back g None all is small =
     let sum : gained e g.columns (n + 1) 0 gs + weight e g ≤ gained e 0 0 0 gs = gained_with e 0 0 0 n (n + 1) gs back g is (omega arith) (none_first g.columns n) in
@@ -109,6 +110,7 @@ room_more e n gone g gs (Some last) whole most none =
       | is_later late ↦ omega (arith, less, none (amount_behind last n g.columns late))
     ]
 
+-- all parts together gain at most two columns more than are too many
 pub room_all : (e : ℕ) (gs : List Gain) (last : Option Last) → 0 < e → IsLast e gs last → room_for e last 0 gs ≤ e + 2
 room_all e gs None some all = omega (arith, all)
 room_all e gs (Some last) some all = omega (arith, all.0, all.1, room_first last)

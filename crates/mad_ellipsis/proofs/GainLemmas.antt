@@ -43,13 +43,16 @@ may_order text at least (run ∷ runs) utf8 l border h =
     let start : at ≤ run.start = omega (arith, h.0.start, length-drop at text, trimmed_less (drop at text) (IsUtf8-drop text at utf8 border), border.0) in
     order_if (may_be_cut run) text least run (cuttable runs) h.0.part (omega (arith, l, start)) (may_order text run.end run.end runs utf8 (omega arith) h.0.part.last h.1) (may_order text run.end least runs utf8 (omega (arith, l, start, h.0.some)) h.0.part.last h.1)
 
+-- the parts of a compound are in order
 pub parts_in_order : (kind : Parts) (p : Compound) (parts : List Run) → IsUtf8 p.src.now → ArePartsOf kind p parts → AreInOrder p.src.now 0 parts
 parts_in_order Runs p parts utf8 h = subst (AreInOrder p.src.now 0) (sym h.2) (may_order p.src.now 0 0 h.0 utf8 (omega arith) (IsCharBoundary-start p.src.now utf8) h.1)
 parts_in_order Wholes p parts utf8 h = subst (AreInOrder p.src.now 0) (sym h) (whole_order p.src.now utf8)
 
+-- a list that equals a compound's parts is a list of them
 pub parts_are : (kind : Parts) (p : Compound) (parts own : List Run) → own ≡ parts → ArePartsOf kind p parts → ArePartsOf kind p own
 parts_are kind p parts own same h = subst (ArePartsOf kind p) (sym same) h
 
+-- a list that equals a compound's parts is in order
 pub order_of : (kind : Parts) (p : Compound) (parts own : List Run) → own ≡ parts → ArePartsOf kind p parts → IsUtf8 p.src.now → AreInOrder p.src.now 0 own
 order_of kind p parts own same h utf8 = parts_in_order kind p own utf8 (parts_are kind p parts own same h)
 
@@ -58,6 +61,7 @@ pub one_parts : (kind : Parts) (p : Compound) (parts own : List Run) → ArePart
 one_parts Runs p parts own h g = one_own 0 p.src.now own parts g h
 one_parts Wholes p parts own h g = g ∙ sym h
 
+-- a list that equals a compound's parts equals each list of them
 pub one_parts_of : (kind : Parts) (p : Compound) (parts own : List Run) → own ≡ parts → ArePartsOf kind p parts → (others : List Run) → ArePartsOf kind p others → others ≡ own
 one_parts_of kind p parts own same h others g = one_parts kind p parts others h g ∙ sym same
 
@@ -70,9 +74,11 @@ pub record Gaining (text : List ℕ) (parts : List Run) (before now : List Gain)
   pub gains : now ++ map (gain_of text) others ≡ before ++ map (gain_of text) parts
   pub small : AllByRecursion IsSmall before → AllByRecursion IsSmall now
 
+-- the next part is the first of those to come
 pub gaining_next : (text : List ℕ) (parts : List Run) (before now : List Gain) (i : ℕ) (d : Run) → i < length parts → Gaining text parts before now (drop i parts) → Gaining text parts before now (get_or parts i d ∷ drop (i + 1) parts)
 gaining_next text parts before now i d l h = subst (Gaining text parts before now) (at_drop_more (λ r. r) parts i d l) h
 
+-- one part more has its gain in the list
 pub gaining_more : (text : List ℕ) (parts : List Run) (before now after : List Gain) (part : Run) (others : List Run) (g : Gain) → g ≡ gain_of text part → IsSmall g → after ≡ now ++ g ∷ [] → Gaining text parts before now (part ∷ others) → Gaining text parts before after others
 gaining_more text parts before now after part others g is small added h = record {
   from = part.end;
@@ -85,12 +91,15 @@ gaining_more text parts before now after part others g is small added h = record
 abbrev pub Gathers : Parts → List Compound → List Gain → List Compound → Type 0
 Gathers kind ps now others = (later : List Gain) → AreGains kind others later → AreGains kind ps (now ++ later)
 
+-- before the first compound no gain is in the list
 pub gathers_start : (kind : Parts) (ps : List Compound) (now : List Gain) → now ≡ [] → Gathers kind ps now ps
 gathers_start kind ps now none = λ later h. subst (λ l. AreGains kind ps (l ++ later)) (sym none) h
 
+-- where there is no gain yet, all are small
 pub small_start : (now : List Gain) → now ≡ [] → AllByRecursion IsSmall now
 small_start now none = subst (AllByRecursion IsSmall) (sym none) tt
 
+-- one compound more has the gains of its parts in the list
 pub gathers_next : (kind : Parts) (ps : List Compound) (now after : List Gain) (i : ℕ) (d : Compound) (parts own : List Run) → i < length ps → own ≡ parts → ArePartsOf kind (get_or ps i d) parts → after ≡ now ++ map (gain_of (get_or ps i d).src.now) own → Gathers kind ps now (drop i ps)
     → Gathers kind ps after (drop (i + 1) ps)
 gathers_next kind ps now after i d parts own l same_parts found added h = λ later more.
@@ -100,5 +109,6 @@ gathers_next kind ps now after i d parts own l same_parts found added h = λ lat
     let same : now ++ (mine ++ later) ≡ after ++ later = sym (ap (λ l. l ++ later) added ∙ append_assoc now mine later) in
     subst (AreGains kind ps) same (h (mine ++ later) both)
 
+-- after the last compound the gains are those of all
 pub gathers_end : (kind : Parts) (ps : List Compound) (now : List Gain) (i : ℕ) → length ps ≤ i → Gathers kind ps now (drop i ps) → AreGains kind ps now
 gathers_end kind ps now i all h = subst (AreGains kind ps) (append-nil now) (h [] (subst (λ l. AreGains kind l []) (sym (drop_all i ps all)) refl))

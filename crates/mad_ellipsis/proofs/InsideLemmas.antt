@@ -15,15 +15,18 @@ use Rattle.mad_ellipsis.proofs.ShorteningLemmas.{some_chars}
 
 -- ---- a text without its first and its last character
 
+-- a text of no bytes is its own inside
 pub inside_none : (text : List ℕ) → length text ≡ 0 → chars text ≡ inside_chars (chars text)
 inside_none text none = let no : chars text ≡ [] = chars_of_empty text none in no ∙ sym (ap inside_chars no)
 
+-- a text of one character has nothing inside
 pub inside_one : (text others : List ℕ) (c : ℕ) → IsUtf8 text → text ≡ encode_utf8 c ++ others → length others ≡ 0 → chars others ≡ inside_chars (chars text)
 inside_one text others c utf8 parts none =
     let no : chars others ≡ [] = chars_of_empty others none in
     let all : chars text ≡ c ∷ [] = chars_past_char text others c utf8 parts ∙ ap (λ cs. c ∷ cs) no in
     no ∙ sym (ap inside_chars all)
 
+-- the inside of a text is what comes between its first and its last character
 pub inside_more : (text others inside : List ℕ) (c d : ℕ) → IsUtf8 text → text ≡ encode_utf8 c ++ others → IsUtf8 inside → others ≡ inside ++ encode_utf8 d → IsUtf8 others → chars inside ≡ inside_chars (chars text)
 inside_more text others inside c d utf8 parts own ends after =
     let last : chars others ≡ chars inside ++ d ∷ [] = last_char_is others inside d after own ends in

@@ -75,9 +75,11 @@ one_runs number text at (r ∷ rs) (s ∷ ss) h g =
     let others = one_runs number text r.end rs ss h.1 (subst (λ n. AreRunsFrom number text n ss) (ap (λ (x : Run). x.end) (sym same)) g.1) in
     ap (λ x. x ∷ rs) same ∙ ap (λ l. s ∷ l) others
 
+-- a compound has one list of runs that may be cut
 pub one_own : (number : ℕ) (text : List ℕ) (zs ws : List Run) → AreZonesOf number text zs → AreZonesOf number text ws → zs ≡ ws
 one_own number text zs ws (rs, from, is) (ss, other, so) = is ∙ ap cuttable (one_runs number text 0 rs ss from other) ∙ sym so
 
+-- compounds have one list of runs that may be cut
 pub one_zones : (number : ℕ) (ps : List Compound) (zs ws : List Run) → AreZones number ps zs → AreZones number ps ws → zs ≡ ws
 one_zones number [] zs ws h g = h ∙ sym g
 one_zones number (p ∷ ps) zs ws (own, others, joined, of, rest) (mine, more, made, from, left) =

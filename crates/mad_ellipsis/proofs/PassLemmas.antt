@@ -39,6 +39,7 @@ pub record Passing (p : Compound) (parts : List Run) (turns : Turns) (number i :
   pub gains : drop (number + i) turns.gains.items ≡ map (gain_of p.src.now) others ++ more
   pub room : (gs : List Gain) → gone + room_of turns (number + i) (map (gain_of p.src.now) others ++ gs) ≤ room_of turns number (map (gain_of p.src.now) parts ++ gs)
 
+-- before its first part nothing of a compound has gone
 pub passing_start : (p : Compound) (parts : List Run) (turns : Turns) (number : ℕ) (sweep : Sweep) → AreInOrder p.src.now 0 parts → FollowTurns p.src.now parts number turns → Passing p parts turns number 0 sweep p sweep parts
 passing_start p parts turns number sweep order follow =
     let none : number ≡ number + 0 = omega arith in
@@ -60,6 +61,7 @@ passing_start p parts turns number sweep order follow =
       room = λ gs. omega (arith, ap (λ n. room_of turns n (map (gain_of p.src.now) parts ++ gs)) none);
     }
 
+-- the next part is the first of those to come
 pub passing_next : (p : Compound) (parts : List Run) (turns : Turns) (number i : ℕ) (before : Sweep) (rest : Compound) (now : Sweep) (d : Run) → i < length parts → Passing p parts turns number i before rest now (drop i parts)
     → Passing p parts turns number i before rest now (get_or parts i d ∷ drop (i + 1) parts)
 passing_next p parts turns number i before rest now d l h = subst (Passing p parts turns number i before rest now) (at_drop_more (λ r. r) parts i d l) h
@@ -73,12 +75,15 @@ small_at (suc n) (x ∷ gs) back g all is = small_at n gs back g all.1 is
 next_drop : (n : ℕ) (gs back : List Gain) (g : Gain) → drop n gs ≡ g ∷ back → drop (n + 1) gs ≡ back
 next_drop n gs back g is = sym (drop-drop 1 n gs) ∙ ap (drop 1) is
 
+-- what is left of a compound isn't longer than it
 pub rest_within : (p : Compound) (parts : List Run) (turns : Turns) (number i : ℕ) (before : Sweep) (rest : Compound) (now : Sweep) (others : List Run) → Passing p parts turns number i before rest now others → length rest.src.now ≤ length p.src.now
 rest_within p parts turns number i before rest now others h = omega (arith, ap length h.text, length-drop h.from p.src.now)
 
+-- the next part's number is one of the gains
 pub number_fits : (p : Compound) (parts : List Run) (turns : Turns) (number i : ℕ) (before : Sweep) (rest : Compound) (now : Sweep) (part : Run) (others : List Run) → Passing p parts turns number i before rest now (part ∷ others) → number + i < length turns.gains.items
 number_fits p parts turns number i before rest now part others h = omega (arith, ap length h.gains, length-drop (number + i) turns.gains.items)
 
+-- the next part doesn't begin or end before what is left of the compound
 pub moved_fits : (p : Compound) (parts : List Run) (turns : Turns) (number i from : ℕ) (before : Sweep) (rest : Compound) (now : Sweep) (part : Run) (others : List Run) → Passing p parts turns number i before rest now (part ∷ others) → from ≡ length p.src.now - length rest.src.now → (from ≤ part.start) × (from ≤ part.end)
 moved_fits p parts turns number i from before rest now part others h is =
     let same : from ≡ h.from = omega (arith, is, ap length h.text, length-drop h.from p.src.now, h.within) in
@@ -91,6 +96,7 @@ next_part_of p parts turns number i from before rest now part moved others h is 
     let same : from ≡ h.from = omega (arith, is, ap length h.text, length-drop h.from p.src.now, h.within) in
     moved_part p rest part moved h.from h.order.0 h.order.1 h.text (subst (λ n. IsMoved part n moved) same move)
 
+-- one part more has been cut in its turn
 pub passing_cut : (p : Compound) (parts : List Run) (turns : Turns) (number i from amount : ℕ) (before : Sweep) (rest more : Compound) (now after : Sweep) (part moved : Run) (others : List Run)
     → i < length parts → IsUtf8 p.src.now → AreTurns turns → (h : Passing p parts turns number i before rest now (part ∷ others)) → from ≡ length p.src.now - length rest.src.now → IsMoved part from moved → amount ≡ amount_of turns.last (number + i) part.columns
     → Sweeps amount rest moved now more after → Passing p parts turns number (i + 1) before more after others
@@ -133,6 +139,7 @@ passing_cut p parts turns number i from amount before rest more now after part m
       );
     }
 
+-- after the last part what is left is added, and the compound is passed over
 pub passing_end : (p : Compound) (parts : List Run) (turns : Turns) (number i : ℕ) (before : Sweep) (rest : Compound) (now after : Sweep) → length parts ≤ i → Passing p parts turns number i before rest now (drop i parts)
     → after.compounds.items ≡ now.compounds.items ++ rest ∷ [] → after.left ≡ now.left → PassesOver p parts turns number before after
 passing_end p parts turns number i before rest now after all h added left =
@@ -169,6 +176,7 @@ pub record Sweeping (kind : Parts) (ps : List Compound) (turns : Turns) (number 
   pub gains : AreGains kind others (drop number turns.gains.items)
   pub room : gone + room_of turns number (drop number turns.gains.items) ≤ room_of turns 0 turns.gains.items
 
+-- before the first compound nothing has gone
 pub sweeping_start : (kind : Parts) (ps : List Compound) (turns : Turns) (now : Sweep) → now.compounds.items ≡ [] → now.left ≡ turns.excess → AreGains kind ps turns.gains.items → Sweeping kind ps turns 0 now ps
 sweeping_start kind ps turns now none left gains = record {
   gone = 0;
@@ -179,6 +187,7 @@ sweeping_start kind ps turns now none left gains = record {
   room = omega arith;
 }
 
+-- the next compound is the first of those to come
 pub sweeping_next : (kind : Parts) (ps : List Compound) (turns : Turns) (number i : ℕ) (now : Sweep) (d : Compound) → i < length ps → Sweeping kind ps turns number now (drop i ps) → Sweeping kind ps turns number now (get_or ps i d ∷ drop (i + 1) ps)
 sweeping_next kind ps turns number i now d l h = subst (Sweeping kind ps turns number now) (at_drop_more (λ r. r) ps i d l) h
 
@@ -190,12 +199,14 @@ next_follow kind ps turns number now p others parts one h = record {
   gains = h.gains.3 ∙ ap (λ l. map (gain_of p.src.now) l ++ h.gains.1) (one h.gains.0 h.gains.2);
 }
 
+-- there are gains for all parts of the next compound
 pub next_fits : (kind : Parts) (ps : List Compound) (turns : Turns) (number : ℕ) (now : Sweep) (p : Compound) (others : List Compound) (parts : List Run)
     → (one : (own : List Run) → ArePartsOf kind p own → own ≡ parts) → Sweeping kind ps turns number now (p ∷ others) → length parts ≤ length turns.gains.items - number
 next_fits kind ps turns number now p others parts one h =
     let split : drop number turns.gains.items ≡ map (gain_of p.src.now) parts ++ h.gains.1 = h.gains.3 ∙ ap (λ l. map (gain_of p.src.now) l ++ h.gains.1) (one h.gains.0 h.gains.2) in
     omega (arith, ap length split, length-drop number turns.gains.items, length-append (map (gain_of p.src.now) parts) h.gains.1, length-map parts (gain_of p.src.now))
 
+-- one compound more has been passed over
 pub sweeping_pass : (kind : Parts) (ps : List Compound) (turns : Turns) (number next : ℕ) (now after : Sweep) (p : Compound) (others : List Compound) (parts : List Run)
     → (one : (own : List Run) → ArePartsOf kind p own → own ≡ parts) → ArePartsOf kind p parts → next ≡ number + length parts → Sweeping kind ps turns number now (p ∷ others) → PassesOver p parts turns number now after
     → Sweeping kind ps turns next after others
@@ -225,6 +236,7 @@ sweeping_pass kind ps turns number next now after p others parts one are next_is
       );
     }
 
+-- after the last compound all parts are cut in their turns
 pub sweeping_end : (kind : Parts) (ps : List Compound) (turns : Turns) (number : ℕ) (now : Sweep) → 0 < turns.excess → AreTurns turns → Sweeping kind ps turns number now [] → SweepsAll kind ps turns now
 sweeping_end kind ps turns number now some last h = record {
   gone = h.gone;

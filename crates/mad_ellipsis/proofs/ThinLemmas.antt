@@ -13,6 +13,7 @@ use Rattle.mad_ellipsis.specs.declared.sweeping.Sweep.{Sweep}
 use Rattle.mad_ellipsis.specs.declared.turns.Turns.{Turns}
 use Rattle.mad_ellipsis.proofs.CutLemmas.{thin_none}
 
+-- compounds whose parts were cut in their turns are thinned
 pub swept_thins : (kind : Parts) (excess : ℕ) (ps : List Compound) (turns : Turns) (now : Sweep) → 0 < excess → turns.excess ≡ excess → SweepsAll kind ps turns now → IsThinned excess ps now.compounds.items now.left
 swept_thins kind excess ps turns now some is h = record {
   more = h.thinned.more;
@@ -26,18 +27,22 @@ swept_thins kind excess ps turns now some is h = record {
   none_empty = h.thinned.none_empty;
 }
 
+-- compounds whose parts were cut in their turns are cut in turn, the widest first
 pub swept_turns : (kind : Parts) (excess : ℕ) (ps : List Compound) (turns : Turns) (now : Sweep) → 0 < excess → turns.excess ≡ excess → AreGains kind ps turns.gains.items → SweepsAll kind ps turns now → IsCutInTurn kind excess ps now.compounds.items
 swept_turns kind excess ps turns now some is gains h = subst (λ e. IsCutInTurn kind e ps now.compounds.items) is (record {
   none = λ z. absurd (omega (arith, z, some, is));
   some = λ _. (turns.gains.items, gains, h.cut);
 })
 
+-- as many columns are left after all turns as are still too many
 pub swept_left : (kind : Parts) (excess : ℕ) (ps : List Compound) (turns : Turns) (now : Sweep) → turns.excess ≡ excess → SweepsAll kind ps turns now → now.left ≡ still_too_many excess ps now.compounds.items
 swept_left kind excess ps turns now is h = omega (arith, h.left, is, h.thinned.columns)
 
+-- with nothing too many the compounds that stay are thinned
 pub none_thins : (excess : ℕ) (ps : List Compound) → excess ≡ 0 → IsThinned excess ps ps 0
 none_thins excess ps none = subst (λ l. IsThinned excess ps ps l) none (thin_none excess ps ps refl)
 
+-- with nothing too many the compounds that stay are cut in turn
 pub none_turns : (kind : Parts) (excess : ℕ) (ps : List Compound) → excess ≡ 0 → IsCutInTurn kind excess ps ps
 none_turns kind excess ps none = record { none = λ _. refl; some = λ some. absurd (omega (arith, some, none)) }
 

@@ -40,5 +40,6 @@ abbrev pub room_for : ℕ → Option Last → ℕ → List Gain → ℕ
 room_for excess None number gains = gained excess 0 0 number gains
 room_for excess (Some last) number gains = gained excess last.columns (last.number + 1) number gains + (if nat_le number last.number then last.left + 2 else 0)
 
+-- at most how much parts gain in these turns, the first of them with this number
 abbrev pub room_of : Turns → ℕ → List Gain → ℕ
 room_of turns number gains = room_for turns.excess turns.last number gains

@@ -13,6 +13,7 @@ pub record IsAsciiFront (bs : List ℕ) (n : ℕ) : Type 0 where
   pub rest : IsUtf8 (drop n bs)
   pub columns_are : n + columns (chars (drop n bs)) ≡ columns (chars bs)
 
+-- a front of spaces and graphic characters takes a column for each byte
 pub ascii_front_is : (bs : List ℕ) (n : ℕ) → IsUtf8 bs → n ≤ length bs → AreSpacesOrGraphic bs n → IsAsciiFront bs n
 ascii_front_is bs zero utf8 inside ascii = record { rest = utf8; columns_are = omega arith }
 ascii_front_is bs (suc m) utf8 inside ascii =
@@ -28,5 +29,6 @@ ascii_front_is bs (suc m) utf8 inside ascii =
       columns_are = omega (arith, front.columns_are, ap columns step, char_columns-ascii c (omega (arith, is.0)) is.1);
     })
 
+-- a text may be cut after a front of spaces and graphic characters
 pub ascii_border : (bs : List ℕ) (n : ℕ) → IsUtf8 bs → n ≤ length bs → AreSpacesOrGraphic bs n → IsCharBoundary bs n
 ascii_border bs n utf8 inside ascii = IsCharBoundary-from_drop bs n inside (ascii_front_is bs n utf8 inside ascii).rest

@@ -73,6 +73,7 @@ word_stops max n f bs end utf8 h = elim (cases_lt end (length bs)) as (λ _. Sto
   ]
 ]
 
+-- n bytes that take n columns, none of them blank, are a token where a word ends after them
 pub word_is : (max start n : ℕ) (p : Compound) (t : Token) → start ≤ length p.src.now → IsCharBoundary p.src.now start → 0 < n → IsFront max (flags_of p) (drop start p.src.now) n false n
     → is_end_of_word p.code p.src.now (start + n) ≡ true → t ≡ record { compound = p; blank = false; width = n; start_in_compound = start; end_in_compound = start + n } → IsTokenAt max p start t
 word_is max start n p t inside border some front ends same =
@@ -120,6 +121,7 @@ space_stops max n f bs end utf8 h = elim (cases_lt end (length bs)) as (λ _. St
   ]
 ]
 
+-- a lone space is a token of one column
 pub space_is : (max start : ℕ) (p : Compound) (t : Token) → start < length p.src.now → IsCharBoundary p.src.now start → IsUtf8 (drop start p.src.now)
     → is_lone_space p.code p.src.now start ≡ true → t ≡ record { compound = p; blank = true; width = 1; start_in_compound = start; end_in_compound = start + 1 } → IsTokenAt max p start t
 space_is max start p t inside border utf8 lone same =

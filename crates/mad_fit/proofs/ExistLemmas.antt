@@ -85,6 +85,7 @@ token_there max start p inside utf8 border =
           (subst (λ n. StopsBefore max g.blank g.width (flagged f (chars (drop n (drop start bs))))) size g.stops) refl,
     )
 
+-- from each of its borders on a compound has tokens, to its end
 pub tokens_there : (fuel max start : ℕ) (p : Compound) → length p.src.now ≤ start + fuel → start ≤ length p.src.now → IsUtf8 p.src.now → IsCharBoundary p.src.now start → (ts : List Token) × AreTokensFrom max p start ts
 tokens_there zero max start p l inside utf8 border = ([], omega arith)
 tokens_there (suc fuel) max start p l inside utf8 border = elim (cases_lt start (length p.src.now)) as (λ _. (ts : List Token) × AreTokensFrom max p start ts) [

@@ -218,5 +218,6 @@ characters_keep cs = record {
       ∙ sym (ap shown_part (bar_is_part carried (put clean cs) ∙ part_put clean cs clean_keeps) ∙ shown_line (char_part cs));
 }
 
+-- a table's line that is made printable keeps its cells, where no whitespace in it is a control character
 pub cells_kept : TableLinesKeepTheirCells
 cells_kept part utf8 h = subst KeepsItsCells (sym (part_is part utf8 h)) (characters_keep (chars part))

@@ -61,11 +61,13 @@ shown_front begins_line (c ∷ cs) h tabs =
     ap (λ shown. front (encode_utf8_all (shown ++ shown_from (c == 10) cs))) (picture_shown begins_line c cs tabs.0 h.0.1)
     ∙ char_by c (encode_utf8_all cs) (encode_utf8_all (shown_from (c == 10) cs)) (is_printable_char c) tabs.0 refl (shown_front (c == 10) cs h.1 tabs.1)
 
+-- a line without tabs keeps its form where it is made printable
 pub forms_kept : LinesKeepTheirForm
 forms_kept line h tabs = same_form (encode_utf8_all line) (encode_utf8_all (printable_text line)) (shown_front true line h tabs)
 
 -- ---- a tab in front
 
+-- a line with a tab in front keeps its form, which is code
 pub tabs_stay_code : TabsInFrontStayCode
 tabs_stay_code line =
     ap (λ (bs : List ℕ). (line_start (bs ++ (bs ++ (bs ++ (bs ++ encode_utf8_all (shown_from false line)))))).form) (encode_ascii 32 (omega arith)) ∙ spaces_are_code (encode_utf8_all (shown_from false line))
@@ -86,6 +88,7 @@ line_then begins_line (c ∷ line) rest shown h e =
     ∙ ap (λ x. shown_as begins_line c line ++ x) (line_then (c == 10) line rest shown h.1 e)
     ∙ sym (append_assoc (shown_as begins_line c line) (shown_from (c == 10) line) shown)
 
+-- each line becomes printable by itself, whatever comes after it
 pub line_by_line : TextsArePrintableByLines
 line_by_line begins_line line rest h = record {
   newline = line_then begins_line line (10 ∷ rest) (10 ∷ printable_text rest) h (λ b. refl);

@@ -13,6 +13,7 @@ use Rattle.mad_printable.specs.Pictures.{is_printable_char, picture}
 use Rattle.mad_printable.proofs.PictureLemmas.{picture_is}
 use Rattle.mad_fit.specs.Printable.{are_printable, tab_spaces, return_shown, shown_as, shown_from, printable_text, IsPrintableFront}
 
+-- where true is false, anything follows
 pub true_is_false : {A : Type 0} → true ≡ false → A
 true_is_false {A} e = absurd (no e)
   where
@@ -48,6 +49,7 @@ alone b h = and_from b true h refl
 scalar_picture : (c : ℕ) → c < 32 → scalar (0x2400 + c) ≡ true
 scalar_picture c h = grind (arith, nat_tests)
 
+-- what stands for a character is a character, in each of the cases
 pub scalar_by : (c : ℕ) (stays low del : Bool) → scalar c ≡ true → nat_lt c 32 ≡ low → scalar (cond stays c (cond low (0x2400 + c) (cond del 0x2421 0xFFFD))) ≡ true
 scalar_by c true low del h l = h
 scalar_by c false true del h l = scalar_picture c (grind (arith, nat_tests))
@@ -123,9 +125,11 @@ pub record FrontSoFar (text rest : List ℕ) (bytes : ℕ) (begins_line : Bool) 
   pub shown : encode_utf8_all (printable_text (chars text)) ≡ front ++ encode_utf8_all (shown_from begins_line (chars rest))
   pub all : are_printable (chars text) ≡ are_printable (chars rest)
 
+-- before the first byte the front is empty, and what comes after it begins a line
 pub front_none : (text : List ℕ) → IsUtf8 text → FrontSoFar text text 0 true
 front_none text utf8 = record { utf8 = utf8; front = []; parts = refl; counts = refl; shown = refl; all = refl }
 
+-- the front goes on with a printable character
 pub front_more : (text rest more : List ℕ) (bytes next c : ℕ) (begins_line : Bool) → FrontSoFar text rest bytes begins_line → rest ≡ encode_utf8 c ++ more → next ≡ bytes + length (encode_utf8 c)
     → is_printable_char c ≡ true → FrontSoFar text more next (c == 10)
 front_more text rest more bytes next c begins_line held parts counts stays_here =
@@ -157,6 +161,7 @@ front_is text rest bytes begins_line whole held ends counts =
       all = held.all ∙ ends ∙ sym counts;
     }
 
+-- the front ends before a character that isn't printable
 pub front_stops : (text rest more : List ℕ) (bytes start c : ℕ) (begins_line : Bool) → FrontSoFar text rest bytes begins_line → start ≡ bytes → rest ≡ encode_utf8 c ++ more → is_printable_char c ≡ false → IsPrintableFront text start begins_line
 front_stops text rest more bytes start c begins_line held here parts stops =
     let some : 0 < length (encode_utf8 c) = omega (arith, length-encode c, (len_utf8_bounds c).0) in
@@ -165,6 +170,7 @@ front_stops text rest more bytes start c begins_line held here parts stops =
     let apart : bytes ≢ length text = omega (arith, longer) in
     subst (λ n. IsPrintableFront text n begins_line) (sym here) (front_is text rest bytes begins_line false held (ap are_printable (chars_past_char rest more c held.utf8 parts) ∙ ap (λ t. t && are_printable (chars more)) stops) (grind (arith, nat_tests, apart)))
 
+-- the front is the whole text where nothing comes after it
 pub front_all : (text rest : List ℕ) (bytes : ℕ) (begins_line : Bool) → FrontSoFar text rest bytes begins_line → length rest ≡ 0 → IsPrintableFront text (length text) begins_line
 front_all text rest bytes begins_line held none =
     let end : bytes ≡ length text = held.counts ∙ sym (ap length held.parts ∙ length-append held.front rest ∙ ap (λ n. length held.front + n) none ∙ omega arith) in
@@ -197,5 +203,6 @@ shown_more done shown rest more all c begins_line utf8 parts is h =
     ∙ ap (λ cs. done ++ encode_utf8_all (shown_from begins_line cs)) (sym (chars_past_char rest more c utf8 parts))
     ∙ h
 
+-- where nothing of the text is left, what was shown is all
 pub shown_all : (shown rest all : List ℕ) (begins_line : Bool) → length rest ≡ 0 → shown ++ encode_utf8_all (shown_from begins_line (chars rest)) ≡ all → shown ≡ all
 shown_all shown rest all begins_line none h = sym (append-nil shown) ∙ sym (ap (λ cs. shown ++ encode_utf8_all (shown_from begins_line cs)) (chars_of_empty rest none)) ∙ h

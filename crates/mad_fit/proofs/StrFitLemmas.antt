@@ -12,10 +12,12 @@ use Rattle.mad_fit.specs.RunningWidths.{columns_on, columns_back, forward, backw
 
 -- ---- running widths of characters one after the other
 
+-- joined characters move on as far as both together
 pub forward-append : (cs ds : List ℕ) → forward (cs ++ ds) ≡ forward cs + forward ds
 forward-append [] ds = omega arith
 forward-append (c ∷ cs) ds = let rest : forward (cs ++ ds) ≡ forward cs + forward ds = forward-append cs ds in omega (arith, rest)
 
+-- joined characters move back as far as both together
 pub backward-append : (cs ds : List ℕ) → backward (cs ++ ds) ≡ backward cs + backward ds
 backward-append [] ds = omega arith
 backward-append (c ∷ cs) ds = let rest : backward (cs ++ ds) ≡ backward cs + backward ds = backward-append cs ds in omega (arith, rest)
@@ -99,6 +101,7 @@ split text rest bytes whole utf8 inside left =
     ∙ chars-append (take bytes text) (drop bytes text) (IsUtf8-take text bytes whole (border text rest bytes utf8 inside left))
     ∙ ap (λ xs. chars (take bytes text) ++ chars xs) left
 
+-- before the first byte all columns are left
 pub fit_none : (text : List ℕ) (cols : ℕ) → IsUtf8 text → FitSoFar text text cols cols 0 0 false
 fit_none text cols utf8 = record {
   utf8 = utf8;
@@ -201,6 +204,7 @@ pub tab_shown : (c : ℕ) → c ≡ 9 → 32 ∷ 32 ∷ [] ≡ encode_utf8_all (
 unfolding lib.Utf8.encode
 tab_shown c is = let test : (c == 9) ≡ true = grind (arith, nat_tests) in ap (λ t. encode_utf8_all (cond t (32 ∷ 32 ∷ []) (c ∷ []))) (sym test)
 
+-- a character that isn't a tab is replaced by itself
 pub other_shown : (c : ℕ) → c ≢ 9 → encode_utf8 c ≡ encode_utf8_all (cond (c == 9) (32 ∷ 32 ∷ []) (c ∷ []))
 other_shown c other = let test : (c == 9) ≡ false = grind (arith, nat_tests) in sym (append-nil (encode_utf8 c)) ∙ ap (λ t. encode_utf8_all (cond t (32 ∷ 32 ∷ []) (c ∷ []))) (sym test)
 
@@ -234,6 +238,7 @@ cropped_replaced text front shown cols bytes width fit is replaced = record {
   counts = fit.counts;
 }
 
+-- a longest front without tabs is cropped as it is
 pub cropped_as_is : (text front : List ℕ) (cols bytes width : ℕ) → IsUtf8 text → IsFit text cols bytes width → front ≡ take bytes text → has_tab (chars (take bytes text)) ≡ false → IsCropped text cols front width
 cropped_as_is text front cols bytes width whole fit is none = record {
   front = chars (take bytes text);
@@ -251,9 +256,11 @@ pub record CharsSoFar (text rest : List ℕ) (bytes count : ℕ) : Type 0 where
   pub left : drop bytes text ≡ rest
   pub counts : count ≡ length (chars (take bytes text))
 
+-- before the first byte no character has come
 pub no_chars : (text rest : List ℕ) → IsUtf8 text → rest ≡ text → CharsSoFar text rest 0 0
 no_chars text rest utf8 e = record { utf8 = subst IsUtf8 (sym e) utf8; inside = omega arith; left = sym e; counts = sym (ap length chars-nil) }
 
+-- with the bytes of one character more, one more has come
 pub one_char_more : (text rest more : List ℕ) (bytes bytes' count count' c : ℕ) → IsUtf8 text → CharsSoFar text rest bytes count → rest ≡ encode_utf8 c ++ more → bytes' ≡ bytes + len_utf8 c → count' ≡ count + 1 → CharsSoFar text more bytes' count'
 one_char_more text rest more bytes bytes' count count' c whole h parts at counts = record {
   utf8 = IsUtf8-past_char rest more c h.utf8 parts;
@@ -265,6 +272,7 @@ one_char_more text rest more bytes bytes' count count' c whole h parts at counts
       omega (arith, counts, h.counts, more_of_them);
 }
 
+-- the text may be cut after these bytes
 pub first_border : (text rest : List ℕ) (bytes count : ℕ) → CharsSoFar text rest bytes count → IsCharBoundary text bytes
 first_border text rest bytes count h = border text rest bytes h.utf8 h.inside h.left
 

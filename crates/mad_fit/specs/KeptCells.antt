@@ -36,5 +36,6 @@ pub record KeepsItsCells (part : List ℕ) : Type 0 where
   pub cells : map cell_of (cut_cells false (shown_bytes part)) ≡ map shown_cell (map cell_of (cut_cells false part))
   pub line : (carried : Flags) → line_of false carried (shown_bytes (124 ∷ part)) ≡ shown_part (line_of false carried (124 ∷ part))
 
+-- each table's line that is made printable keeps its cells, where no whitespace in it is a control character
 abbrev pub TableLinesKeepTheirCells : Type 0
 TableLinesKeepTheirCells = (part : List ℕ) → IsUtf8 part → HaveNoWhitespaceControl (chars part) → KeepsItsCells part

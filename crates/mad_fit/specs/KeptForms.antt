@@ -14,6 +14,7 @@ pub record LineByLine (begins_line : Bool) (line rest : List ℕ) : Type 0 where
   pub return : shown_from begins_line (line ++ 13 ∷ 10 ∷ rest) ≡ shown_from begins_line line ++ 10 ∷ printable_text rest
   pub last : shown_from begins_line (line ++ 13 ∷ []) ≡ shown_from begins_line line ++ 10 ∷ []
 
+-- each line becomes printable by itself, whatever comes after it
 abbrev pub TextsArePrintableByLines : Type 0
 TextsArePrintableByLines = (begins_line : Bool) (line rest : List ℕ) → AreOnOneLine line → LineByLine begins_line line rest
 
@@ -23,6 +24,7 @@ pub record IsOfSameForm (line shown : List ℕ) : Type 0 where
   pub start : line_start shown ≡ line_start line
   pub fence : is_fence shown ≡ is_fence line
 
+-- each line without tabs keeps its form where it is made printable
 abbrev pub LinesKeepTheirForm : Type 0
 LinesKeepTheirForm = (line : List ℕ) → AreOnOneLine line → AllByRecursion (λ c. c ≢ 9) line → IsOfSameForm (encode_utf8_all line) (encode_utf8_all (printable_text line))
 

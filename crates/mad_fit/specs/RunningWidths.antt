@@ -17,6 +17,7 @@ abbrev pub forward : List ℕ → ℕ
 forward [] = 0
 forward (c ∷ cs) = columns_on c + forward cs
 
+-- the columns that characters move back
 abbrev pub backward : List ℕ → ℕ
 backward [] = 0
 backward (c ∷ cs) = columns_back c + backward cs

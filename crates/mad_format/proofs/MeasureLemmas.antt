@@ -7,6 +7,7 @@ use Rattle.mad_fit.specs.TextColumns.{columns, width_of}
 use Rattle.mad_fit.proofs.FlaggedLemmas.{width_of-append, width_of-flagged}
 use Rattle.mad_wrap.specs.WrapLines.{capped}
 
+-- a sum is capped alike where one part of it was capped before
 pub capped-add : (a b : ℕ) → capped (capped a + b) ≡ capped (a + b)
 capped-add a b = omega arith
 

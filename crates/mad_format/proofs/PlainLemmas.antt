@@ -177,6 +177,7 @@ with_texts text (l ∷ ls) h texts = (texts.0, (h.0, h.1, with_texts (skip_leadi
 source_text : (p : Compound) (line : List ℕ) → run_of p ≡ record { flags = unflagged; text = line } → flagged_text (p ∷ []) ≡ plain_text line
 source_text p line e = append-nil (flagged_of p) ∙ ap (λ (r : Run). flagged r.flags (chars r.text)) e
 
+-- each line of the wrap of a plain line is a front of what is left of it
 pub wrap_fronts : (width : ℕ) (line : List ℕ) (p : Compound) (lines : List (List Compound)) → run_of p ≡ record { flags = unflagged; text = line } → IsWrap (plain_room width) (p ∷ []) lines → AreFronts (chars line) lines
 wrap_fronts width line p lines plain_run h =
     let r = plain_room width in
@@ -219,6 +220,7 @@ lines_fit : (width : ℕ) (own : List (List ℕ)) → LinesFit 0 (plain_room wid
 lines_fit width [] h = tt
 lines_fit width (o ∷ os) h = (omega (arith, h.0, width_of-flagged unflagged (chars o)), lines_fit width os h.1)
 
+-- lines with the characters of such a wrap are the wrap of a plain line
 pub line_wrapped : (width : ℕ) (line : List ℕ) (p : Compound) (lines : List (List Compound)) (own : List (List ℕ)) → run_of p ≡ record { flags = unflagged; text = line } → width < columns (chars line)
     → IsWrap (plain_room width) (p ∷ []) lines → map chars own ≡ map chars_of lines → IsPlainWrap width line own
 line_wrapped width line p lines own plain_run wider h same =
@@ -263,10 +265,11 @@ chars_trimmed : (bs : List ℕ) → IsUtf8 bs → chars (trim_start bs) ≡ skip
 unfolding trim_start
 chars_trimmed bs utf8 = chars-encodes (skip_leading_whitespace (chars bs)) (scalars_skipped (chars bs) (scalars-chars bs utf8))
 
--- the first of the lines, and what is left for the others
+-- the first of the lines is a front of the text
 pub first_front : (text : List ℕ) (line : List Compound) (lines : List (List Compound)) → AreFronts text (line ∷ lines) → IsFront text line
 first_front text line lines h = record { texts = h.0; rest = h.1.0; parts = h.1.1 }
 
+-- the others are fronts of what is left after it, without whitespace in front
 pub next_fronts : (text front after trimmed : List ℕ) (line : List Compound) (lines : List (List Compound)) → AreFronts (chars text) (line ∷ lines) → chars front ≡ chars_of line → chars text ≡ chars front ++ chars after → IsUtf8 after → trimmed ≡ trim_start after
     → AreFronts (chars trimmed) lines
 next_fronts text front after trimmed line lines h front_is parts utf8 is =
@@ -284,6 +287,7 @@ pub record FrontCut (text after : List ℕ) (ps all : List Compound) : Type 0 wh
   pub front_utf8 : IsUtf8 front
   pub said : chars front ++ chars_of ps ≡ chars_of all
 
+-- at first all compounds are still to be cut off
 pub cut_none : (text : List ℕ) (all : List Compound) → IsUtf8 text → IsFront (chars text) all → FrontCut text text all all
 cut_none text all utf8 h = record { utf8 = utf8; texts = h.texts; rest = h.rest; left = h.parts; front = []; parts = refl; front_utf8 = IsUtf8-nil; said = ap (λ cs. cs ++ chars_of all) chars-nil }
 
@@ -309,9 +313,11 @@ cut_off after own more utf8 own_utf8 e =
 off_of : (text after : List ℕ) (p : Compound) (ps all : List Compound) (h : FrontCut text after (p ∷ ps) all) → IsCutOff after p.src.now (chars_of ps ++ h.rest)
 off_of text after p ps all h = cut_off after p.src.now (chars_of ps ++ h.rest) h.utf8 h.texts.0 (h.left ∙ append_assoc (chars p.src.now) (chars_of ps) h.rest)
 
+-- the next compound ends on the border of a character
 pub cut_border : (text after : List ℕ) (p : Compound) (ps all : List Compound) → FrontCut text after (p ∷ ps) all → IsCharBoundary after (length p.src.now)
 cut_border text after p ps all h = let off = off_of text after p ps all h in IsCharBoundary-at_seam after p.src.now (encode_utf8_all (chars_of ps ++ h.rest)) off.parts off.utf8
 
+-- the next compound is cut off
 pub cut_more : (text after next : List ℕ) (p : Compound) (ps all : List Compound) → FrontCut text after (p ∷ ps) all → next ≡ drop (length p.src.now) after → FrontCut text next ps all
 cut_more text after next p ps all h is =
     let off = off_of text after p ps all h in
@@ -334,6 +340,7 @@ pub record IsCutAt (text after : List ℕ) (at : ℕ) (all : List Compound) : Ty
   pub front : chars (take at text) ≡ chars_of all
   pub back : chars text ≡ chars (take at text) ++ chars (drop at text)
 
+-- where none is left, the text is cut behind them
 pub cut_all : (text after : List ℕ) (ps all : List Compound) (at : ℕ) → FrontCut text after ps all → ps ≡ [] → at ≡ length text - length after → IsCutAt text after at all
 cut_all text after ps all at h none is =
     let counts : at ≡ length h.front = omega (arith, is, ap length h.parts, length-append h.front after) in
@@ -355,9 +362,11 @@ pub record ArePartsLeft (width : ℕ) (text : List ℕ) (left : List Line) (done
   pub left_are : map content_of left ≡ map (raw_line text) spans
   pub so_far : (more : List (List ℕ)) → EachBecomes (λ span. IsPlainWrap width (line_text text span)) spans more → EachBecomes (λ span. IsPlainWrap width (line_text text span)) (line_spans parts) (done ++ more)
 
+-- at first all lines of a text are left
 pub parts_none : (width : ℕ) (text : List ℕ) (raw : Text) → IsReadRaw text raw → ArePartsLeft width text raw.lines.items []
 parts_none width text raw h = record { parts = h.parts; cut = h.cut; spans = line_spans h.parts; left_are = h.each h.parts h.cut; so_far = λ more each. each }
 
+-- one line more is wrapped
 pub parts_more : (width : ℕ) (text : List ℕ) (part : Line) (left : List Line) (done new own : List (List ℕ)) → ArePartsLeft width text (part ∷ left) done
     → ((line : List ℕ) → content_of part ≡ unflagged_line line → IsPlainWrap width line own) → new ≡ done ++ own → ArePartsLeft width text left new
 parts_more width text part left done new own h becomes is = by h.spans h.left_are h.so_far
@@ -378,6 +387,7 @@ parts_more width text part left done new own h becomes is = by h.spans h.left_ar
           so_far = λ more each. subst (EachBecomes Becomes (line_spans h.parts)) (sym (append_assoc done own more) ∙ ap (λ (ls : List (List ℕ)). ls ++ more) (sym is)) (so_far (own ++ more) (own, more, refl, becomes (line_text text span) head, each));
         }
 
+-- where none is left, the text is wrapped
 pub parts_all : (width : ℕ) (text : List ℕ) (left : List Line) (done : List (List ℕ)) → ArePartsLeft width text left done → left ≡ [] → IsTextWrap width text done
 parts_all width text left done h none = record { parts = h.parts; cut = h.cut; each = subst (EachBecomes Becomes (line_spans h.parts)) (append-nil done) (by h.spans (sym h.left_are ∙ ap (map content_of) none) h.so_far) }
   where
@@ -398,9 +408,11 @@ wider_by : (o : Option ℕ) (all most : ℕ) → MatchOption o (most < all) (λ 
 wider_by None all most h e = h
 wider_by (Some n) all most h e = absurd (cc)
 
+-- columns that were counted are within the most
 pub fits_within : (o : Option ℕ) (all most : ℕ) (b : Bool) → MatchOption o (most < all) (λ n. (n ≡ all) × (n ≤ most)) → b ≡ is_some o → b ≡ true → all ≤ most
 fits_within o all most b h is e = fits_by o all most h (sym is ∙ e)
 
+-- where they weren't, there are more
 pub is_wider : (o : Option ℕ) (all most : ℕ) (b : Bool) → MatchOption o (most < all) (λ n. (n ≡ all) × (n ≤ most)) → b ≡ is_some o → b ≡ false → most < all
 is_wider o all most b h is e = wider_by o all most h (sym is ∙ e)
 
@@ -412,12 +424,15 @@ source_wider width p line plain_run wider = omega (arith, wider, ap width_of (so
 at_index : (text after : List ℕ) (all : List Compound) (i : ℕ) (d : Compound) → i < length all → FrontCut text after (drop i all) all → FrontCut text after (get_or all i d ∷ drop (i + 1) all) all
 at_index text after all i d inside h = subst (λ (qs : List Compound). FrontCut text after qs all) (at_drop_more (λ l. l) all i d inside) h
 
+-- the compound of the next index ends on the border of a character
 pub border_at : (text after : List ℕ) (all : List Compound) (i : ℕ) (d : Compound) → i < length all → FrontCut text after (drop i all) all → IsCharBoundary after (length (get_or all i d).src.now)
 border_at text after all i d inside h = cut_border text after (get_or all i d) (drop (i + 1) all) all (at_index text after all i d inside h)
 
+-- the compound of the next index is cut off
 pub cut_at : (text after next : List ℕ) (all : List Compound) (i : ℕ) (d : Compound) → i < length all → FrontCut text after (drop i all) all → next ≡ drop (length (get_or all i d).src.now) after → FrontCut text next (drop (i + 1) all) all
 cut_at text after next all i d inside h is = cut_more text after next (get_or all i d) (drop (i + 1) all) all (at_index text after all i d inside h) is
 
+-- past the last index the text is cut behind all compounds
 pub cut_end : (text after : List ℕ) (all : List Compound) (i : ℕ) → length all ≤ i → FrontCut text after (drop i all) all → IsCutAt text after (length text - length after) all
 cut_end text after all i past h = cut_all text after (drop i all) all (length text - length after) h (at_drop_all (λ l. l) all i past) refl
 
@@ -427,6 +442,7 @@ pub part_more : (width : ℕ) (text : List ℕ) (parts : List Line) (i : ℕ) (d
 part_more width text parts i d done new own inside h becomes is =
     parts_more width text (get_or parts i d) (drop (i + 1) parts) done new own (subst (λ (ls : List Line). ArePartsLeft width text ls done) (at_drop_more (λ l. l) parts i d inside) h) becomes is
 
+-- past the last index the text is wrapped
 pub part_none : (width : ℕ) (text : List ℕ) (parts : List Line) (i : ℕ) (done : List (List ℕ)) → length parts ≤ i → ArePartsLeft width text (drop i parts) done → IsTextWrap width text done
 part_none width text parts i done past h = parts_all width text (drop i parts) done h (at_drop_all (λ l. l) parts i past)
 
@@ -436,6 +452,7 @@ pub said_more : (own : List (List ℕ)) (front : List ℕ) (line : List Compound
 said_more own front line lines all front_is h =
     ap (λ css. css ++ map chars_of lines) (map-append chars own (front ∷ [])) ∙ append_assoc (map chars own) (chars front ∷ []) (map chars_of lines) ∙ ap (λ cs. map chars own ++ cs ∷ map chars_of lines) front_is ∙ h
 
+-- one more borrowed line is one more of their bytes
 pub lines_push : (before new : List (Bor (List ℕ))) (line : Bor (List ℕ)) → new ≡ before ++ line ∷ [] → map (λ (l : Bor (List ℕ)). l.now) new ≡ map (λ (l : Bor (List ℕ)). l.now) before ++ line.now ∷ []
 lines_push before new line e = ap (map (λ (l : Bor (List ℕ)). l.now)) e ∙ map-append (λ (l : Bor (List ℕ)). l.now) before (line ∷ [])
 

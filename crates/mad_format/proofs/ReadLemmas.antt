@@ -22,6 +22,7 @@ cells_measured skin [] (l ∷ ls) h = absurd h
 cells_measured skin (c ∷ cs) [] h = tt
 cells_measured skin (c ∷ cs) (l ∷ ls) h = (h.0.measured, cells_measured skin cs ls h.1)
 
+-- the cached lengths of a line that was read are right
 pub line_measured : (skin : LineRules) (c : LineContent) (l : FmtLine) → IsLineRead skin c l → IsLineMeasured skin l
 line_measured skin (normal said) (Normal l) h = h.measured
 line_measured skin (table_row cells) (TableRow row) h = cells_measured skin cells row.cells.items h
@@ -45,12 +46,14 @@ table_read skin _ _ other rule h = absurd h
 abbrev pub CellsSoFar : LineRules → List StyledRuns → List StyledRuns → List FmtComposite → Type 0
 CellsSoFar skin all rest cells = (more : List FmtComposite) → AreCompositesRead skin rest more → AreCompositesRead skin all (cells ++ more)
 
+-- one cell more is read
 pub cells_more : (skin : LineRules) (all rest after : List StyledRuns) (c : StyledRuns) (cells new : List FmtComposite) (l : FmtComposite) → CellsSoFar skin all rest cells → rest ≡ c ∷ after → IsCompositeRead skin c l
     → new ≡ cells ++ l ∷ [] → CellsSoFar skin all after new
 cells_more skin all rest after c cells new l held next is pushed more h =
     subst (AreCompositesRead skin all) (sym (ap (λ ls. ls ++ more) pushed ∙ append_assoc cells (l ∷ []) more))
     (held (l ∷ more) (subst (λ (cs : List StyledRuns). AreCompositesRead skin cs (l ∷ more)) (sym next) (is, h)))
 
+-- where no cell is left, all are read
 pub cells_all : (skin : LineRules) (all rest : List StyledRuns) (cells : List FmtComposite) → rest ≡ [] → CellsSoFar skin all rest cells → AreCompositesRead skin all cells
 cells_all skin all rest cells none held =
     subst (AreCompositesRead skin all) (append-nil cells) (held [] (subst (λ (cs : List StyledRuns). AreCompositesRead skin cs []) (sym none) tt))

@@ -72,6 +72,7 @@ measured_are skin kind other i n spacing [] cs first next counted h = subst (All
 measured_are skin kind other i n spacing (l ∷ ls) [] first next counted h = absurd h
 measured_are skin kind other i n spacing (l ∷ ls) (c ∷ cs) first next counted h = (measured_one skin kind l c i spacing first counted.0 h.0, measured_are skin other other n n spacing ls cs next next counted.1 h.1)
 
+-- the lines of a wrap of a composite's compounds, as composites, are a wrap of the composite
 pub composite_wrap : (skin : LineRules) (width : ℕ) (source : FmtComposite) (lines : List WrappedLine) (cs : List FmtComposite) → IsWrapOf (room_of skin source.kind width) source.compounds.items (compounds_of lines) → AreCounted lines
     → AreComposites source.kind (follow_up source.kind) (room_of skin source.kind width).first (room_of skin source.kind width).other source.spacing lines cs → IsCompositeWrap skin width source cs
 composite_wrap skin width source lines cs wrap counted h =
@@ -97,6 +98,7 @@ pub ok_then : {T E : Type 0} (P Q : T → Type 0) → ((x : T) → P x → Q x) 
 ok_then P Q f (Ok x) h = f x h
 ok_then P Q f (Err e) h = tt
 
+-- what follows from what is known of an Ok, whatever its value
 pub then_ok : {T E : Type 0} (P Q : Type 0) (r : Result T E) → (P → Q) → OnOk r P → OnOk r Q
 then_ok {T} {E} P Q (Ok x) f h = f h
 then_ok {T} {E} P Q (Err e) f h = tt

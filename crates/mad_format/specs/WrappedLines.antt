@@ -49,13 +49,15 @@ IsLineLaidOutBy wraps skin width HorizontalRule lines = lines ≡ HorizontalRule
 abbrev pub AreLaidOutBy : Wrap → LineRules → ℕ → List FmtLine → List FmtLine → Type 0
 AreLaidOutBy wraps skin width = EachBecomes (IsLineLaidOutBy wraps skin width)
 
--- the same three with the fewest lines
+-- a composite is laid out so, with the fewest lines
 abbrev pub IsWrapped : LineRules → ℕ → FmtComposite → List FmtLine → Type 0
 IsWrapped = IsLaidOutBy IsCompositeWrap
 
+-- so is a line
 abbrev pub IsLineWrapped : LineRules → ℕ → FmtLine → List FmtLine → Type 0
 IsLineWrapped = IsLineLaidOutBy IsCompositeWrap
 
+-- so is each of the lines, in order
 abbrev pub AreLinesWrapped : LineRules → ℕ → List FmtLine → List FmtLine → Type 0
 AreLinesWrapped = AreLaidOutBy IsCompositeWrap
 
@@ -71,9 +73,10 @@ abbrev pub LineFits : LineRules → ℕ → FmtLine → Type 0
 LineFits skin width (Normal l) = FitsWithMargins skin width l
 LineFits skin width _ = Unit {0}
 
--- all of them
+-- the cached lengths of all lines are right
 abbrev pub AllMeasured : LineRules → List FmtLine → Type 0
 AllMeasured skin lines = AllByRecursion (IsLineMeasured skin) lines
 
+-- all lines fit with their margins
 abbrev pub AllFit : LineRules → ℕ → List FmtLine → Type 0
 AllFit skin width lines = AllByRecursion (LineFits skin width) lines

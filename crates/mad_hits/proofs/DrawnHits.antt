@@ -20,6 +20,7 @@ use Rattle.mad_hits.specs.declared.hits.Hit.{Hit}
 abbrev pub IsKnownChar : StyledChar → Type 0
 IsKnownChar c = IsStyle (char_style c).object_style
 
+-- the colors of pieces are known where those of their characters are
 pub chars_known : (cs : List StyledChar) → AllByRecursion IsKnownChar cs → AreKnown (map char_piece cs)
 chars_known [] h = tt
 chars_known (c ∷ cs) h = (h.0, chars_known cs h.1)
@@ -55,6 +56,7 @@ hits_more width y (h ∷ hits) hit a b (first, others, are, shown, rest) here = 
   hits_more width y hits hit others b rest here,
 )
 
+-- the hit of the next index is drawn
 pub hit_more : (width y : ℕ) (hits : List Hit) (i : ℕ) (d : Hit) (a b : List ℕ) → i < length hits → AreHitsShown width y (map marked_of (take i hits)) a → IsHitShown width y (marked_of (get_or hits i d)) b
     → AreHitsShown width y (map marked_of (take (i + 1) hits)) (a ++ b)
 hit_more width y hits i d a b inside so here =

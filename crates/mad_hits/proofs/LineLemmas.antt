@@ -64,9 +64,11 @@ pub record CellsSoFar (skin : RowSkin) (sought : List ℕ) (cells : List FmtComp
   pub added : map marked_of new ≡ map marked_of old ++ first
   pub goes : (rest : List Marked) → AreTextsHits skin sought (placed_cells skin now (drop i cells)) rest → AreTextsHits skin sought (placed_cells skin start cells) (first ++ rest)
 
+-- before the first cell there are no hits
 pub no_cell : (skin : RowSkin) (sought : List ℕ) (cells : List FmtComposite) (start column : ℕ) (hits : List Hit) → column ≡ capped start → CellsSoFar skin sought cells 0 start column hits hits
 no_cell skin sought cells start column hits at = record { now = start; at = at; first = []; added = sym (append-nil (map marked_of hits)); goes = λ rest h. h }
 
+-- the hits of one cell more are there
 pub cell_more : (skin : RowSkin) (sought : List ℕ) (cells : List FmtComposite) (i start column inside blank text next wide : ℕ) (d : FmtComposite) (old mid new : List Hit)
     → CellsSoFar skin sought cells i start column old mid → i < length cells → inside ≡ min (column + 1) (2 ^ 64 - 1) → blank ≡ capped (text_column skin None (0, 0) (get_or cells i d)) → text ≡ min (inside + blank) (2 ^ 64 - 1)
     → wide ≡ inner_columns (get_or cells i d) → next ≡ min (inside + wide) (2 ^ 64 - 1)
@@ -87,6 +89,7 @@ cell_more skin sought cells i start column inside blank text next wide d old mid
           (subst (λ (cs : List FmtComposite). AreTextsHits skin sought (placed_cells skin s.now cs) (it.0 ++ rest)) (sym (drop_more cells i d within)) (it.0, rest, refl, it.2, k)));
     }
 
+-- past the last cell those of all texts are there
 pub cells_whole : (skin : RowSkin) (sought : List ℕ) (cells : List FmtComposite) (i start column : ℕ) (old new : List Hit) → length cells ≤ i → CellsSoFar skin sought cells i start column old new
     → Adds (AreTextsHits skin sought (placed_cells skin start cells)) old new
 cells_whole skin sought cells i start column old new past s =

@@ -13,6 +13,7 @@ none_sought s cs b is none at low h = absurd (omega (arith, none, h.0))
 pub record StartsSoFar (s cs : List ℕ) (at : ℕ) (starts : List ℕ) : Type 0 where
   pub goes : (rest : List ℕ) → AreStarts s cs at rest → AreStarts s cs 0 (starts ++ rest)
 
+-- before the first character there are no places
 pub no_start : (s cs starts : List ℕ) → starts ≡ [] → StartsSoFar s cs 0 starts
 no_start s cs starts e = record { goes = λ rest h. subst (λ (l : List ℕ). AreStarts s cs 0 (l ++ rest)) (sym e) h }
 

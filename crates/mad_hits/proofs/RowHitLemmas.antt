@@ -32,13 +32,15 @@ filter_last p xs x = filter-append p xs (x ∷ [])
 pub record OversSoFar (letters before after : List ℕ) (at : ℕ) (found : List ℕ) : Type 0 where
   pub are : found ≡ filter (goes_over letters before after) (range_with_len 0 at)
 
+-- before the first index there is none
 pub no_over : (letters before after found : List ℕ) → found ≡ [] → OversSoFar letters before after 0 found
 no_over letters before after found none = record { are = none }
 
--- an index is put where they go over there
+-- an index at which they go over is put after the others
 pub over_put : (b : Bool) (at : ℕ) (old new : List ℕ) → b ≡ true → new ≡ old ++ at ∷ [] → new ≡ old ++ cond b (at ∷ []) []
 over_put b at old new so put = put ∙ sym (ap (λ (x : Bool). old ++ cond x (at ∷ []) []) so)
 
+-- one at which they don't is left out
 pub over_left : (b : Bool) (at : ℕ) (old : List ℕ) → b ≡ false → old ≡ old ++ cond b (at ∷ []) []
 over_left b at old so = sym (ap (λ (x : Bool). old ++ cond x (at ∷ []) []) so ∙ append-nil old)
 
@@ -54,6 +56,7 @@ over_next letters before after found new at next so put on =
           ∙ sym (ap (λ (n : ℕ). filter p (range_with_len 0 n)) on ∙ (ap (filter p) (range_more 0 at at (omega arith)) ∙ filter_last p (range_with_len 0 at) at)));
     }
 
+-- past the last character all indices are there
 pub overs_whole : (letters before after found : List ℕ) (at : ℕ) → at ≤ length letters → length letters ≤ at → OversSoFar letters before after at found → found ≡ overs letters before after
 overs_whole letters before after found at low high so =
     let whole : at ≡ length letters = omega (arith, low, high) in so.are ∙ ap (λ (n : ℕ). filter (goes_over letters before after) (range_with_len 0 n)) whole
@@ -71,12 +74,15 @@ no_blank_at a b c e = ap (λ (x : Bool). (x && b) && c) e
 pub record NoBlank (letters : List ℕ) (n : ℕ) : Type 0 where
   pub none : (k : ℕ) → k < n → get_or letters k 0 ≢ 32
 
+-- no character is a blank yet
 pub no_blank : (letters : List ℕ) → NoBlank letters 0
 no_blank letters = record { none = λ k inside. absurd (omega (arith, inside)) }
 
+-- one character more is none
 pub blank_less : (letters : List ℕ) (i c : ℕ) → NoBlank letters i → c ≡ get_or letters i 0 → c ≢ 32 → NoBlank letters (i + 1)
 blank_less letters i c so is other = record { none = below_more (λ (k : ℕ). get_or letters k 0 ≢ 32) i so.none (λ e. other (is ∙ e)) }
 
+-- past the last character none is a blank
 pub blank_none : (letters : List ℕ) (i : ℕ) → length letters ≤ i → NoBlank letters i → (at : ℕ) → slice_index letters at ≢ 32
 blank_none letters i past so at =
     elim (cases_lt at i) [
@@ -90,6 +96,7 @@ none_over letters before after none =
     none_filtered (goes_over letters before after) (range_with_len 0 (length letters))
     (λ at. no_blank_at (slice_index letters at == 32) _ _ (let other = none at in grind (arith, nat_tests, other)))
 
+-- so what is sought goes over no break between rows, where it has no blank
 pub none_between : (sought letters : List ℕ) (above below : List FmtLine) → letters ≡ chars sought → ((at : ℕ) → slice_index letters at ≢ 32) → overs_between sought above below ≡ []
 none_between sought letters above below spelt none =
     ap (λ (l : List ℕ). overs l (drop 1 (chars (text_after sought above))) (chars (text_after sought below))) (sym spelt)
@@ -102,6 +109,7 @@ above_is sought lines starts (suc r) before e = let same : r ≡ before = omega 
 
 -- ---- rows that are marked
 
+-- the hits of a row that were drawn in its place mark the row
 pub row_marked : (skin : RowSkin) (width : ℕ) (sought : List ℕ) (lines : List FmtLine) (starts : List ℕ) (y row : ℕ) (hits given : List Hit) (old new : Trace) → given ≡ hits
     → AreRowHits skin width sought lines starts row (map marked_of hits) → TookWith old new (AreHitsShown width y (map marked_of given)) → TookWith old new (IsRowMarked skin width sought lines starts y row)
 row_marked skin width sought lines starts y row hits given old new same are shown =

@@ -12,6 +12,7 @@ known_at None n bytes A P e h = tt
 known_at (Some before) n bytes A P e h =
     (bytes, e, λ a. let it = h a in subst P (append_cancel_left before it.0 bytes (same_Some _ _ (sym it.1 ∙ e))) it.2)
 
+-- what holds of a text that went out under a premise is known with that premise
 pub known : (old new : Trace) (bytes : List ℕ) (A : Type 0) (P : List ℕ → Type 0) → new ≡ after old bytes → (A → TookWith old new P) → TookWith old new (λ text. A → P text)
 unfolding after
 known old new bytes A P e h = known_at old.bytes new.bytes bytes A P (ap (λ (t : Trace). t.bytes) e) h

@@ -60,6 +60,7 @@ pub record Marked : Type 0 where
   pub column : ℕ
   pub chars : List StyledChar
 
+-- the column and the characters of a hit as it was found
 abbrev pub marked_of : Hit → Marked
 marked_of hit = record { column = hit.column; chars = hit.chars.items }
 

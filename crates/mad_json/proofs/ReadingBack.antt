@@ -81,6 +81,7 @@ texts_flat text (x ∷ xs) = texts_flat text xs
 three_digits : (n : ℕ) → n < 256 → length (decimal n) ≤ 3
 three_digits n small = length-decimal-le 3 n (omega arith) (omega (arith, small)) (omega (arith, small))
 
+-- a mode with a hanging indent is read back from its text
 pub mode_back : (extra : ℕ) → extra < 256 → mode_said (string (mode_text (Hanging extra))) ≡ Ok (Hanging extra)
 mode_back extra small =
     let text_known : Option ListItemsIndentationMode → Result ListItemsIndentationMode ValueFault = λ o. ok_or o (bad_text (unrecognized (mode_text (Hanging extra)))) in

@@ -123,6 +123,7 @@ placed_chars skin drawn columns ps =
     both (spaces blank left) (ps ++ spaces blank (rest - left)) ∙ ap (λ t. t ++ chars_in (ps ++ spaces blank (rest - left))) (spaces_chars blank left)
     ∙ ap (λ t. replicate left 32 ++ t) (both ps (spaces blank (rest - left)) ∙ ap (λ t. chars_in ps ++ t) (spaces_chars blank (rest - left)))
 
+-- the lines of a row of a table have the characters of its cells' rows across the columns
 pub down_chars : (skin : RowSkin) (drawn : ℕ) (cs : List Spacing) (lines : List (List FmtComposite)) (rows : List FmtTableRow) → AreDown cs lines rows
     → map (line_chars skin drawn) (map TableRow rows) ≡ map (table_across skin drawn (1 + bordered (widths_of cs))) (rows_down skin (length rows) (placed_lines skin cs lines))
 down_chars skin drawn cs lines [] down = refl
@@ -160,6 +161,7 @@ rule_pieces_chars skin b (w ∷ ws) shown =
     first_piece (border_piece style b.left) (horizontals style b w ++ rest)
     ∙ ap (λ t. skin_char b.left ++ t) (both (horizontals style b w) rest ∙ ap (λ t. t ++ chars_in rest) (across w) ∙ ap (λ t. repeat w (skin_char b.horizontal) ++ t) (junctions_chars style b ws across))
 
+-- the line of a rule has the characters of the rule across its columns
 pub rule_line_chars : (skin : RowSkin) (drawn : ℕ) (position : RelativePosition) (ws : List ℕ) (rule : FmtTableRule) → AreShownChars skin (rule_chars skin.table_border_chars position) → rule.position ≡ position → rule.widths.items ≡ ws
     → line_chars skin drawn (TableRule rule) ≡ rule_across skin drawn position ws
 rule_line_chars skin drawn position ws rule shown place widths =

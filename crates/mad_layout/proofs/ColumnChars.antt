@@ -15,9 +15,11 @@ use Rattle.mad_layout.specs.Premises.{IsColumnChar, AreRuleChars}
 use Rattle.mad_rows.specs.RowStyles.{index_suffix, ordered_item_style}
 use Rattle.mad_rows.specs.declared.row_skin.RowSkin.{RowSkin}
 
+-- a border of such a character is shown in one column
 pub column_border : (style : CompoundStyle) (c : ℕ) → IsColumnChar c → IsColumnPiece (border_piece style c)
 column_border style c h = column_piece (styled_char style c) h
 
+-- so is each character of a rule
 pub column_rule : (skin : RowSkin) (chars : RuleChars) → AreRuleChars chars → AreShownChars skin chars
 column_rule skin chars h =
     let style : CompoundStyle = skin.table.compound_style in record {
@@ -27,8 +29,10 @@ column_rule skin chars h =
       right = column_border style chars.right h.right;
     }
 
+-- so is the character after an item's number
 pub column_suffix : (skin : RowSkin) (level : ℕ) → IsColumnChar (index_suffix skin level) → IsColumnPiece (char_piece (ordered_item_style skin level).index_suffix)
 column_suffix skin level h = column_piece (ordered_item_style skin level).index_suffix h
 
+-- a printed ASCII character takes one column
 pub ascii_column : (c : ℕ) → IsScalar c → 32 ≤ c → c < 127 → IsColumnChar c
 ascii_column c scalar low high = record { scalar = scalar; one = char_columns-ascii c low high }

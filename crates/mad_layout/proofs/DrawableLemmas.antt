@@ -255,6 +255,7 @@ fitting_is_drawable skin width drawn n text lines narrower bound keeps layout =
 
 -- ---- a layout with the fewest lines
 
+-- So are the first lines of a layout with the fewest lines.
 pub layout_is_drawable : (skin : RowSkin) (width drawn n : ℕ) (text : List LineContent) (lines : List FmtLine) → width ≤ drawn → drawn < 2 ^ 64 - 1
     → AreSoundLines skin width (take n (lines_in_parts text)) → IsLayout (line_rules skin) width text lines → AreDrawable skin drawn (take n lines)
 layout_is_drawable skin width drawn n text lines narrower bound keeps layout = fitting_is_drawable skin width drawn n text lines narrower bound keeps (layout_fits (line_rules skin) width text lines layout)

@@ -149,6 +149,7 @@ across_fill skin [] [] [] h across = tt
 across_fill skin (c ∷ cs) (ls ∷ lines) (x ∷ xs) h across = (top_fills skin c ls x h.0 across.0, across_fill skin cs lines xs h.1 across.1)
 across_fill skin _ _ _ h across = absurd across
 
+-- a row across columns takes their widths and its borders
 pub across_columns : (cs : List Spacing) (lines : List (List FmtComposite)) (xs : List FmtComposite) → IsLineAcross cs lines xs → row_columns xs ≡ 1 + bordered (widths_of cs)
 across_columns [] [] [] across = refl
 across_columns (c ∷ cs) (ls ∷ lines) (x ∷ xs) across =
@@ -197,11 +198,13 @@ record FitColumns (drawn : ℕ) (ws : List ℕ) (cs : List Spacing) : Type 0 whe
   fit : 1 + bordered ws ≤ drawn
   are : widths_of cs ≡ ws
 
+-- columns that were given widths have these
 pub columns_with-widths : (ws : List ℕ) (aligns : List Alignment) → widths_of (columns_with ws aligns) ≡ ws
 columns_with-widths [] aligns = refl
 columns_with-widths (w ∷ ws) [] = ap (λ vs. w ∷ vs) (columns_with-widths ws [])
 columns_with-widths (w ∷ ws) (a ∷ aligns) = ap (λ vs. w ∷ vs) (columns_with-widths ws aligns)
 
+-- so have columns of centered cells
 pub centered-widths : (ws : List ℕ) → widths_of (centered ws) ≡ ws
 centered-widths [] = refl
 centered-widths (w ∷ ws) = ap (λ vs. w ∷ vs) (centered-widths ws)
@@ -213,10 +216,12 @@ from-widths ws cs _ h = h
 fit_from : (drawn : ℕ) (ws : List ℕ) (cs : List Spacing) (l : FmtLine) → FitColumns drawn ws cs → FitColumns drawn ws (columns_from ws cs l)
 fit_from drawn ws cs l h = record { two = h.two; bound = h.bound; fit = h.fit; are = from-widths ws cs l h.are }
 
+-- the columns of a table that fits can be counted
 pub widths_small : (drawn : ℕ) (cs : List Spacing) → drawn < 2 ^ 64 - 1 → 1 + bordered (widths_of cs) ≤ drawn → AllByRecursion (λ c. c.width < 2 ^ 64 - 1) cs
 widths_small drawn [] bound fit = tt
 widths_small drawn (c ∷ cs) bound fit = (omega (arith, bound, fit), widths_small drawn cs bound (omega (arith, fit)))
 
+-- some rows are some lines
 pub map_some : (rows : List FmtTableRow) → 0 < length rows → 0 < length (map TableRow rows)
 map_some [] h = absurd (omega (arith, h))
 map_some (row ∷ rows) h = omega arith
@@ -269,9 +274,11 @@ pub record TableContent (skin : RowSkin) (width : ℕ) (ws : List ℕ) (l : FmtL
 abbrev pub ArePartColumns : RowSkin → ℕ → List LineContent → List ℕ → Type 0
 ArePartColumns skin width part ws = (cells : List StyledRuns) → AreSoundIn skin (kept_widths skin width part) cells → AreSoundIn skin ws cells
 
+-- the kept widths of a part are such columns
 pub kept_columns : (skin : RowSkin) (width : ℕ) (part : List LineContent) (ws : List ℕ) → ws ≡ kept_widths skin width part → ArePartColumns skin width part ws
 kept_columns skin width part ws is cells given = subst (λ vs. AreSoundIn skin vs cells) (sym is) given
 
+-- what is read of a line of a table keeps the premises, where the line does
 pub content_printable : (skin : RowSkin) (width : ℕ) (part : List LineContent) (ws : List ℕ) (c : LineContent) (l : FmtLine) → ArePartColumns skin width part ws → IsSoundContent skin width part c → IsLineRead (line_rules skin) c l → is_table_line l ≡ true
     → TableContent skin width ws l
 content_printable skin width part ws (normal said) (Normal l) columns printable read is = absurd (cc)

@@ -44,6 +44,7 @@ layout_so skin bar lines area scroll Q limits h source width narrower shown type
     let first : AreDrawable skin drawn (take n lines) = fitting_is_drawable skin width drawn n source lines narrower (few bar area limits) sound layout in
     h shown (drawable_from skin drawn lines scroll area.height n refl first)
 
+-- what an area shows of drawable lines, it shows of a layout
 pub layout_shown : {T E : Type 0} (r : Result T E) (skin : RowSkin) (bar : Option ScrollBar) (lines : List FmtLine) (area : Area) (scroll : ℕ) (old new : Trace) → IsWithinLimits area
     → OnOk r (ShowsDrawable skin bar lines area scroll old new) → OnOk r (ShowsLayout skin bar lines area scroll old new)
 layout_shown {T} {E} (Ok x) skin bar lines area scroll old new limits h = layout_so skin bar lines area scroll (TookWith old new (AreShownIn skin bar lines area scroll)) limits h

@@ -20,14 +20,17 @@ each_of P [] x h (k, inside, e) = absurd (omega (arith, inside))
 each_of P (y ∷ ys) x h (zero, inside, e) = subst P e h.0
 each_of P (y ∷ ys) x h (suc k, inside, e) = each_of P ys x h.1 (k, omega (arith, inside), e)
 
+-- the pieces of compounds whose runs are shown are shown
 pub pieces_shown : (skin : RowSkin) (style : LineStyle) (ps : List Compound) → AllByRecursion IsShownRun (map run_of ps) → AreShownPieces (map (compound_piece skin style) ps)
 pieces_shown skin style [] h = tt
 pieces_shown skin style (p ∷ ps) h = (record { utf8 = h.0.utf8; shown = h.0.shown }, pieces_shown skin style ps h.1)
 
+-- the text of runs is the flagged text of their compounds
 pub runs_are : (ps : List Compound) → runs_text (map run_of ps) ≡ flagged_text ps
 runs_are [] = refl
 runs_are (p ∷ ps) = ap (λ l. flagged_of p ++ l) (runs_are ps)
 
+-- the texts of sound runs are UTF-8
 pub utf8_of : (ps : List Compound) → AllByRecursion IsSoundRun (map run_of ps) → AllByRecursion (λ p. IsUtf8 p.src.now) ps
 utf8_of [] h = tt
 utf8_of (p ∷ ps) h = (h.0.utf8, utf8_of ps h.1)
@@ -44,6 +47,7 @@ first_joined skin drawn own others zero h k = tt
 first_joined skin drawn [] others (suc n) h k = k
 first_joined skin drawn (l ∷ own) others (suc n) h k = (h.0, first_joined skin drawn own others n h.1 (one_less skin drawn others n k))
 
+-- where lines in front are drawn exactly, one at least, one more of the joined lines is
 pub some_joined : (skin : RowSkin) (drawn : ℕ) (own others : List FmtLine) (n : ℕ) → 0 < length own → AreDrawable skin drawn own → AreDrawable skin drawn (take n others) → AreDrawable skin drawn (take (suc n) (own ++ others))
 some_joined skin drawn [] others n some h k = absurd (omega (arith, some))
 some_joined skin drawn (l ∷ own) others n some h k = (h.0, first_joined skin drawn own others n h.1 k)

@@ -32,11 +32,13 @@ cut_first f (x ∷ xs) ys (t ∷ ts) e =
 abbrev pub piece_by : {A B : Type 0} → (A → B) → LineAndGap A → LineAndGap B
 piece_by f q = record { line = map f q.line; gap = map f q.gap }
 
+-- lines and gaps by a function are all their tokens by it
 pub joined_by : {A B : Type 0} (f : A → B) (qs : List (LineAndGap A)) → lines_and_gaps (map (piece_by f) qs) ≡ map f (lines_and_gaps qs)
 joined_by f [] = refl
 joined_by f (q ∷ qs) =
     sym (map-append f q.line (q.gap ++ lines_and_gaps qs) ∙ ap (λ l. map f q.line ++ l) (map-append f q.gap (lines_and_gaps qs)) ∙ ap (λ l. map f q.line ++ (map f q.gap ++ l)) (sym (joined_by f qs)))
 
+-- a line and its gap, each token as its flagged text
 abbrev pub flagged_piece : LineAndGap Token → LineAndGap (List FlaggedChar)
 flagged_piece q = piece_by flagged_token q
 
@@ -57,6 +59,7 @@ lift {A = A} f (p ∷ ps) ts e =
       ap (λ x. x ∷ map (piece_by f) more.0) (same_piece (piece_by f q) p line.3 gap.3) ∙ ap (λ l. p ∷ l) more.2,
     )
 
+-- the flagged texts of tokens take the columns that these have
 pub width_of-tokens : (max : ℕ) (ts : List Token) → AllByRecursion (IsHonest max) ts → width_of (whole (map flagged_token ts)) ≡ total_width ts
 width_of-tokens max [] h = refl
 width_of-tokens max (t ∷ ts) h =
@@ -70,6 +73,7 @@ blank_tokens max (t ∷ ts) h on =
     let rest : List FlaggedChar = whole (map flagged_token ts) in
     (blank_token t.blank (flagged_token t) (some_flagged t h.0.within) h.0.alike.alike (all_front is (flagged_token t) rest on), blank_tokens max ts h.1 (all_back is (flagged_token t) rest on))
 
+-- a break of tokens fits where that of their flagged texts does
 pub fits_back : (max indent : ℕ) (r : Room) (qs : List (LineAndGap Token)) → AllByRecursion (IsHonest max) (lines_and_gaps qs) → LinesFit indent r (map (λ p. whole p.line) (map flagged_piece qs))
     → AllByRecursion (λ p. AllByRecursion (λ x. is_blank x ≡ true) (whole p.gap)) (map flagged_piece qs) → FitsFrom indent r qs
 fits_back max indent r [] honest fits dropped = tt

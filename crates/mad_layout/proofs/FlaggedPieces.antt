@@ -83,6 +83,7 @@ agree limit max word (t ∷ ts) begun honest =
 pub word_pieces_of : (r : Room) (parts : List (List FlaggedChar)) → r.whole_words ≡ true → pieces_of_line r parts ≡ pieces_from (token_limit r) [] (tokens_of r parts)
 word_pieces_of r parts on = ap (λ b. if b then pieces_from (token_limit r) [] (tokens_of r parts) else tokens_of r parts) on
 
+-- the texts of the tokens' pieces are the pieces of the flagged text
 pub pieces_agree : (r : Room) (ps : List Compound) (ts : List Token) → r.whole_words ≡ true → AreTokensOf (token_limit r) ps ts → map piece_text (pieces_of (token_limit r) ts) ≡ pieces_of_line r (map flagged_of ps)
 unfolding Agree
 pieces_agree r ps ts on cut =
@@ -90,6 +91,7 @@ pieces_agree r ps ts on cut =
 
 -- ---- breaks
 
+-- a line and its gap, each piece as its text
 abbrev pub text_piece : LineAndGap Piece → LineAndGap (List FlaggedChar)
 text_piece q = piece_by piece_text q
 
@@ -100,6 +102,7 @@ same_text (p ∷ ps) =
     ap whole (map-append flagged_token (piece_tokens p) (pieces_tokens ps)) ∙ flat_map-append (λ (t : List FlaggedChar). t) (map flagged_token (piece_tokens p)) (map flagged_token (pieces_tokens ps))
     ∙ ap (λ l. piece_text p ++ l) (same_text ps)
 
+-- the lines of pieces have the texts of their tokens' lines
 pub same_lines : (qs : List (LineAndGap Piece)) → map (λ (p : LineAndGap (List FlaggedChar)). whole p.line) (map flagged_piece (token_break qs)) ≡ map (λ p. whole p.line) (map text_piece qs)
 same_lines [] = refl
 same_lines (q ∷ qs) = ap (λ l. l ∷ map (λ (p : LineAndGap (List FlaggedChar)). whole p.line) (map flagged_piece (token_break qs))) (same_text q.line) ∙ ap (λ l. whole (map piece_text q.line) ∷ l) (same_lines qs)
@@ -110,6 +113,7 @@ pub gaps_back : (P : List FlaggedChar → Type 0) (qs : List (LineAndGap Piece))
 gaps_back P [] h = tt
 gaps_back P (q ∷ qs) h = (subst P (sym (same_text q.gap)) h.0, gaps_back P qs h.1)
 
+-- the same from the tokens back to the pieces
 pub gaps_over : (P : List FlaggedChar → Type 0) (qs : List (LineAndGap Piece)) → AllByRecursion (λ (p : LineAndGap (List FlaggedChar)). P (whole p.gap)) (map flagged_piece (token_break qs))
     → AllByRecursion (λ (p : LineAndGap (List FlaggedChar)). P (whole p.gap)) (map text_piece qs)
 gaps_over P [] h = tt

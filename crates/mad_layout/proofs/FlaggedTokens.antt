@@ -55,6 +55,7 @@ stops limit blank (x ∷ xs) y some alike (inr h) =
 if_true : {A : Type 0} (b : Bool) (x y : A) → b ≡ true → (if b then x else y) ≡ x
 if_true b x y e = ap (λ b. if b then x else y) e
 
+-- where a test fails, the second is taken
 pub if_false : {A : Type 0} (b : Bool) (x y : A) → b ≡ false → (if b then x else y) ≡ y
 if_false b x y e = ap (λ b. if b then x else y) e
 

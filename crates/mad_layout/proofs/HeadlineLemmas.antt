@@ -32,6 +32,7 @@ first_keep skin width zero front rest h = tt
 first_keep skin width (suc n) [] rest h = tt
 first_keep skin width (suc n) (c ∷ cs) rest h = (h.0, first_keep skin width n cs rest h.1)
 
+-- where the first lines of a text keep the premises, those of its first parts do
 pub front_keeps : (skin : RowSkin) (width n : ℕ) (text front rest : List LineContent) → text_parts text ≡ text_parts front ++ text_parts rest → AreSoundLines skin width (take n (lines_in_parts text))
     → AreSoundLines skin width (take n (lines_in_parts front))
 front_keeps skin width n text front rest parts h =

@@ -119,6 +119,7 @@ shown_in_area skin (Some bar) lines area across g beside same cells =
           cells width j (omega (arith, beside.shown.column)) in_height ∙ cell_of_bar (row j) (bar_char bar j) width (beside.fill j in_height) (bar_column bar area.width j beside.shown);
     }
 
+-- bytes that show a layout's lines in an area show such rows
 pub shown_across : (skin : RowSkin) (bar : Option ScrollBar) (lines : List FmtLine) (area : Area) (across : List (List ℕ)) → IfSome bar (IsBesideRows skin lines area)
     → take area.height across ≡ take area.height (map (line_chars skin (columns_beside bar area.width)) lines) → (bytes : List ℕ) → AreShownIn skin bar lines area 0 bytes → AreShownAcross bar across area bytes
 shown_across skin bar lines area across beside same bytes h = λ g on_screen.
@@ -130,6 +131,7 @@ shown_across skin bar lines area across beside same bytes h = λ g on_screen.
       record { width = done.4.width; height = done.4.height; inside = shown_in_area skin bar lines area across done.0 beside same done.4.inside; outside = done.4.outside },
     )
 
+-- what was taken has more
 pub took_more_at : (o : Option (List ℕ)) (new : Trace) (P Q : List ℕ → Type 0) → ((text : List ℕ) → P text → Q text)
     → IfSome o (λ before. (text : List ℕ) × (new.bytes ≡ Some (before ++ text)) × P text) → IfSome o (λ before. (text : List ℕ) × (new.bytes ≡ Some (before ++ text)) × Q text)
 took_more_at None new P Q more h = tt
@@ -184,6 +186,7 @@ headline skin markdown area old new utf8 limits wide h =
       };
     }
 
+-- what an area shows of a text's layout is the headline
 pub headline_shown : {T E : Type 0} (r : Result T E) (skin : RowSkin) (markdown : List ℕ) (area : Area) (old new : Trace) → IsUtf8 markdown → IsWithinLimits area
     → OnOk r (4 ≤ area.width → ShowsText skin markdown area old new) → OnOk r (4 ≤ area.width → ShowsHeadline skin markdown area old new)
 headline_shown {T} {E} (Ok x) skin markdown area old new utf8 limits h = λ wide. headline skin markdown area old new utf8 limits wide (h wide)

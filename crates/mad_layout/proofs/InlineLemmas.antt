@@ -36,6 +36,7 @@ free_is skin l spacing margins =
     ∙ ap (λ n. spaces blank style.left_margin ++ (prefix_pieces skin l.kind ++ (text ++ (spaces style.compound_style n ++ [])))) inner_right
     ∙ ap (λ ps. spaces blank style.left_margin ++ (prefix_pieces skin l.kind ++ ps)) (append-nil text ∙ pieces_of_runs skin style l.compounds.items)
 
+-- a composite of a line that was read is displayed by the bytes that are written of it
 pub displayed : (skin : RowSkin) (src : List ℕ) (l : FmtComposite) → IsInlineOf skin src l → IsDisplayedAsWritten skin src l
 displayed skin src l h items reading =
     ap pieces_bytes (free_is skin l h.spacing h.margins ∙ ap (λ kind. free_pieces skin kind (map run_of l.compounds.items)) h.kind

@@ -148,6 +148,7 @@ printable_item = record {
   };
 }
 
+-- an item in a cell keeps the premises at a width of seven columns
 pub item_in_a_cell_keeps_premises : ItemInACellKeepsPremises
 item_in_a_cell_keeps_premises lines h =
     subst (λ (ls : List LineContent). KeepsPremises hanging_skin 7 (lines_in_parts ls)) (sym (lines_are_item lines h))

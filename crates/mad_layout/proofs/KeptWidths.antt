@@ -26,11 +26,13 @@ use Rattle.mad_rows.specs.RowStyles.{line_rules}
 
 -- ---- what was read of a table
 
+-- a line of a table, and what was read of it
 pub record IsTableLineRead (skin : RowSkin) (c : LineContent) (l : FmtLine) : Type 0 where
   pub table : is_table c ≡ true
   pub line : is_table_line l ≡ true
   pub read : IsLineRead (line_rules skin) c l
 
+-- the lines of a table, and what was read of each
 abbrev pub AreTableRead : RowSkin → List LineContent → List FmtLine → Type 0
 AreTableRead skin [] [] = Unit {0}
 AreTableRead skin (c ∷ cs) (l ∷ ls) = IsTableLineRead skin c l × AreTableRead skin cs ls
@@ -64,6 +66,7 @@ line_count skin (table_rule aligns) (TableRule rule) read = ap length read.align
 line_count skin horizontal_rule HorizontalRule read = refl
 line_count skin _ _ read = absurd read
 
+-- what was read of a table has as many columns as its text says
 pub count_read : (skin : RowSkin) (cs : List LineContent) (ls : List FmtLine) → AreTableRead skin cs ls → columns_count ls ≡ columns_among cs
 count_read skin [] [] h = refl
 count_read skin (c ∷ cs) (l ∷ ls) h =
@@ -93,6 +96,7 @@ cells_read b skin (horizontal_rule ∷ cs) (TableRule rule ∷ ls) h = absurd h.
 cells_read b skin (horizontal_rule ∷ cs) (HorizontalRule ∷ ls) h = cells_read b skin cs ls h.1
 cells_read b skin _ _ h = absurd h
 
+-- the kept widths of what was read of a table are those that its text says
 pub widths_kept : (skin : RowSkin) (width : ℕ) (cs : List LineContent) (ls : List FmtLine) (ws : List ℕ) → AreTableRead skin cs ls → AreKeptWidths skin.whole_words (columns_count ls) width ls ws → ws ≡ kept_widths skin width cs
 widths_kept skin width cs ls ws reads kept =
     let n : ℕ = columns_among cs in

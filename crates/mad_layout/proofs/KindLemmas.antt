@@ -67,6 +67,7 @@ abbrev kinds_parts : List (List ℕ)
 kinds_parts =
     (35 ∷ 32 ∷ 97 ∷ []) ∷ (98 ∷ []) ∷ (42 ∷ 32 ∷ 99 ∷ []) ∷ (49 ∷ 46 ∷ 32 ∷ 100 ∷ []) ∷ (62 ∷ 32 ∷ 101 ∷ []) ∷ (45 ∷ 45 ∷ 45 ∷ []) ∷ fence ∷ (102 ∷ []) ∷ fence ∷ []
 
+-- bytes above 10 are no newline
 pub no_newline : (bs : List ℕ) → AllByRecursion (λ b. 10 < b) bs → HasNoNewline bs
 no_newline [] h = tt
 no_newline (b ∷ bs) h = (λ e. omega (arith, e, h.0), no_newline bs h.1)
@@ -140,9 +141,11 @@ kinds_reading = record { parts = kinds_parts; cut = kinds_cut; are = kinds_are }
 says : map (content_at several_kinds) kinds_spans ≡ kinds_read
 says = refl
 
+-- a single character below 127 is ASCII
 pub letter_ascii : (c : ℕ) → c < 127 → IsAscii (c ∷ [])
 letter_ascii c high = IsAscii-cons c [] (omega (arith, high)) IsAscii-nil
 
+-- a single printed ASCII character takes columns
 pub letter_columns : (c : ℕ) → 32 ≤ c → c < 127 → TakesColumns (c ∷ [])
 letter_columns c low high =
     let one : char_columns c ≡ 1 = char_columns-ascii c low high in
@@ -166,6 +169,7 @@ letter_printable style c low high prefix narrow =
 
 -- ---- the skin's characters
 
+-- a text with lines of several kinds keeps the premises at a width of eleven columns
 pub several_kinds_keep_premises : SeveralKindsKeepPremises
 several_kinds_keep_premises lines h =
     let same : lines ≡ kinds_read = h.says ∙ ap (map (content_at several_kinds)) (sym (h.only kinds_spans kinds_reading)) ∙ says in

@@ -83,6 +83,7 @@ singles_columns style (suc n) =
 
 -- ---- in front of a line
 
+-- what is in front of a line shows cells of its own
 pub prefix_shown : (skin : RowSkin) (kind : CompositeKind) → IsSoundPrefix skin kind → AreShownPieces (prefix_pieces skin kind)
 prefix_shown skin (ListItem depth) h = all_joined IsShownPiece (single_spaces skin.paragraph.compound_style depth) _ (singles_shown skin.paragraph.compound_style depth) ((column_piece skin.bullet h).shown, ((shown_spaces skin.paragraph.compound_style 1).0, tt))
 prefix_shown skin (ListItemFollowUp depth) h = singles_shown skin.paragraph.compound_style _
@@ -93,6 +94,7 @@ prefix_shown skin (OrderedListItemFollowUp level index) h = singles_shown skin.p
 prefix_shown skin Quote h = ((column_piece skin.quote_mark h).shown, ((shown_spaces skin.paragraph.compound_style 1).0, tt))
 prefix_shown skin _ h = tt
 
+-- it takes the columns of the line's indent
 pub prefix_columns : (skin : RowSkin) (kind : CompositeKind) → IsSoundPrefix skin kind → pieces_columns (prefix_pieces skin kind) ≡ indent skin.list_items_indentation_mode kind
 prefix_columns skin (ListItem depth) h =
     let blank : CompoundStyle = skin.paragraph.compound_style in

@@ -24,21 +24,25 @@ use Rattle.mad_rows.specs.RowStyles.{line_rules}
 
 -- ---- the parts of what was read are those of the text
 
+-- a line of code, and what was read of it
 pub record IsCodeRead (skin : RowSkin) (c : LineContent) (l : FmtComposite) : Type 0 where
   pub code : is_code c ≡ true
   pub read : IsLineRead (line_rules skin) c (Normal l)
 
+-- the lines of a block of code, and what was read of each
 abbrev pub AreCodeRead : RowSkin → List LineContent → List FmtComposite → Type 0
 AreCodeRead skin [] [] = Unit {0}
 AreCodeRead skin (c ∷ cs) (l ∷ ls) = IsCodeRead skin c l × AreCodeRead skin cs ls
 AreCodeRead skin _ _ = ⊥
 
+-- a part of a text, and the part of what was read of its lines
 abbrev pub IsPartRead : RowSkin → List LineContent → Part → Type 0
 IsPartRead skin (c ∷ cs) (table ls) = AreTableRead skin (c ∷ cs) ls
 IsPartRead skin (c ∷ cs) (block (l ∷ ls)) = IsCodeRead skin c l × AreCodeRead skin cs ls
 IsPartRead skin (c ∷ []) (single l) = (is_code c ≡ false) × (is_table c ≡ false) × IsLineRead (line_rules skin) c l
 IsPartRead skin _ _ = ⊥
 
+-- the parts of a text, and those of what was read of it
 abbrev pub ArePartsRead : RowSkin → List (List LineContent) → List Part → Type 0
 ArePartsRead skin [] [] = Unit {0}
 ArePartsRead skin (cs ∷ css) (p ∷ ps) = IsPartRead skin cs p × ArePartsRead skin css ps
@@ -104,6 +108,7 @@ is_alone skin c l ((d ∷ ds) ∷ css) (p ∷ ps) no_code no_table h parts =
     subst (λ (b : Bool). ReadWith skin b c d ds css (single l ∷ p ∷ ps)) (sym (apart (is_code c) (is_code d) (is_table c) (is_table d) (inl no_code) (inl no_table))) ((no_code, no_table, h), parts)
 is_alone skin c l _ _ no_code no_table h parts = absurd parts
 
+-- the parts of what was read are those of the text
 pub parts_read : (skin : RowSkin) (text : List LineContent) (read : List FmtLine) → AreRead (line_rules skin) text read → ArePartsRead skin (text_parts text) (parts_of read)
 parts_read skin [] [] h = tt
 parts_read skin [] (l ∷ ls) h = absurd h
@@ -125,11 +130,13 @@ code_raw skin [] [] h = tt
 code_raw skin (c ∷ cs) (l ∷ ls) h = (h.0.read, code_raw skin cs ls h.1)
 code_raw skin _ _ h = absurd h
 
+-- the lines of a table are what is read from those of the text's part
 pub table_raw : (skin : RowSkin) (cs : List LineContent) (ls : List FmtLine) → AreTableRead skin cs ls → AreRead (line_rules skin) cs ls
 table_raw skin [] [] h = tt
 table_raw skin (c ∷ cs) (l ∷ ls) h = (h.0.read, table_raw skin cs ls h.1)
 table_raw skin _ _ h = absurd h
 
+-- so are those of any part
 pub part_raw : (skin : RowSkin) (cs : List LineContent) (p : Part) → IsPartRead skin cs p → AreRead (line_rules skin) cs (raw_lines p)
 part_raw skin (c ∷ cs) (table ls) h = table_raw skin (c ∷ cs) ls h
 part_raw skin (c ∷ cs) (block (l ∷ ls)) h = (h.0.read, code_raw skin cs ls h.1)
@@ -174,5 +181,6 @@ parts_all : (text : List LineContent) → all_lines (text_parts text) ≡ text
 parts_all [] = refl
 parts_all (c ∷ cs) = front_all c (text_parts cs) ∙ ap (λ (l : List LineContent). c ∷ l) (parts_all cs)
 
+-- the lines of a text in their parts are its lines
 pub lines_are : (text : List LineContent) → map (λ (x : LineInPart). x.line) (lines_in_parts text) ≡ text
 lines_are text = lines_of_parts (text_parts text) ∙ parts_all text

@@ -21,6 +21,7 @@ typed_first (suc n) (x ∷ xs) h = (h.0, typed_first n xs h.1)
 pub typed_reach : (n : ℕ) (text : List LineContent) → AllByRecursion IsTypedLine text → AreTyped (take n (lines_in_parts text))
 typed_reach n text h = typed_first n (lines_in_parts text) (subst (AllByRecursion IsTypedLine) (sym (lines_are text)) h)
 
+-- the lines of a text that was read are as types promise
 pub read_typed : (markdown : List ℕ) (text : List LineContent) → IsUtf8 markdown → IsRead (unread_text false markdown) text → AllByRecursion IsTypedLine text
 read_typed markdown text utf8 read = read_lines_are_typed (unread_text false markdown) text utf8 read
 

@@ -43,9 +43,11 @@ use Rattle.mad_layout.proofs.SoundLines.{IsSoundPrefix}
 
 -- ---- pieces
 
+-- a character without its pen
 abbrev pub char_of : PennedChar → ℕ
 char_of c = c.char
 
+-- the characters of pieces
 abbrev pub chars_in : List RowPiece → List ℕ
 chars_in ps = map char_of (penned_chars ps)
 
@@ -53,16 +55,19 @@ unpenned : (pen : Look) (cs : List ℕ) → map char_of (map (λ c. record { cha
 unpenned pen [] = refl
 unpenned pen (c ∷ cs) = ap (λ l. c ∷ l) (unpenned pen cs)
 
+-- those of the first piece come first
 pub first_piece : (p : RowPiece) (ps : List RowPiece) → chars_in (p ∷ ps) ≡ chars p.text ++ chars_in ps
 first_piece p ps =
     map-append char_of (map (λ c. record { char = c; pen = look_of_style p.style }) (chars p.text)) (penned_chars ps)
     ∙ ap (λ l. l ++ chars_in ps) (unpenned (look_of_style p.style) (chars p.text))
 
+-- those of pieces and then of others
 pub both : (ps qs : List RowPiece) → chars_in (ps ++ qs) ≡ chars_in ps ++ chars_in qs
 both [] qs = refl
 both (p ∷ ps) qs =
     first_piece p (ps ++ qs) ∙ ap (λ l. chars p.text ++ l) (both ps qs) ∙ sym (append_assoc (chars p.text) (chars_in ps) (chars_in qs)) ∙ ap (λ l. l ++ chars_in qs) (sym (first_piece p ps))
 
+-- a piece of spaces has so many spaces
 pub spaces_chars : (style : CompoundStyle) (n : ℕ) → chars_in (spaces style n) ≡ replicate n 32
 spaces_chars style zero = refl
 spaces_chars style (suc n) =
@@ -74,6 +79,7 @@ singles_chars style (suc n) =
     first_piece (record { style = style.object_style; text = 32 ∷ [] }) (single_spaces style n)
     ∙ ap (λ l. l ++ chars_in (single_spaces style n)) (chars-IsAscii (32 ∷ []) (ascii_spaces 1)) ∙ ap (λ l. 32 ∷ l) (singles_chars style n)
 
+-- the pieces of compounds have the characters of their flagged text
 pub compounds_chars : (skin : RowSkin) (style : LineStyle) (ps : List Compound) → chars_in (map (compound_piece skin style) ps) ≡ map (λ (x : FlaggedChar). x.char) (flagged_text ps)
 compounds_chars skin style [] = refl
 compounds_chars skin style (p ∷ ps) =
@@ -86,6 +92,7 @@ repeat_chars : (n : ℕ) (t : List ℕ) → IsUtf8 t → chars (repeat n t) ≡ 
 repeat_chars zero t utf8 = chars-nil
 repeat_chars (suc n) t utf8 = chars-append t (repeat n t) utf8 ∙ ap (λ l. chars t ++ l) (repeat_chars n t utf8)
 
+-- a repeated character is as often what the skin shows of it
 pub run_chars : (c : StyledChar) (n : ℕ) → IsColumnPiece (char_piece c) → chars_in (char_repeat c n) ≡ repeat n (skin_char (char_alone c))
 run_chars c zero h = refl
 run_chars c (suc n) h =
@@ -100,6 +107,7 @@ last_space skin = first_piece (prefix_space skin) [] ∙ append-nil (chars (32 �
 after_char : (skin : RowSkin) (c : StyledChar) → chars_in (char_piece c ∷ prefix_space skin ∷ []) ≡ skin_char (char_alone c) ++ 32 ∷ []
 after_char skin c = first_piece (char_piece c) (prefix_space skin ∷ []) ∙ ap (λ l. skin_char (char_alone c) ++ l) (last_space skin)
 
+-- the pieces of a prefix have the characters that are in front of a row
 pub front_chars : (skin : RowSkin) (kind : CompositeKind) → IsSoundPrefix skin kind → chars_in (prefix_pieces skin kind) ≡ front_of skin kind
 front_chars skin (ListItem depth) h =
     let blank : CompoundStyle = skin.paragraph.compound_style in
@@ -120,6 +128,7 @@ front_chars skin _ h = refl
 
 -- ---- a row
 
+-- spaces and then more are as many as both
 pub spaces_both : (m n : ℕ) → replicate {A = ℕ} m 32 ++ replicate {A = ℕ} n 32 ≡ replicate {A = ℕ} (m + n) 32
 spaces_both zero n = let e : n ≡ 0 + n = omega arith in ap (λ (k : ℕ). replicate {A = ℕ} k 32) e
 spaces_both (suc m) n = let e : suc (m + n) ≡ suc m + n = omega arith in ap (λ (l : List ℕ). 32 ∷ l) (spaces_both m n) ∙ ap (λ (k : ℕ). replicate {A = ℕ} k 32) e

@@ -25,6 +25,7 @@ use Rattle.mad_rows.specs.RowStyles.{line_style}
 
 -- ---- compounds
 
+-- the pieces of compounds take the columns of their flagged text
 pub compounds_columns : (skin : RowSkin) (style : LineStyle) (ps : List Compound) → pieces_columns (map (compound_piece skin style) ps) ≡ width_of (flagged_text ps)
 compounds_columns skin style [] = refl
 compounds_columns skin style (p ∷ ps) =
@@ -35,6 +36,7 @@ compounds_columns skin style (p ∷ ps) =
 
 -- ---- a line
 
+-- no more blanks are left of a text than there is room beside it
 pub left_completion-le : (align : Alignment) (rest : ℕ) → left_completion align rest ≤ rest
 left_completion-le Unspecified rest = omega arith
 left_completion-le Left rest = omega arith
@@ -88,6 +90,7 @@ composite_shown skin outer margins right l h =
     (all_joined IsShownPiece (spaces style.compound_style (inner_blanks l).1) _ (shown_spaces style.compound_style (inner_blanks l).1)
     (shown_if right blank blanks.1)))))
 
+-- a line that is drawn exactly fills its row
 pub line_columns : (skin : RowSkin) (width : ℕ) (l : FmtComposite) → IsDrawable skin width l → pieces_columns (line_pieces skin (Some width) true (Normal l)) ≡ width
 line_columns skin width l h =
     let style : LineStyle = line_style skin l.kind in
@@ -103,13 +106,16 @@ line_columns skin width l h =
     let last : pieces_columns (spaces blank blanks.1) ≡ blanks.1 = spaces_columns blank blanks.1 in
     omega (arith, h.fits, m0, m1, half, all, last)
 
+-- its pieces show cells of their own
 pub line_shown : (skin : RowSkin) (width : ℕ) (l : FmtComposite) → IsDrawable skin width l → AreShownPieces (line_pieces skin (Some width) true (Normal l))
 line_shown skin width l h = composite_shown skin (Some width) (margins_of skin (Some width) l) true l h.fills
 
 -- ---- a cell
 
+-- a cell that fills its place takes the columns of that
 pub cell_columns : (skin : RowSkin) (l : FmtComposite) → FillsItsPlace skin l → pieces_columns (composite_pieces skin None (0, 0) false l) ≡ inner_columns l
 cell_columns skin l h = let all : pieces_columns (composite_pieces skin None (0, 0) false l) ≡ 0 + 0 + inner_columns l + 0 = composite_columns skin None (0, 0) false l h in omega (arith, all)
 
+-- its pieces show cells of their own
 pub cell_shown : (skin : RowSkin) (l : FmtComposite) → FillsItsPlace skin l → AreShownPieces (composite_pieces skin None (0, 0) false l)
 cell_shown skin l h = composite_shown skin None (0, 0) false l h

@@ -66,12 +66,14 @@ style_follows : (skin : RowSkin) (k : CompositeKind) → line_style skin (follow
 style_follows skin Code = refl
 style_follows skin _ = refl
 
+-- a line of code has no indent
 pub code_indent : (skin : RowSkin) (k : CompositeKind) → is_code_kind k ≡ true → indent skin.list_items_indentation_mode k ≡ 0
 code_indent skin Paragraph e = refl
 code_indent skin (Header level) e = refl
 code_indent skin Code e = refl
 code_indent skin _ e = absurd (cc)
 
+-- the flagged texts of runs are those of their compounds
 pub parts_are : (ps : List Compound) → map (λ (r : Run). flagged r.flags (chars r.text)) (map run_of ps) ≡ map flagged_of ps
 parts_are [] = refl
 parts_are (p ∷ ps) = ap (λ l. flagged_of p ∷ l) (parts_are ps)
@@ -191,6 +193,7 @@ kind_rows skin width drawn part said l own bound printable read (inr (wide, (wra
       ),
     )
 
+-- the lines that a composite becomes are rows of what was read
 pub said_rows : (skin : RowSkin) (width drawn : ℕ) (part : List LineContent) (said : StyledRuns) (l : FmtComposite) (own : List FmtLine) → AreWidths width drawn → IsSoundText skin (inner_width skin width said) (kind_of said.style) said.runs
     → IsPlacedIn skin width part said l → IsLaidOutBy IsCompositeWrap (line_rules skin) width l own → AreRowsIn skin width drawn part said own
 said_rows skin width drawn part said l own bound printable read laid =
@@ -205,6 +208,7 @@ IsReadIn skin width part (normal said) (Normal l) = IsPlacedIn skin width part s
 IsReadIn skin width part horizontal_rule HorizontalRule = Unit {0}
 IsReadIn skin width part _ _ = ⊥
 
+-- so is each of the lines
 abbrev pub AreReadIn : RowSkin → ℕ → List LineInPart → List FmtLine → Type 0
 AreReadIn skin width [] [] = Unit {0}
 AreReadIn skin width (x ∷ xs) (l ∷ ls) = IsReadIn skin width x.part x.line l × AreReadIn skin width xs ls
@@ -268,6 +272,7 @@ first_same own xs ys zero e = refl
 first_same [] xs ys (suc n) e = e
 first_same (o ∷ own) xs ys (suc n) e = ap (λ (l : List (List ℕ)). o ∷ l) (first_same own xs ys n (less_same xs ys n e))
 
+-- after the same front they are the same one element further, where the front has one
 pub some_same : (own xs ys : List (List ℕ)) (n : ℕ) → 0 < length own → take n xs ≡ take n ys → take (suc n) (own ++ xs) ≡ take (suc n) (own ++ ys)
 some_same [] xs ys n some e = absurd (omega (arith, some))
 some_same (o ∷ own) xs ys n some e = ap (λ (l : List (List ℕ)). o ∷ l) (first_same own xs ys n e)

@@ -24,6 +24,7 @@ use Rattle.mad_layout.specs.FlaggedRows.{whole, goes_on, tokens_from, tokens_of,
 use Rattle.mad_layout.proofs.FlaggedBreaks.{piece_by, joined_by}
 use Rattle.mad_blocks.proofs.LayoutJoins.{by_bool}
 
+-- each of the characters is blank
 abbrev pub all_blank : List FlaggedChar → Bool
 all_blank t = list_all is_blank t
 
@@ -72,6 +73,7 @@ rows_keep r i line gap false (t ∷ ts) white none =
     (λ blank. subst (λ l. Keeps l (rows r i line true ts)) text (rows_keep r i line t true ts (white_of t blank) (λ e. absurd (cc))))
     (λ solid. (gap, t ++ whole ts, refl, white, rows_keep r r.other t [] false ts tt (λ e. refl))))
 
+-- the tokens of characters are all of them
 pub whole_tokens : (limit : ℕ) (u cs : List FlaggedChar) → whole (tokens_from limit u cs) ≡ u ++ cs
 whole_tokens limit [] [] = refl
 whole_tokens limit (x ∷ xs) [] = refl
@@ -80,6 +82,7 @@ whole_tokens limit u (y ∷ ys) =
     (λ on. whole_tokens limit (u ++ y ∷ []) ys ∙ append_assoc u (y ∷ []) ys)
     (λ off. ap (λ l. u ++ l) (whole_tokens limit (y ∷ []) ys))
 
+-- the tokens of a line's parts are all of its characters
 pub whole_tokens_of : (r : Room) (parts : List (List FlaggedChar)) → whole (tokens_of r parts) ≡ whole parts
 whole_tokens_of r [] = refl
 whole_tokens_of r (p ∷ ps) =
@@ -99,6 +102,7 @@ whole_from limit word (t ∷ ts) =
     ∙ ap (λ l. whole word ++ (t ++ l)) (whole_from limit [] ts))
     (λ off. whole_from limit (word ++ t ∷ []) ts ∙ ap (λ l. l ++ whole ts) (flat_map-append (λ (t : List FlaggedChar). t) word (t ∷ []) ∙ ap (λ l. whole word ++ l) (append-nil t)) ∙ append_assoc (whole word) t (whole ts))
 
+-- so are its pieces
 pub whole_pieces : (r : Room) (parts : List (List FlaggedChar)) → whole (pieces_of_line r parts) ≡ whole parts
 whole_pieces r parts =
     by_bool (λ b. whole (if b then pieces_from (token_limit r) [] (tokens_of r parts) else tokens_of r parts) ≡ whole parts) r.whole_words
@@ -106,9 +110,11 @@ whole_pieces r parts =
 
 -- ---- they are lines of pieces
 
+-- the text of a line of pieces
 abbrev pub line_text : LineAndGap (List FlaggedChar) → List FlaggedChar
 line_text p = whole p.line
 
+-- each gap is whitespace
 abbrev pub WhiteGaps : List (LineAndGap (List FlaggedChar)) → Type 0
 WhiteGaps ps = AllByRecursion (λ p. AllWhite (whole p.gap)) ps
 
@@ -295,6 +301,7 @@ rows_alone r i line (t ∷ ts) fits =
 
 -- ---- no row is empty
 
+-- the text isn't empty
 abbrev pub IsSome : List FlaggedChar → Type 0
 IsSome t = 0 < length t
 
@@ -326,6 +333,7 @@ pieces_of_some : (r : Room) (parts : List (List FlaggedChar)) → AllByRecursion
 unfolding IsOfWords
 pieces_of_some r parts = each_piece IsSome r parts (λ t ts own within. omega (arith, own, length-append t (whole ts))) (tokens_of_some r parts)
 
+-- parts that aren't empty, one at least, aren't empty together
 pub whole_some : (parts : List (List FlaggedChar)) → 0 < length parts → AllByRecursion IsSome parts → IsSome (whole parts)
 whole_some [] some each = absurd (omega (arith, some))
 whole_some (p ∷ ps) some each = omega (arith, each.0, length-append p (whole ps))
@@ -348,6 +356,7 @@ each_fits : (r : Room) (ts : List (List FlaggedChar)) → most_indent r ≤ r.wi
 each_fits r [] some h = tt
 each_fits r (t ∷ ts) some h = (omega (arith, some, h.0), each_fits r ts some h.1)
 
+-- such rows are those of a line's parts
 pub rows_exist : (r : Room) (parts : List (List FlaggedChar)) → AreRowsOf r parts (rows_of r parts)
 rows_exist r parts =
     let pieces = pieces_of_line r parts in

@@ -117,6 +117,7 @@ placed_shown skin width n ps h =
 
 -- ---- any line
 
+-- a line of any kind that is drawn exactly fills its row
 pub any_columns : (skin : RowSkin) (width : ℕ) (line : FmtLine) → IsDrawableLine skin width line → pieces_columns (line_pieces skin (Some width) true line) ≡ width
 any_columns skin width (Normal l) h = line_columns skin width l h
 any_columns skin width (TableRow row) h =
@@ -126,6 +127,7 @@ any_columns skin width (TableRule rule) h =
     placed_columns skin width (rule_columns rule.widths.items) (rule_pieces skin.table.compound_style ends rule.widths.items) (across_columns skin ends rule.widths.items h.chars) h.fits
 any_columns skin width HorizontalRule h = run_columns skin.horizontal_rule width h
 
+-- its pieces show cells of their own
 pub any_shown : (skin : RowSkin) (width : ℕ) (line : FmtLine) → IsDrawableLine skin width line → AreShownPieces (line_pieces skin (Some width) true line)
 any_shown skin width (Normal l) h = line_shown skin width l h
 any_shown skin width (TableRow row) h =

@@ -28,41 +28,49 @@ use Rattle.mad_layout.specs.TableColumns.{kept_widths}
 
 -- ---- a printable text that is as its types promise
 
+-- A printable run, whose text is UTF-8.
 pub record IsSoundRun (r : Run) : Type 0 where
   pub utf8 : IsUtf8 r.text
   pub printed : IsPrinted (chars r.text)
   pub joined : AreJoined false (flagged r.flags (chars r.text))
 
+-- The prefix of a line of this kind is printable, and an item's number is below 2^32.
 abbrev pub IsSoundPrefix : RowSkin → CompositeKind → Type 0
 IsSoundPrefix skin (ListItem depth) = IsColumnChar (char_alone skin.bullet)
 IsSoundPrefix skin (OrderedListItem level index) = (index < 2 ^ 32) × IsColumnChar (index_suffix skin level)
 IsSoundPrefix skin Quote = IsColumnChar (char_alone skin.quote_mark)
 IsSoundPrefix skin _ = Unit {0}
 
+-- A line or a cell of this kind, whose prefix and runs are so, and that has room in `width` columns where it doesn't fit.
 pub record IsSoundText (skin : RowSkin) (width : ℕ) (kind : CompositeKind) (runs : List Run) : Type 0 where
   pub prefix : IsSoundPrefix skin kind
   pub printable : AllByRecursion IsSoundRun runs
   pub room : width < indent skin.list_items_indentation_mode kind + width_of (runs_text runs) → HasRoom (room_of (line_rules skin) kind width) (runs_text runs)
 
+-- so are cells, each in its column of these widths
 abbrev pub AreSoundIn : RowSkin → List ℕ → List StyledRuns → Type 0
 AreSoundIn skin [] cells = Unit {0}
 AreSoundIn skin (w ∷ ws) [] = Unit {0}
 AreSoundIn skin (w ∷ ws) (cell ∷ cells) = IsSoundText skin w (kind_of cell.style) cell.runs × AreSoundIn skin ws cells
 
+-- a line of any kind that is so, in its part of a text
 abbrev pub IsSoundContent : RowSkin → ℕ → List LineContent → LineContent → Type 0
 IsSoundContent skin width part (normal line) = IsSoundText skin (inner_width skin width line) (kind_of line.style) line.runs
 IsSoundContent skin width part (table_row cells) = (2 ≤ width) × AreBordersShown skin × AreSoundIn skin (kept_widths skin width part) cells
 IsSoundContent skin width part (table_rule aligns) = (2 ≤ width) × AreBordersShown skin
 IsSoundContent skin width part horizontal_rule = IsColumnChar (char_alone skin.horizontal_rule)
 
+-- so is each of these lines of a text
 abbrev pub AreSoundLines : RowSkin → ℕ → List LineInPart → Type 0
 AreSoundLines skin width lines = AllByRecursion (λ l. IsSoundContent skin width l.part l.line) lines
 
+-- so are cells that were read, and measured, each in its column of these widths
 abbrev pub AreSoundCells : RowSkin → List ℕ → List FmtComposite → Type 0
 AreSoundCells skin [] cells = Unit {0}
 AreSoundCells skin (w ∷ ws) [] = Unit {0}
 AreSoundCells skin (w ∷ ws) (cell ∷ cells) = IsMeasured (line_rules skin) cell × IsSoundText skin w cell.kind (map run_of cell.compounds.items) × AreSoundCells skin ws cells
 
+-- a line of a table, not yet laid out, whose cells are so
 abbrev pub IsSoundTableLine : RowSkin → List ℕ → FmtLine → Type 0
 IsSoundTableLine skin ws (TableRow row) = AreSoundCells skin ws row.cells.items
 IsSoundTableLine skin ws (TableRule rule) = rule.widths.items ≡ []
@@ -101,6 +109,7 @@ sound_content skin width part (table_row cells) typed keeps = (keeps.0, keeps.1,
 sound_content skin width part (table_rule aligns) typed keeps = keeps
 sound_content skin width part horizontal_rule typed keeps = keeps
 
+-- lines that are as types promise, and keep the premises, are so
 pub sound_lines : (skin : RowSkin) (width : ℕ) (lines : List LineInPart) → AreTyped lines → KeepsPremises skin width lines → AreSoundLines skin width lines
 sound_lines skin width [] typed keeps = tt
 sound_lines skin width (l ∷ ls) typed keeps = (sound_content skin width l.part l.line typed.0 keeps.0, sound_lines skin width ls typed.1 keeps.1)
@@ -116,6 +125,7 @@ sound_table_line skin ws (TableRow row) keeps = sound_cells skin ws row.cells.it
 sound_table_line skin ws (TableRule rule) keeps = keeps
 sound_table_line skin ws _ keeps = absurd keeps
 
+-- printable lines of a table are so
 pub sound_table : (skin : RowSkin) (ws : List ℕ) (table : List FmtLine) → AllByRecursion (IsPrintableTableLine skin ws) table → AllByRecursion (IsSoundTableLine skin ws) table
 sound_table skin ws [] keeps = tt
 sound_table skin ws (l ∷ ls) keeps = (sound_table_line skin ws l keeps.0, sound_table skin ws ls keeps.1)

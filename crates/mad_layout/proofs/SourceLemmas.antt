@@ -52,6 +52,7 @@ unjoined : (flags : Flags) (cs : List ℕ) → AllByRecursion (λ c. 0 < char_co
 unjoined flags [] h before = tt
 unjoined flags (c ∷ cs) h before = (λ none. absurd (omega (arith, none, h.0)), unjoined flags cs h.1 (not (is_blank (record { char = c; flags = flags }))))
 
+-- a run in which each character takes columns is printable
 pub printable_run : (flags : Flags) (text : List ℕ) → TakesColumns text → IsPrintableRun (record { flags = flags; text = text })
 printable_run flags text h = record { printed = printed (chars text) h.columns; joined = unjoined flags (chars text) h.columns false }
 
@@ -77,6 +78,7 @@ every : {A : Type 0} (P : A → Type 0) → ((x : A) → P x) → (xs : List A) 
 every P f [] = tt
 every P f (x ∷ xs) = (f x, every P f xs)
 
+-- margins leave three columns at least, where there are as many
 pub three-le : (style : LineStyle) (width : ℕ) → 3 ≤ width → 3 ≤ width - (margins_at style (Some width)).0 - (margins_at style (Some width)).1
 three-le style width wide = grind (arith, nat_tests)
 
@@ -121,6 +123,7 @@ source_read source text h read =
     (all_each (λ (p : LineSpan). TakesColumns (line_text source p) × IsParagraphText (line_text source p)) (λ (p : LineSpan). IsUtf8 (line_text source p)) (λ p x. x.0.utf8) spans given)
     (all_each (λ (p : LineSpan). TakesColumns (line_text source p) × IsParagraphText (line_text source p)) (λ (p : LineSpan). IsParagraphText (line_text source p)) (λ p x. x.1) spans given)
 
+-- its first lines keep the premises at any width of three columns or more
 pub source_keeps : (skin : RowSkin) (width n : ℕ) (source : List ℕ) (text : List LineContent) → 3 ≤ width → LinesTakeColumns source → IsRead (unread_text false source) text → KeepsPremises skin width (take n (lines_in_parts text))
 source_keeps skin width n source text wide h read =
     let spans : List LineSpan = line_spans read.reads.parts in

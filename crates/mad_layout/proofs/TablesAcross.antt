@@ -181,6 +181,7 @@ line_rows skin width drawn ws x _ _ own bound fit is content read _ _ = absurd r
 
 -- ---- the lines of a table
 
+-- so was each of the lines, one after the other
 abbrev pub AreLaidIn : RowSkin → ℕ → List ℕ → List LineInPart → List FmtLine → List FmtLine → Type 0
 AreLaidIn skin width ws [] [] lines = lines ≡ []
 AreLaidIn skin width ws (x ∷ xs) (l ∷ ls) lines = (own : List FmtLine) × (others : List FmtLine) × (lines ≡ own ++ others) × IsLaidIn skin width ws x l own × AreLaidIn skin width ws xs ls others

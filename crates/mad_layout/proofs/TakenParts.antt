@@ -91,16 +91,19 @@ handed_as : {T : Type 0} (skin : RowSkin) (width : Option ℕ) (left later rest 
     → HandsOnUnmarked skin width later (new_rows ++ text_bytes skin width lines) mid r end kept rest → HandsOnUnmarked skin width later (rows ++ text_bytes skin width t.own) mid r end kept rest
 handed_as {T} skin width left later rest lines rows new_rows kept r mid end t q = subst (λ (b : List ℕ). HandsOnUnmarked skin width later b mid r end kept rest) t.rows q
 
+-- they are handed on
 pub taken_written : (skin : RowSkin) (width : Option ℕ) (all left later rest : List LineContent) (lines : List FmtLine) (rows new_rows kept : List ℕ) (old mid end : Trace) → WrittenSoFar skin width all left rows old mid
     → TakenPart skin width left rows later new_rows lines → HandsOnUnmarked {T = Unit {0}} skin width later (new_rows ++ text_bytes skin width lines) mid (Ok (tt {0})) end kept rest → WrittenSoFar skin width all rest kept old end
 taken_written skin width all left later rest lines rows new_rows kept old mid end h t q =
     written_unmarked skin width all left later rest [] t.own rows kept old mid end h t.part refl (handed_as skin width left later rest lines rows new_rows kept (Ok (tt {0})) mid end t q)
 
+-- they are refused
 pub taken_refused : {T : Type 0} (skin : RowSkin) (width : Option ℕ) (all left later rest : List LineContent) (lines : List FmtLine) (rows new_rows kept : List ℕ) (r : Result T Error) (e : Error) (old mid end : Trace) → WrittenSoFar skin width all left rows old mid
     → TakenPart skin width left rows later new_rows lines → HandsOnUnmarked {T = Unit {0}} skin width later (new_rows ++ text_bytes skin width lines) mid (Err e) end kept rest → IsErrAnd r (λ d. d ≡ e) → WritesPartsOf skin width all old r end
 taken_refused {T} skin width all left later rest lines rows new_rows kept r e old mid end h t q is =
     written_unmarked_refused skin width all left later rest [] t.own rows kept r e old mid end h t.part refl (handed_as skin width left later rest lines rows new_rows kept (Err e) mid end t q) is
 
+-- after a part that was taken fewer lines are left
 pub taken_shorter : (skin : RowSkin) (width : Option ℕ) (left later : List LineContent) (lines : List FmtLine) (rows new_rows : List ℕ) → TakenPart skin width left rows later new_rows lines → length later < length left
 taken_shorter skin width left later lines rows new_rows t = laid_shorter (line_rules skin) width left later [] t.own t.part
 
@@ -112,9 +115,11 @@ pub record RowsSoFar (skin : RowSkin) (width : Option ℕ) (all left : List Line
   pub laid : LaidSoFar (line_rules skin) width all left done
   pub bytes : new ≡ old ++ text_bytes skin width done
 
+-- no part is put yet
 pub rows_start : (skin : RowSkin) (width : Option ℕ) (all : List LineContent) (old : List ℕ) → RowsSoFar skin width all all old old
 rows_start skin width all old = record { done = []; laid = laid_none (line_rules skin) width all; bytes = sym (append-nil old) }
 
+-- one more part is put
 pub rows_more : (skin : RowSkin) (width : Option ℕ) (all left later : List LineContent) (lines : List FmtLine) (old rows mid new : List ℕ) → RowsSoFar skin width all left old rows → TakenPart skin width left rows later mid lines
     → new ≡ mid ++ text_bytes skin width lines → RowsSoFar skin width all later old new
 rows_more skin width all left later lines old rows mid new h t put = record {
@@ -124,6 +129,7 @@ rows_more skin width all left later lines old rows mid new h t put = record {
       ∙ ap (λ (ls : List FmtLine). old ++ (text_bytes skin width h.done ++ text_bytes skin width ls)) t.part.added ∙ ap (λ (b : List ℕ). old ++ b) (sym (flat_map-append (line_bytes skin width) h.done t.part.own));
 }
 
+-- where no line is left, the rows of a layout of the text are put
 pub rows_end : (skin : RowSkin) (width : Option ℕ) (all left : List LineContent) (old rows new : List ℕ) → RowsSoFar skin width all left old rows → left ≡ [] → new ≡ rows
     → (lines : List FmtLine) × IsLayoutAt (line_rules skin) width all lines × (new ≡ old ++ text_bytes skin width lines)
 rows_end skin width all left old rows new h none same = (h.done, laid_whole (line_rules skin) width all left h.done h.done h.laid none refl, same ∙ h.bytes)

@@ -59,6 +59,7 @@ holding v (b ∷ bs) text = record { ptr = v.ptr; len = 1; cap = 1; alloc = v.al
 abbrev source : Vec FmtLine Global → List ℕ → Bor (List ℕ) → FmtComposite
 source v bs text = record { kind = Paragraph; compounds = holding v bs text; visible_length = length bs; spacing = None; margins = None }
 
+-- the line that an unmarked text becomes
 abbrev pub made : Vec FmtLine Global → List ℕ → Bor (List ℕ) → FmtLine
 made v bs text = line_with (0, 0) (source v bs text)
 
@@ -109,6 +110,7 @@ stays_unmarked skin width most v bs text h fits =
     subst (λ (w : Option ℕ). IsLineAt IsCompositeWrap (line_rules skin) w (Normal (source v bs text)) (made v bs text ∷ [])) (sym h.wraps)
     (inl (omega (arith, fits, left, right), ap (λ (m : ℕ × ℕ). line_with m (source v bs text) ∷ []) (sym margins)))
 
+-- an unmarked text that fits has this line as its layout
 pub unmarked_layout : (skin : RowSkin) (width : Option ℕ) (most : ℕ) (v : Vec FmtLine Global) (bs : List ℕ) (text : Bor (List ℕ)) → IsUnmarkedWidth skin width most → length bs ≤ most → text.now ≡ bs → IsUtf8 bs → AllUnmarked bs → length bs < 2 ^ 64
     → IsLayoutAt (line_rules skin) width (unflagged_line bs ∷ []) (made v bs text ∷ [])
 unmarked_layout skin width most v bs text h fits is utf8 all range = record {
@@ -136,6 +138,7 @@ text_piece skin v (b ∷ bs) text unstyled is h =
     let same : compound_style skin skin.paragraph (run_of p) ≡ skin.paragraph.compound_style = if_false _ _ _ (other_text b bs text.now is (h 0 (omega arith))) in
     append-nil _ ∙ sym (bare_piece skin skin.paragraph p unstyled same) ∙ is
 
+-- its row is the text, and a newline
 pub unmarked_bytes : (skin : RowSkin) (width : Option ℕ) (most : ℕ) (v : Vec FmtLine Global) (bs : List ℕ) (text : Bor (List ℕ)) → IsUnmarkedWidth skin width most → text.now ≡ bs → AllUnmarked bs
     → line_bytes skin width (made v bs text) ≡ bs ++ 10 ∷ []
 unmarked_bytes skin width most v bs text h is all =
@@ -147,6 +150,7 @@ unmarked_bytes skin width most v bs text h is all =
 
 -- ---- what is written so far
 
+-- each of the lines is a part by itself
 abbrev pub AllAlone : List LineContent → Type 0
 AllAlone ls = AllByRecursion IsAlone ls
 
@@ -161,6 +165,7 @@ pub record UnmarkedSoFar (skin : RowSkin) (width : Option ℕ) (before left : Li
   pub both : bytes ++ text_bytes skin width lines ≡ sent ++ kept
   pub went : new ≡ after old sent
 
+-- the bytes in front were handed on, and no line was taken yet
 pub unmarked_start : (skin : RowSkin) (width : Option ℕ) (before : List LineContent) (bytes kept : List ℕ) (old new : Trace) → HandsOn {T = Unit {0}} old bytes (Ok (tt {0})) new kept → UnmarkedSoFar skin width before before bytes kept old new
 unmarked_start skin width before bytes kept old new (sent, both, went) = record {
   taken = [];
@@ -173,11 +178,13 @@ unmarked_start skin width before bytes kept old new (sent, both, went) = record 
   went = went;
 }
 
+-- no part goes on from such lines
 pub alone_apart : (front rest : List LineContent) → AllAlone front → apart front rest ≡ true
 alone_apart [] rest h = refl
 alone_apart (c ∷ []) rest h = single_apart c rest h.0.0 h.0.1
 alone_apart (c ∷ d ∷ cs) rest h = alone_apart (d ∷ cs) rest h.1
 
+-- one more line is kept
 pub unmarked_more : (skin : RowSkin) (width : Option ℕ) (before left later : List LineContent) (c : LineContent) (l : FmtLine) (bytes kept new_kept : List ℕ) (old new : Trace)
     → UnmarkedSoFar skin width before left bytes kept old new → left ≡ c ∷ later → IsAlone c → IsLayoutAt (line_rules skin) width (c ∷ []) (l ∷ []) → new_kept ≡ kept ++ line_bytes skin width l
     → UnmarkedSoFar skin width before later bytes new_kept old new
@@ -196,6 +203,7 @@ unmarked_more skin width before left later c l bytes kept new_kept old new h is 
       went = h.went;
     }
 
+-- what was kept is handed on
 pub unmarked_sent : (skin : RowSkin) (width : Option ℕ) (before left : List LineContent) (bytes kept new_kept : List ℕ) (old mid new : Trace)
     → UnmarkedSoFar skin width before left bytes kept old mid → HandsOn {T = Unit {0}} mid kept (Ok (tt {0})) new new_kept → UnmarkedSoFar skin width before left bytes new_kept old new
 unmarked_sent skin width before left bytes kept new_kept old mid new h (sent, both, went) = record {
@@ -225,6 +233,7 @@ unmarked_ended {T} skin width before left rest bytes kept new_kept r old mid new
   rest = is;
 }
 
+-- where no more is taken, the lines so far are handed on
 pub unmarked_done : (skin : RowSkin) (width : Option ℕ) (before left : List LineContent) (bytes kept : List ℕ) (old new : Trace) → UnmarkedSoFar skin width before left bytes kept old new
     → HandsOnUnmarked {T = Unit {0}} skin width before bytes old (Ok (tt {0})) new kept left
 unmarked_done skin width before left bytes kept old new h = unmarked_ended skin width before left left bytes kept kept (Ok (tt {0})) old new new h (h.sent, h.both, h.went) refl
@@ -295,6 +304,7 @@ written_unmarked skin width all left later rest lines new kept new_kept old mid 
     (written_more skin width all left q.later (p.own ++ q.lines) kept new_kept old mid end h (unmarked_laid skin width all left later rest h.done lines new _ new_kept (Ok (tt {0})) mid end h.laid p q)
     (handed.0, sym (rows_both skin width kept lines new p.own q.lines p.added none) ∙ handed.1, handed.2))
 
+-- they are refused
 pub written_unmarked_refused : {T : Type 0} (skin : RowSkin) (width : Option ℕ) (all left later rest : List LineContent) (lines new : List FmtLine) (kept new_kept : List ℕ) (r : Result T Error) (e : Error) (old mid end : Trace)
     → WrittenSoFar skin width all left kept old mid → LaidPart (line_rules skin) width left lines later new → lines ≡ []
     → HandsOnUnmarked {T = Unit {0}} skin width later (kept ++ text_bytes skin width new) mid (Err e) end new_kept rest → IsErrAnd r (λ d. d ≡ e) → WritesPartsOf skin width all old r end

@@ -18,6 +18,7 @@ use Rattle.mad_layout.proofs.SoundLines.{IsSoundRun}
 
 -- ---- characters without their flags
 
+-- the characters without their flags
 abbrev pub chars_of : List FlaggedChar → List ℕ
 chars_of xs = map (λ (x : FlaggedChar). x.char) xs
 
@@ -114,6 +115,7 @@ joined_whole : (f : Flags) (cs : List ℕ) → AreJoined false (flagged f cs) �
 joined_whole f [] h = tt
 joined_whole f (c ∷ cs) h = positive (char_columns c) (λ none. false≢true (h.0 none).1)
 
+-- the text of a sound run shows cells of its own
 pub printable_is_shown : (r : Run) → IsSoundRun r → IsShownRun r
 printable_is_shown r h = record { utf8 = h.utf8; shown = record { printed = h.printed; whole = joined_whole r.flags (chars r.text) h.joined } }
 

@@ -14,15 +14,19 @@ use Rattle.mad_layout.specs.Words.{words}
 
 -- ---- its characters
 
+-- `a` takes one column
 pub one_a : char_columns 97 ≡ 1
 one_a = char_columns-ascii 97 (lit≤ tt) (lit< tt)
 
+-- so does `b`
 pub one_b : char_columns 98 ≡ 1
 one_b = char_columns-ascii 98 (lit≤ tt) (lit< tt)
 
+-- so does `c`
 pub one_c : char_columns 99 ≡ 1
 one_c = char_columns-ascii 99 (lit≤ tt) (lit< tt)
 
+-- so does a space
 pub one_space : char_columns 32 ≡ 1
 one_space = char_columns-ascii 32 (lit≤ tt) (lit< tt)
 
@@ -37,9 +41,11 @@ letters =
     let asbbscc = IsAscii-cons 97 (32 ∷ 98 ∷ 98 ∷ 32 ∷ 99 ∷ 99 ∷ []) (lit< tt) sbbscc in
     IsAscii-cons 97 (97 ∷ 97 ∷ 32 ∷ 98 ∷ 98 ∷ 32 ∷ 99 ∷ 99 ∷ []) (lit< tt) (IsAscii-cons 97 (97 ∷ 32 ∷ 98 ∷ 98 ∷ 32 ∷ 99 ∷ 99 ∷ []) (lit< tt) asbbscc)
 
+-- the text's bytes are its characters
 pub spelled : chars words ≡ words
 spelled = chars-IsAscii words letters
 
+-- each of its characters takes columns
 pub words_columns : TakesColumns words
 words_columns = record {
   utf8 = IsUtf8-from_ascii words letters;
@@ -52,9 +58,11 @@ words_columns = record {
 unbroken : HasNoNewline words
 unbroken = (λ e. absurd (omega (arith, e)), (λ e. absurd (omega (arith, e)), (λ e. absurd (omega (arith, e)), (λ e. absurd (omega (arith, e)), (λ e. absurd (omega (arith, e)), (λ e. absurd (omega (arith, e)), (λ e. absurd (omega (arith, e)), (λ e. absurd (omega (arith, e)), (λ e. absurd (omega (arith, e)), tt)))))))))
 
+-- the text is one part
 pub cut_words : AreParts words (words ∷ [])
 cut_words = record { some = omega arith; joined = refl; cut = (unbroken, tt) }
 
+-- it is cut into no other parts
 pub one_part : (parts : List (List ℕ)) → AreParts words parts → parts ≡ words ∷ []
 one_part [] cut = absurd (omega (arith, cut.some))
 one_part (p ∷ []) cut = ap (λ (q : List ℕ). q ∷ []) cut.joined
@@ -65,6 +73,7 @@ one_part (p ∷ q ∷ ps) cut =
 words_begin : IsParagraphText words
 words_begin = (refl, inl refl)
 
+-- each of its lines takes columns, and begins as a paragraph
 pub words_take_columns : LinesTakeColumns words
 words_take_columns parts cut =
     subst (λ (ps : List (List ℕ)). AllByRecursion (λ span. TakesColumns (line_text words span) × IsParagraphText (line_text words span)) (line_spans ps)) (sym (one_part parts cut)) ((words_columns, words_begin), tt)

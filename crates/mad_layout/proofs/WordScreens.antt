@@ -191,6 +191,7 @@ shown_as_one lines old new h =
 one_value : {A : Type 0} (o : Option A) (a b : A) → o ≡ Some a → o ≡ Some b → a ≡ b
 one_value {A} o a b e f = let both : Some a ≡ Some b = sym e ∙ f in cc
 
+-- a terminal that reads what was written shows the text's first letter in the area, and nothing new outside
 pub words_shown : (old new : Trace) (taken : List ℕ) (start g : Grid) → old.bytes ≡ Some [] → new.bytes ≡ Some taken → ShowsSource word_skin words word_area old new
     → IsOnScreen word_area start → after_bytes start taken ≡ Some g → ShowsWords start g
 words_shown old new taken start g none all h begun read =
@@ -267,6 +268,7 @@ pub record ShowsWordsAndCorner (g : Grid) : Type 0 where
   pub inside : cell_at g 2 1 ≡ record { chars = 97 ∷ []; pen = plain_pen }
   pub outside : cell_at g 0 0 ≡ corner
 
+-- the letter in the corner stays, and the text's first letter is shown in the area
 pub corner_stays : (old new : Trace) (taken : List ℕ) (empty start g : Grid) (skin : MadSkin) (area : Area) → skin ≡ no_style_skin → area ≡ word_area → old.bytes ≡ Some [] → new.bytes ≡ Some taken
     → (4 ≤ area.width → LinesTakeColumns words → ShowsSource (row_skin skin) words area old new) → empty ≡ empty_grid 16 4 → after_bytes empty (122 ∷ []) ≡ Some start → after_bytes start taken ≡ Some g → ShowsWordsAndCorner g
 corner_stays old new taken empty start g skin area skin_is area_is none all h begun cornered read =
@@ -290,6 +292,7 @@ known_rows row y (suc count) h = (h y, known_rows row (suc y) count h)
 no_letter : blank ≡ record { chars = 97 ∷ []; pen = plain_pen } → ⊥
 no_letter e = let first : 32 ≡ 97 = ap (λ (g : Glyph). get_or g.chars 0 0) e in absurd (omega (arith, first))
 
+-- who fills the area with spaces has not shown the text
 pub spaces_are_no_text : SpacesAreNoText
 spaces_are_no_text old new none all h =
     let row : ℕ → List RowPiece = λ y. spaces unstyled 12 in

@@ -34,6 +34,7 @@ use Rattle.mad_layout.proofs.FlaggedTokens.{tokens_agree}
 use Rattle.mad_blocks.proofs.LayoutJoins.{by_bool}
 use Rattle.mad_layout.proofs.RowsExist.{line_text, IsSome, WhiteGaps, whole_some, whole_tokens, whole_pieces}
 
+-- the flagged texts of compounds are together their flagged text
 pub whole_parts : (ps : List Compound) → whole (map flagged_of ps) ≡ flagged_text ps
 whole_parts [] = refl
 whole_parts (p ∷ ps) = ap (λ l. flagged_of p ++ l) (whole_parts ps)

@@ -27,6 +27,7 @@ pub handed_early : {T : Type 0} (r : Result T Error) (old : Trace) (bytes kept :
 handed_early {T} (Ok x) old bytes kept is = absurd is
 handed_early {T} (Err e) old bytes kept is = subst (λ (d : Error). Refused old bytes d old) (sym is) (stopped_before old bytes)
 
+-- the bytes were refused, as the call answers
 pub hands_refused : {T : Type 0} (r : Result T Error) (e : Error) (old new : Trace) (bytes kept : List ℕ) → IsErrAnd r (λ d. d ≡ e) → Refused old bytes e new → HandsOn old bytes r new kept
 hands_refused {T} (Ok x) e old new bytes kept is h = absurd is
 hands_refused {T} (Err d) e old new bytes kept is h = subst (λ (f : Error). Refused old bytes f new) (sym is) h
@@ -41,6 +42,7 @@ pub record WrittenSoFar (skin : RowSkin) (width : Option ℕ) (all left : List L
   pub bytes : text_bytes skin width done ≡ sent ++ kept
   pub went : new ≡ after old sent
 
+-- no part is written yet
 pub written_start : (skin : RowSkin) (width : Option ℕ) (all : List LineContent) (kept : List ℕ) (old : Trace) → kept ≡ [] → WrittenSoFar skin width all all kept old old
 written_start skin width all kept old nothing = record { done = []; laid = laid_none (line_rules skin) width all; sent = []; bytes = sym nothing; went = took_none old }
 

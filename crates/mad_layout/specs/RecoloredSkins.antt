@@ -7,10 +7,11 @@ use Rattle.mad_style.specs.LineStyles.{line_in, line_on}
 use Rattle.mad_style.specs.StyledChars.{char_in, char_on}
 use Rattle.mad_layout.specs.declared.skin.MadSkin.{MadSkin}
 
--- a skin whose headers have another foreground, and another background
+-- a skin whose headers have another foreground
 abbrev pub headers_in : Color → MadSkin → MadSkin
 headers_in color skin = record skin { headers = map (line_in color) skin.headers }
 
+-- a skin whose headers have another background
 abbrev pub headers_on : Color → MadSkin → MadSkin
 headers_on color skin = record skin { headers = map (line_on color) skin.headers }
 

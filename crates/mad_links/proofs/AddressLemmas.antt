@@ -5,7 +5,7 @@ use Rattle.std.specs.List.{AllByRecursion}
 use Rattle.std.specs.Char.{to_ascii_lowercase}
 use Rattle.std.specs.Fmt.{digit_glyph}
 use Rattle.std.specs.Str.{str_eq_ignore_ascii_case, bytes_eq}
-use Rattle.std.proofs.lemmas.Bool.{false≢true}
+use Rattle.std.proofs.lemmas.Bool.{and_parts, false≢true}
 use Rattle.std.proofs.lemmas.Bool.Decides.{nat_tests}
 use Rattle.std.proofs.lemmas.Fmt.{length-decimal-le, decimal_injective, decimal_nonempty}
 use Rattle.std.proofs.lemmas.Slice.Eq.{bytes_eq-Decides}
@@ -140,17 +140,13 @@ scheme_in raw (Some p) e h =
 pub scheme_stays : (raw : List ℕ) → has_link_scheme raw ≡ true → has_link_scheme (written_address raw) ≡ true
 scheme_stays raw h = scheme_in raw (cut_at 58 raw) refl h
 
-both_of : (a b : Bool) → (a && b) ≡ true → (a ≡ true) × (b ≡ true)
-both_of true b e = (refl, e)
-both_of false b e = absurd (false≢true e)
-
 written_by : (raw a : List ℕ) (t : Bool) → (has_link_scheme raw && leb (length (written_address raw)) longest_address) ≡ t → cond t (Some (written_address raw)) None ≡ Some a → IsWritten a
 written_by raw a false e h = absurd (none_is h)
   where
     none_is : None ≡ Some a → ⊥
     none_is k = cc
 written_by raw a true e h =
-    let parts = both_of (has_link_scheme raw) (leb (length (written_address raw)) longest_address) e in
+    let parts = and_parts (has_link_scheme raw) (leb (length (written_address raw)) longest_address) e in
     let second : leb (length (written_address raw)) 700 ≡ true = parts.1 in
     subst IsWritten (some_is (written_address raw) a h)
     (record { kept = address_kept raw; short = grind (arith, nat_tests, second); scheme = scheme_stays raw parts.0 })

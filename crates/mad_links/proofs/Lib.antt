@@ -1,9 +1,11 @@
 pub mod AddressLemmas
+pub mod AreaLemmas
 pub mod BesideLemmas
 pub mod CalmLemmas
 pub mod LinkAreaLemmas
 pub mod LinkRowLemmas
 pub mod LinkTextLemmas
+pub mod PaperLemmas
 pub mod PlainLemmas
 pub mod PutEach
 pub mod TerminalLemmas

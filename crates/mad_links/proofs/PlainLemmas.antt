@@ -25,15 +25,15 @@ IsPlainOpen r = after_escape r.mode ≡ false
 pub of_some : {R : Type 0} (P : R → Type 0) (o : Option R) (s : R) → OfReading P o → o ≡ Some s → P s
 of_some P o s h e = subst (OfReading P) e h
 
-mapped : {A R : Type 0} (P : R → Type 0) (f : A → R) → ((a : A) → P (f a)) → (o : Option A) → OfReading P (option_map f o)
+pub mapped : {A R : Type 0} (P : R → Type 0) (f : A → R) → ((a : A) → P (f a)) → (o : Option A) → OfReading P (option_map f o)
 mapped P f h None = tt
 mapped P f h (Some a) = h a
 
-either : {R : Type 0} (P : R → Type 0) (b : Bool) (x y : Option R) → OfReading P x → OfReading P y → OfReading P (cond b x y)
+pub either : {R : Type 0} (P : R → Type 0) (b : Bool) (x y : Option R) → OfReading P x → OfReading P y → OfReading P (cond b x y)
 either P true x y p q = p
 either P false x y p q = q
 
-other : (c d : ℕ) → c ≢ d → eqb c d ≡ false
+pub other : (c d : ℕ) → c ≢ d → eqb c d ≡ false
 other c d h = grind (arith, nat_tests, h)
 
 -- a character that is no ESC, outside a sequence
@@ -79,7 +79,7 @@ rest_is r h = ap (λ (m : Mode). record { grid = r.grid; mode = m }) h
 escape_begins : (r : Reading) → PlainRests r → (e : Reading) × (feed r 27 ≡ Some e) × (after_escape e.mode ≡ true) × (resting e.grid ≡ r)
 escape_begins r h = (record { grid = r.grid; mode = Escape }, ap (λ (s : Reading). feed s 27) (rest_is r h), refl, sym (rest_is r h))
 
-some_same : {A : Type 0} (x y : A) → Some x ≡ Some y → x ≡ y
+pub some_same : {A : Type 0} (x y : A) → Some x ≡ Some y → x ≡ y
 some_same x y k = cc
 
 bracket_goes_on : (r e : Reading) → PlainRests r → feed r 27 ≡ Some e → (s : Reading) × (feed e 91 ≡ Some s) × (after_escape s.mode ≡ false)

@@ -5,7 +5,7 @@ use Rattle.std.specs.Str.{chars}
 use Rattle.mad_screen.specs.Painting.{IsShown}
 use Rattle.std.specs.List.{AllByRecursion, flat_map}
 use Rattle.std.specs.Char.{is_ascii}
-use Rattle.std.proofs.lemmas.Bool.{false≢true, cases_lt}
+use Rattle.std.proofs.lemmas.Bool.{and_parts, false≢true, cases_lt}
 use Rattle.std.proofs.lemmas.Bool.Decides.{nat_tests}
 use Rattle.std.proofs.lemmas.List.{drop_more, drop_all, take_more, take_all}
 use Rattle.std.proofs.lemmas.Option.{slice_get_read, slice_get_past}
@@ -51,14 +51,10 @@ ascii_agrees : all_agree 128 ≡ true
 unfolding should_percent_encode
 ascii_agrees = refl
 
-both_of : (a b : Bool) → (a && b) ≡ true → (a ≡ true) × (b ≡ true)
-both_of true b e = (refl, e)
-both_of false b e = absurd (false≢true e)
-
 agree_below : (n b : ℕ) → all_agree n ≡ true → b < n → agrees b ≡ true
 agree_below zero b h small = absurd (omega arith)
 agree_below (suc n) b h small =
-    let parts = both_of (agrees n) (all_agree n) h in
+    let parts = and_parts (agrees n) (all_agree n) h in
     ⊎_elim (λ (below : b < n). agree_below n b parts.1 below)
     (λ (here : n ≤ b). let same : n ≡ b = omega arith in subst (λ k. agrees k ≡ true) same parts.0)
     (cases_lt b n)

@@ -1,6 +1,10 @@
 pub mod Addresses
+pub mod AreaLaws
 pub mod LinkLaws
+pub mod LinkPapers
 pub mod LinkRows
 pub mod LinkTerminal
+pub mod LinkedAreas
+pub mod LinkedLines
 pub mod Pieces
 pub mod SkippingTerminal

@@ -34,8 +34,8 @@ fn address_at(addresses: &[Option<LinkAddress>], number: usize) -> Option<&LinkA
     }
 }
 
-// The number of a link that is written.
-fn written_link(addresses: &[Option<LinkAddress>], link: Option<usize>) -> Option<usize>
+/// The number of a link that is written: this one, if it has an address.
+pub fn written_link(addresses: &[Option<LinkAddress>], link: Option<usize>) -> Option<usize>
     ensures { result ≡ written_link addresses.now link }
 {
     let number = link?;
@@ -45,8 +45,12 @@ fn written_link(addresses: &[Option<LinkAddress>], link: Option<usize>) -> Optio
     }
 }
 
-// The command where the link changes.
-fn push_change(
+/// Appends the command where the link changes from one that is open to another.
+///
+/// # Errors
+///
+/// Out of memory. What the row then ends with is open.
+pub fn push_change(
     row: &mut String,
     addresses: &[Option<LinkAddress>],
     was: Option<usize>,
@@ -92,7 +96,8 @@ fn know_piece(piece: &LinkPiece)
     know_text(piece.text);
 }
 
-fn know_style(style: ContentStyle)
+// Nothing is done: this only says that the numbers of the style's colors are bytes.
+pub(crate) fn know_style(style: ContentStyle)
     ensures { IsStyle style }
 {}
 

@@ -75,11 +75,12 @@ kept_filtered {T} answers compares filter filter' order old new count shown afte
       selected = within_more selection (length old) (length new) (omega (arith, as_long)) kept.selected;
     }
 
--- rows that are all shown hold the same, and each counts
+-- rows that are all shown hold the same
 pub shown_same : {T : Type 0} (rows : List (ListRow T)) → map row_content (map shown_row rows) ≡ map row_content rows
 shown_same [] = refl
 shown_same {T} (r ∷ rs) = ap (λ (xs : List T). r.content ∷ xs) (shown_same rs)
 
+-- each of them counts as shown
 pub count_all_shown : {T : Type 0} (rows : List (ListRow T)) → count_shown (map shown_row rows) ≡ length rows
 count_all_shown [] = refl
 count_all_shown {T} (r ∷ rs) =
@@ -88,6 +89,7 @@ count_all_shown {T} (r ∷ rs) =
     let one : 1 + length rs ≡ suc (length rs) = omega arith in
     parts ∙ ap (λ (n : ℕ). 1 + n) (count_all_shown rs) ∙ one
 
+-- without a filter all rows are shown
 pub all_shown : {F T : Type 0} (answers : F → T → Bool → Type 0) (rows : List (ListRow T)) → AreAnswered answers None (map shown_row rows)
 all_shown {F} {T} answers rows = λ k d h.
     let within : k < length rows = omega (arith, length-map rows shown_row) in

@@ -38,10 +38,11 @@ filtered_more {T} P xs ys i count after r b h answer counts few counted same all
       AllWithin-more_set ys i row h P all answer,
     )
 
--- a count in either branch
+-- a count where one more counts
 pub one_more : (n m : ℕ) (b : Bool) → b ≡ true → m ≡ n + 1 → m ≡ n + cond b 1 0
 one_more n m b h e = e ∙ ap (λ (x : Bool). n + cond x 1 0) (sym h)
 
+-- a count where none more does
 pub no_more : (n m : ℕ) (b : Bool) → b ≡ false → m ≡ n → m ≡ n + cond b 1 0
 no_more n m b h e =
     let zero_more : n ≡ n + 0 = omega arith in

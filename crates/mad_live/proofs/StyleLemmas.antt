@@ -13,7 +13,7 @@ use Rattle.unicode_width.specs.Width.{char_width}
 use Rattle.mad_screen.specs.Glyph.{Glyph, Look}
 use Rattle.mad_screen.specs.Grid.{Grid, painted, plain_pen, glyphs}
 use Rattle.mad_screen.specs.Terminal.{Mode, Outside, Escape, Numbers, go_to, erase_screen, erase_row, head_before, is_digit, join_at, perform, put, put_wide, restyled as pen_after, with_digit}
-use Rattle.mad_live.specs.Papers.{Paper, PaperReading, blank_line, with_line, at_rest, move_up, next_row, put_on, perform_on, end_number_on, feed_on, read_on, Reads}
+use Rattle.mad_live.specs.Papers.{Paper, PaperMode, PaperReading, Plain, Switching, blank_line, with_line, at_rest, move_up, next_row, put_on, perform_on, end_number_on, feed_on, read_on, Reads}
 use Rattle.mad_live.specs.LiveRows.{rows_from, last_from, rows_in, last_in, IsRow, drawn}
 use Rattle.mad_live.specs.PaintedRows.{IsOneRow}
 use Rattle.mad_live.specs.StyledRows.{reset, AreText, EndsPlain, set_style, set_styles, AreNumbers}
@@ -34,12 +34,15 @@ rows_one : (begun more : List ℕ) → IsOneRow more → rows_from begun more �
 rows_one begun [] h = refl
 rows_one begun (c ∷ more) h = ap (λ t. cond t (begun ∷ rows_from [] more) (rows_from (begun ++ c ∷ []) more)) (is_no c 10 h.0) ∙ rows_one (begun ++ c ∷ []) more h.1
 
+-- bytes in one row are more of the row that has begun
 pub last_more : (a b : List ℕ) → IsOneRow b → last_in (a ++ b) ≡ last_in a ++ b
 last_more a b h = last-append [] a b ∙ last_one (last_in a) b h
 
+-- they end no row
 pub rows_more : (a b : List ℕ) → IsOneRow b → rows_in (a ++ b) ≡ rows_in a
 rows_more a b h = rows-append [] a b ∙ ap (λ (l : List (List ℕ)). rows_in a ++ l) (rows_one (last_in a) b h) ∙ append-nil (rows_in a)
 
+-- text is in one row
 pub text_in_row : (bytes : List ℕ) → AreText bytes → IsOneRow bytes
 text_in_row [] h = tt
 text_in_row (c ∷ bytes) h = (h.0.1, text_in_row bytes h.1)
@@ -51,11 +54,13 @@ numbers_in_row (c ∷ bytes) h = (h.0.1, numbers_in_row bytes h.1)
 no_newline : (c : ℕ) → 10 < c → c ≢ 10
 no_newline c h e = absurd (omega (arith, e))
 
+-- so are commands that set a style
 pub styles_in_row : (commands : List (List ℕ)) → AllByRecursion AreNumbers commands → IsOneRow (set_styles commands)
 styles_in_row [] h = tt
 styles_in_row (numbers ∷ commands) h =
     all_both (λ b. b ≢ 10) (set_style numbers) (set_styles commands) (no_newline 27 (lit< tt), (no_newline 91 (lit< tt), all_both (λ b. b ≢ 10) numbers (109 ∷ []) (numbers_in_row numbers h.0) (no_newline 109 (lit< tt), tt))) (styles_in_row commands h.1)
 
+-- so is the command that ends it
 pub reset_in_row : IsOneRow reset
 reset_in_row = (no_newline 27 (lit< tt), (no_newline 91 (lit< tt), (no_newline 48 (lit< tt), (no_newline 109 (lit< tt), tt))))
 
@@ -103,6 +108,7 @@ clash x e = absurd (cc)
 same_some : {A : Type 0} (x y : A) → Some x ≡ Some y → y ≡ x
 same_some x y e = cc
 
+-- a terminal in the middle of characters, which are read in two parts
 pub record Between (a b : List ℕ) (s r : PaperReading) : Type 0 where
   pub mid : PaperReading
   pub first : read_on a s ≡ Some mid
@@ -117,7 +123,7 @@ abbrev with_pen : Paper → Look → Paper
 with_pen p pen = with_line p (record p.line { pen = pen })
 
 abbrev among : Paper → List ℕ → Option ℕ → PaperReading
-among p ps now = record { paper = p; mode = Numbers ps now }
+among p ps now = record { paper = p; mode = Plain (Numbers ps now) }
 
 far : (c n : ℕ) → c < 60 → 60 ≤ n → eqb c n ≡ false
 far c n small big = is_no c n (λ (e : c ≡ n). absurd (omega (arith, e)))
@@ -142,35 +148,36 @@ record NumberRead (ps : List ℕ) (now : Option ℕ) (c : ℕ) (p : Paper) (s : 
   pub numbers : List ℕ
   pub last : Option ℕ
   pub is : s ≡ among p numbers last
-  pub again : (q : Paper) → feed_on (Numbers ps now) q c ≡ Some (among q numbers last)
+  pub again : (q : Paper) → feed_on (Plain (Numbers ps now)) q c ≡ Some (among q numbers last)
 
-digit_read : (o : Option ℕ) (ps : List ℕ) (now : Option ℕ) (c : ℕ) (p : Paper) (s : PaperReading) → is_digit c ≡ true → with_digit now (c - 48) ≡ o → feed_on (Numbers ps now) p c ≡ Some s → NumberRead ps now c p s
+digit_read : (o : Option ℕ) (ps : List ℕ) (now : Option ℕ) (c : ℕ) (p : Paper) (s : PaperReading) → is_digit c ≡ true → with_digit now (c - 48) ≡ o → feed_on (Plain (Numbers ps now)) p c ≡ Some s → NumberRead ps now c p s
 digit_read o ps now c p s digit is h = by_number o is
   where
-    step : (q : Paper) (n : Option ℕ) → with_digit now (c - 48) ≡ n → feed_on (Numbers ps now) q c ≡ option_map (λ m. among q ps (Some m)) n
+    step : (q : Paper) (n : Option ℕ) → with_digit now (c - 48) ≡ n → feed_on (Plain (Numbers ps now)) q c ≡ option_map (λ m. among q ps (Some m)) n
     step q n e = ap (λ t. cond t (option_map (λ m. among q ps (Some m)) (with_digit now (c - 48))) (end_number_on q ps now c)) digit ∙ ap (option_map (λ m. among q ps (Some m))) e
 
     by_number : (n : Option ℕ) → with_digit now (c - 48) ≡ n → NumberRead ps now c p s
     by_number None e = clash s (sym (step p None e) ∙ h)
     by_number (Some m) e = record { numbers = ps; last = Some m; is = same_some (among p ps (Some m)) s (sym (step p (Some m) e) ∙ h); again = λ q. step q (Some m) e }
 
-semicolon_read : (ps : List ℕ) (n c : ℕ) (p : Paper) (s : PaperReading) → c < 60 → ((q : Paper) → feed_on (Numbers ps (Some n)) q c ≡ cond (eqb c 59) (Some (among q (ps ++ n ∷ []) None)) (option_map at_rest (perform_on c (ps ++ n ∷ []) q))) → feed_on (Numbers ps (Some n)) p c ≡ Some s → NumberRead ps (Some n) c p s
+semicolon_read : (ps : List ℕ) (n c : ℕ) (p : Paper) (s : PaperReading) → c < 60 → ((q : Paper) → feed_on (Plain (Numbers ps (Some n))) q c ≡ cond (eqb c 59) (Some (among q (ps ++ n ∷ []) None)) (option_map at_rest (perform_on c (ps ++ n ∷ []) q))) → feed_on (Plain (Numbers ps (Some n))) p c ≡ Some s → NumberRead ps (Some n) c p s
 semicolon_read ps n c p s small step h = by_test (eqb c 59) refl
   where
-    turn : (q : Paper) (t : Bool) → eqb c 59 ≡ t → feed_on (Numbers ps (Some n)) q c ≡ cond t (Some (among q (ps ++ n ∷ []) None)) (option_map at_rest (perform_on c (ps ++ n ∷ []) q))
+    turn : (q : Paper) (t : Bool) → eqb c 59 ≡ t → feed_on (Plain (Numbers ps (Some n))) q c ≡ cond t (Some (among q (ps ++ n ∷ []) None)) (option_map at_rest (perform_on c (ps ++ n ∷ []) q))
     turn q t e = step q ∙ ap (λ b. cond b (Some (among q (ps ++ n ∷ []) None)) (option_map at_rest (perform_on c (ps ++ n ∷ []) q))) e
 
     by_test : (t : Bool) → eqb c 59 ≡ t → NumberRead ps (Some n) c p s
     by_test true e = record { numbers = ps ++ n ∷ []; last = None; is = same_some (among p (ps ++ n ∷ []) None) s (sym (turn p true e) ∙ h); again = λ q. turn q true e }
     by_test false e = clash s (sym (turn p false e ∙ ap (option_map at_rest) (low_none c (ps ++ n ∷ []) p small)) ∙ h)
 
-other_read : (ps : List ℕ) (now : Option ℕ) (c : ℕ) (p : Paper) (s : PaperReading) → is_digit c ≡ false → c < 60 → feed_on (Numbers ps now) p c ≡ Some s → NumberRead ps now c p s
-other_read [] None c p s off small h = clash s (sym (ap (λ t. cond t (option_map (λ m. among p [] (Some m)) (with_digit None (c - 48))) (end_number_on p [] None c)) off ∙ ap (option_map at_rest) (low_none c [] p small)) ∙ h)
+other_read : (ps : List ℕ) (now : Option ℕ) (c : ℕ) (p : Paper) (s : PaperReading) → is_digit c ≡ false → c < 60 → feed_on (Plain (Numbers ps now)) p c ≡ Some s → NumberRead ps now c p s
+other_read [] None c p s off small h = clash s (sym (ap (λ t. cond t (option_map (λ m. among p [] (Some m)) (with_digit None (c - 48))) (end_number_on p [] None c)) off
+    ∙ ap (λ t. cond t (Some (record { paper = p; mode = Switching None })) (option_map at_rest (perform_on c [] p))) (far c 63 small (omega arith)) ∙ ap (option_map at_rest) (low_none c [] p small)) ∙ h)
 other_read (n ∷ ns) None c p s off small h = clash s (sym (ap (λ t. cond t (option_map (λ m. among p (n ∷ ns) (Some m)) (with_digit None (c - 48))) (end_number_on p (n ∷ ns) None c)) off) ∙ h)
 other_read [] (Some n) c p s off small h = semicolon_read [] n c p s small (λ q. ap (λ t. cond t (option_map (λ m. among q [] (Some m)) (with_digit (Some n) (c - 48))) (end_number_on q [] (Some n) c)) off) h
 other_read (m ∷ ms) (Some n) c p s off small h = semicolon_read (m ∷ ms) n c p s small (λ q. ap (λ t. cond t (option_map (λ k. among q (m ∷ ms) (Some k)) (with_digit (Some n) (c - 48))) (end_number_on q (m ∷ ms) (Some n) c)) off) h
 
-number_read : (ps : List ℕ) (now : Option ℕ) (c : ℕ) (p : Paper) (s : PaperReading) → c < 60 → feed_on (Numbers ps now) p c ≡ Some s → NumberRead ps now c p s
+number_read : (ps : List ℕ) (now : Option ℕ) (c : ℕ) (p : Paper) (s : PaperReading) → c < 60 → feed_on (Plain (Numbers ps now)) p c ≡ Some s → NumberRead ps now c p s
 number_read ps now c p s small h = by_test (is_digit c) refl
   where
     by_test : (t : Bool) → is_digit c ≡ t → NumberRead ps now c p s
@@ -183,12 +190,12 @@ number_read ps now c p s small h = by_test (is_digit c) refl
 record SetsPen (bytes : List ℕ) (mode : Mode) (p : Paper) (r : PaperReading) : Type 0 where
   pub pen : Look
   pub is : r ≡ at_rest (with_pen p pen)
-  pub again : (q : Paper) → q.line.pen ≡ p.line.pen → read_on bytes (record { paper = q; mode = mode }) ≡ Some (at_rest (with_pen q pen))
+  pub again : (q : Paper) → q.line.pen ≡ p.line.pen → read_on bytes (record { paper = q; mode = Plain mode }) ≡ Some (at_rest (with_pen q pen))
 
 abbrev lettered : Paper → Option Look → Option PaperReading
 lettered p o = option_and_then (read_on []) (option_map at_rest (option_map (with_line p) (option_map (λ pen. record p.line { pen = pen }) o)))
 
-letter_sets : (mode : Mode) (args : List ℕ) (p : Paper) (r : PaperReading) → ((q : Paper) → read_on (109 ∷ []) (record { paper = q; mode = mode }) ≡ lettered q (pen_after args q.line.pen)) → read_on (109 ∷ []) (record { paper = p; mode = mode }) ≡ Some r → SetsPen (109 ∷ []) mode p r
+letter_sets : (mode : Mode) (args : List ℕ) (p : Paper) (r : PaperReading) → ((q : Paper) → read_on (109 ∷ []) (record { paper = q; mode = Plain mode }) ≡ lettered q (pen_after args q.line.pen)) → read_on (109 ∷ []) (record { paper = p; mode = Plain mode }) ≡ Some r → SetsPen (109 ∷ []) mode p r
 letter_sets mode args p r step h = by_pen (pen_after args p.line.pen) refl
   where
     by_pen : (o : Option Look) → pen_after args p.line.pen ≡ o → SetsPen (109 ∷ []) mode p r
@@ -208,7 +215,7 @@ letter_read (m ∷ ms) (Some n) p r h = letter_sets (Numbers (m ∷ ms) (Some n)
 numbers_set : (bytes ps : List ℕ) (now : Option ℕ) (p : Paper) (r : PaperReading) → AreNumbers bytes → read_on (bytes ++ 109 ∷ []) (among p ps now) ≡ Some r → SetsPen (bytes ++ 109 ∷ []) (Numbers ps now) p r
 numbers_set [] ps now p r are h = letter_read ps now p r h
 numbers_set (c ∷ bytes) ps now p r are h =
-    option_and_then_some (read_on (bytes ++ 109 ∷ [])) (feed_on (Numbers ps now) p c) r h (λ x e f.
+    option_and_then_some (read_on (bytes ++ 109 ∷ [])) (feed_on (Plain (Numbers ps now)) p c) r h (λ x e f.
     let one : NumberRead ps now c p x = number_read ps now c p x are.0.0 e in
     let rest : SetsPen (bytes ++ 109 ∷ []) (Numbers one.numbers one.last) p r = numbers_set bytes one.numbers one.last p r are.1 (subst (λ (y : PaperReading). read_on (bytes ++ 109 ∷ []) y ≡ Some r) one.is f) in
     record { pen = rest.pen; is = rest.is; again = λ q same. ap (option_and_then (read_on (bytes ++ 109 ∷ []))) (one.again q) ∙ rest.again q same })
@@ -258,12 +265,12 @@ record KeepsPen (p : Paper) (r : PaperReading) : Type 0 where
   pub is : r ≡ at_rest (with_line p line)
   pub pen : line.pen ≡ p.line.pen
 
-char_keeps : (c : ℕ) (p : Paper) (r : PaperReading) → (c ≢ 27) × (c ≢ 10) → feed_on Outside p c ≡ Some r → KeepsPen p r
+char_keeps : (c : ℕ) (p : Paper) (r : PaperReading) → (c ≢ 27) × (c ≢ 10) → feed_on (Plain Outside) p c ≡ Some r → KeepsPen p r
 char_keeps c p r text h = by_return (eqb c 13) refl
   where
-    put_text : feed_on Outside p c ≡ option_map at_rest (cond (eqb c 13) (Some (with_line p (record p.line { x = 0 }))) (option_map (with_line p) (put p.line c)))
+    put_text : feed_on (Plain Outside) p c ≡ option_map at_rest (cond (eqb c 13) (Some (with_line p (record p.line { x = 0 }))) (option_map (with_line p) (put p.line c)))
     put_text =
-        ap (λ t. cond t (Some (record { paper = p; mode = Escape })) (option_map at_rest (put_on c p))) (is_no c 27 text.0)
+        ap (λ t. cond t (Some (record { paper = p; mode = Plain Escape })) (option_map at_rest (put_on c p))) (is_no c 27 text.0)
         ∙ ap (λ t. option_map at_rest (cond t (Some (next_row p.below p)) (cond (eqb c 13) (Some (with_line p (record p.line { x = 0 }))) (option_map (with_line p) (put p.line c))))) (is_no c 10 text.1)
 
     by_put : (o : Option Grid) → put p.line c ≡ o → option_map at_rest (option_map (with_line p) (put p.line c)) ≡ Some r → KeepsPen p r
@@ -278,29 +285,33 @@ char_keeps c p r text h = by_return (eqb c 13) refl
 text_keeps : (cs : List ℕ) (p : Paper) (r : PaperReading) → AreText cs → read_on cs (at_rest p) ≡ Some r → KeepsPen p r
 text_keeps [] p r text h = record { line = p.line; is = same_some (at_rest p) r h; pen = refl }
 text_keeps (c ∷ cs) p r text h =
-    option_and_then_some (read_on cs) (feed_on Outside p c) r h (λ x e f.
+    option_and_then_some (read_on cs) (feed_on (Plain Outside) p c) r h (λ x e f.
     let one : KeepsPen p x = char_keeps c p x text.0 e in
     let rest : KeepsPen (with_line p one.line) r = text_keeps cs (with_line p one.line) r text.1 (subst (λ (y : PaperReading). read_on cs y ≡ Some r) one.is f) in
     record { line = rest.line; is = rest.is; pen = rest.pen ∙ one.pen })
 
 -- ---- the end of a style
 
-reset_by : (mode : Mode) (p : Paper) (r : PaperReading) → read_on reset (record { paper = p; mode = mode }) ≡ Some r → (mode ≡ Outside) × (r ≡ at_rest (with_pen p plain_pen))
-reset_by Outside p r h = (refl, same_some (at_rest (with_pen p plain_pen)) r h)
-reset_by Escape p r h = clash r h
-reset_by (Numbers [] None) p r h = clash r h
-reset_by (Numbers (n ∷ ns) None) p r h = clash r h
-reset_by (Numbers [] (Some n)) p r h = clash r h
-reset_by (Numbers (m ∷ ms) (Some n)) p r h = clash r h
+reset_by : (mode : PaperMode) (p : Paper) (r : PaperReading) → read_on reset (record { paper = p; mode = mode }) ≡ Some r → (mode ≡ Plain Outside) × (r ≡ at_rest (with_pen p plain_pen))
+reset_by (Plain Outside) p r h = (refl, same_some (at_rest (with_pen p plain_pen)) r h)
+reset_by (Plain Escape) p r h = clash r h
+reset_by (Plain (Numbers [] None)) p r h = clash r h
+reset_by (Plain (Numbers (n ∷ ns) None)) p r h = clash r h
+reset_by (Plain (Numbers [] (Some n))) p r h = clash r h
+reset_by (Plain (Numbers (m ∷ ms) (Some n))) p r h = clash r h
+reset_by (Switching None) p r h = clash r h
+reset_by (Switching (Some n)) p r h = clash r h
 
-reset_plain : (s r : PaperReading) → read_on reset s ≡ Some r → (s.mode ≡ Outside) × (r ≡ at_rest (with_pen s.paper plain_pen))
+reset_plain : (s r : PaperReading) → read_on reset s ≡ Some r → (s.mode ≡ Plain Outside) × (r ≡ at_rest (with_pen s.paper plain_pen))
 reset_plain s r h = reset_by s.mode s.paper r h
 
 -- ---- rows that leave the plain pen
 
+-- No style is set after this row: it is text, or ends with text after a style's end.
 abbrev pub RowEndsPlain : List ℕ → Type 0
 RowEndsPlain row = AreText row ⊎ ((before : List ℕ) × (since : List ℕ) × (row ≡ before ++ (reset ++ since)) × AreText since)
 
+-- where no style is set after bytes, none is set after their last row
 pub last_is_plain : (bytes : List ℕ) → EndsPlain bytes → RowEndsPlain (last_in bytes)
 last_is_plain bytes h =
     let last : last_in bytes ≡ last_in h.before ++ h.since = ap last_in h.is ∙ last_more h.before h.since (text_in_row h.since h.text) in
@@ -311,7 +322,7 @@ last_is_plain bytes h =
     h.begins
 
 record AtPlain (p : Paper) (r : PaperReading) : Type 0 where
-  pub mode : r.mode ≡ Outside
+  pub mode : r.mode ≡ Plain Outside
   pub pen : r.paper.line.pen ≡ plain_pen
 
 kept_plain : (p : Paper) (r : PaperReading) → p.line.pen ≡ plain_pen → KeepsPen p r → AtPlain p r
@@ -332,6 +343,7 @@ plain_row row p r utf8 (inr (before, since, is, text)) plain h =
 
 -- ---- the style is set again
 
+-- A style is set again after a row: it goes on as before the style's end, and only the pen has changed.
 pub record Restyled (w : ℕ) (row style : List ℕ) (p : Paper) : Type 0 where
   pub paper : Paper
   pub reads : Reads p style paper
@@ -357,7 +369,7 @@ restyled w front text first commands p numbers plain in_row is here =
     let ended : at_rest (with_line p (drawn w (row ++ reset))) ≡ at_rest (with_pen one.mid.paper plain_pen) = (reset_plain one.mid (at_rest (with_line p (drawn w (row ++ reset)))) one.second).1 in
     let two : Between (chars front) (style ++ chars text) (at_rest start) one.mid = between (chars front) (style ++ chars text) (at_rest start) one.mid (sym (ap (λ (l : List ℕ). read_on l (at_rest start)) spelled) ∙ one.first) in
     let at : AtPlain start two.mid = plain_row front start two.mid parts.0 plain refl two.first in
-    let rest : read_on (style ++ chars text) (at_rest two.mid.paper) ≡ Some one.mid = ap (λ (m : Mode). read_on (style ++ chars text) (record { paper = two.mid.paper; mode = m })) (sym at.mode) ∙ two.second in
+    let rest : read_on (style ++ chars text) (at_rest two.mid.paper) ≡ Some one.mid = ap (λ (m : PaperMode). read_on (style ++ chars text) (record { paper = two.mid.paper; mode = m })) (sym at.mode) ∙ two.second in
     let three : Between style (chars text) (at_rest two.mid.paper) one.mid = between style (chars text) (at_rest two.mid.paper) one.mid rest in
     let sets : SetsPen style Outside two.mid.paper three.mid = styles_set (first ∷ commands) two.mid.paper three.mid numbers three.first in
     let keeps : KeepsPen (with_pen two.mid.paper sets.pen) one.mid =

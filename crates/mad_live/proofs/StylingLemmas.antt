@@ -15,12 +15,15 @@ IsNumber c = (c < 60) × (c ≢ 10)
 
 -- ---- no style
 
+-- before the first byte no style is set
 pub nothing_plain : EndsPlain []
 nothing_plain = record { before = []; since = []; is = refl; text = tt; begins = inl refl }
 
+-- after a newline none is set
 pub newline_plain : (front : List ℕ) (c : ℕ) → c ≡ 10 → EndsPlain (front ++ c ∷ [])
 newline_plain front c is = record { before = front ++ c ∷ []; since = []; is = sym (append-nil (front ++ c ∷ [])); text = tt; begins = inr (inl (front, ap (λ d. front ++ d ∷ []) is)) }
 
+-- after the end of a style none is set
 pub reset_plain : (front before : List ℕ) (c : ℕ) → c ≡ 109 → front ≡ before ++ 27 ∷ 91 ∷ 48 ∷ [] → EndsPlain (front ++ c ∷ [])
 reset_plain front before c is ends = record {
   before = front ++ c ∷ [];
@@ -30,6 +33,7 @@ reset_plain front before c is ends = record {
   begins = inr (inr (before, ap (λ d. front ++ d ∷ []) is ∙ ap (λ l. l ++ 109 ∷ []) ends ∙ append_assoc before (27 ∷ 91 ∷ 48 ∷ []) (109 ∷ [])));
 }
 
+-- a byte of text leaves it so
 pub plain_more : (front : List ℕ) (c : ℕ) → c ≢ 27 → c ≢ 10 → EndsPlain front → EndsPlain (front ++ c ∷ [])
 plain_more front c no_escape no_newline h = record {
   before = h.before;
@@ -41,6 +45,7 @@ plain_more front c no_escape no_newline h = record {
 
 -- ---- a style
 
+-- an ESC begins a command
 pub style_begins : (front : List ℕ) (c begin : ℕ) → c ≡ 27 → begin ≡ length front → EndsPlain front → IsStyling (front ++ c ∷ []) (Begun begin)
 style_begins front c begin is at plain = ([], record { front = front; is = ap (λ d. front ++ d ∷ []) is; plain = plain; numbers = tt; at = sym at })
 
@@ -53,9 +58,11 @@ style_more bytes begin c commands rest h = record {
   at = h.at;
 }
 
+-- after it `[` begins its numbers
 pub numbers_begin : (bytes : List ℕ) (begin c : ℕ) → c ≡ 91 → IsStyling bytes (Begun begin) → IsStyling (bytes ++ c ∷ []) (Numbers begin)
 numbers_begin bytes begin c is (commands, h) = (commands, [], subst (λ d. HasStyle (bytes ++ c ∷ []) begin commands (27 ∷ d ∷ [])) is (style_more bytes begin c commands (27 ∷ []) h), tt)
 
+-- a digit or a semicolon goes on with them
 pub numbers_more : (bytes : List ℕ) (begin c : ℕ) → c < 60 → c ≢ 10 → IsStyling bytes (Numbers begin) → IsStyling (bytes ++ c ∷ []) (Numbers begin)
 numbers_more bytes begin c small no_newline (commands, numbers, h, are) =
     (commands, numbers ++ c ∷ [], style_more bytes begin c commands (27 ∷ 91 ∷ numbers) h, all_both IsNumber numbers (c ∷ []) are ((small, no_newline), tt))
@@ -78,10 +85,12 @@ styled_by bytes begin end (first ∷ commands) last h is =
     let all : List (List ℕ) = commands ++ last ∷ [] in
     (first, all, [], h, tt, omega (arith, is, ap length h.is, h.at, length-append h.front (set_styles (first ∷ all) ++ []), ap length (append-nil (set_styles (first ∷ all)))))
 
+-- an `m` ends them, and a style is set
 pub style_ends : (bytes : List ℕ) (begin end c : ℕ) → c ≡ 109 → end ≡ length bytes + 1 → IsStyling bytes (Numbers begin) → IsStyling (bytes ++ c ∷ []) (Styled begin end)
 style_ends bytes begin end c is at (commands, numbers, h, are) =
     subst (λ d. IsStyling (bytes ++ d ∷ []) (Styled begin end)) (sym is) (styled_by (bytes ++ 109 ∷ []) begin end commands numbers (command_ends bytes begin commands numbers h are) (omega (arith, at, length-append bytes (109 ∷ []))))
 
+-- a byte of text leaves it set
 pub text_more : (bytes : List ℕ) (begin end c : ℕ) → c ≢ 27 → c ≢ 10 → IsStyling bytes (Styled begin end) → IsStyling (bytes ++ c ∷ []) (Styled begin end)
 text_more bytes begin end c no_escape no_newline (first, commands, text, h, are, at) =
     (first, commands, text ++ c ∷ [], style_more bytes begin c (first ∷ commands) text h, all_both IsText text (c ∷ []) are ((no_escape, no_newline), tt), at)
@@ -99,11 +108,13 @@ more_begins bytes begin end c is at (first, commands, text, h, are, last) =
 
 -- ---- growth
 
+-- the commands of a style begin and end within the bytes
 pub styled_inside : (bytes : List ℕ) (begin end : ℕ) → IsStyling bytes (Styled begin end) → (begin ≤ end) × (end ≤ length bytes)
 styled_inside bytes begin end (first, commands, text, h, are, last) =
     let style : List ℕ = set_styles (first ∷ commands) in
     (omega (arith, last), omega (arith, last, ap length h.is, h.at, length-append h.front (style ++ text), length-append style text))
 
+-- where what is shown ends in a style, and what is wanted goes on before its end, it grows in that style
 pub grows_by : (shown wanted front more style : List ℕ) (begin end : ℕ) → shown ≡ front ++ reset → wanted ≡ front ++ more → IsStyling front (Styled begin end) → style ≡ take (end - begin) (drop begin front) → GrowsInStyle shown wanted style more
 grows_by shown wanted front more style begin end was is (first, commands, text, h, are, last) cut =
     let set : List ℕ = set_styles (first ∷ commands) in

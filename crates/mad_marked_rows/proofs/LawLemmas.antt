@@ -22,9 +22,9 @@ use Rattle.mad_rows.specs.Rows.{cell_pieces, composite_pieces, compound_piece, i
 use Rattle.mad_rows.specs.declared.row_skin.RowSkin.{RowSkin}
 use Rattle.mad_mark_runs.specs.declared.mark_runs.MarkRun.{MarkRun}
 use Rattle.mad_marks.specs.RowMarks.{counted}
-use Rattle.mad_marked_text.specs.Laws.{told_cell, told_cells, told_chars, TellsNothing}
-use Rattle.mad_marked_text.proofs.SeenLemmas.{same_cells, told_joined, text_shown, text_told}
-use Rattle.mad_marked_rows.specs.Laws.{AreTexts}
+use Rattle.mad_marked_rows.specs.Told.{told_cell, told_cells, told_chars, TellsNothing}
+use Rattle.mad_marked_rows.proofs.ToldLemmas.{same_cells, told_joined, text_shown, text_told}
+use Rattle.mad_marked_rows.specs.RowLaws.{AreTexts}
 use Rattle.mad_marked_rows.specs.MarkedRows.{marked_cells, marked_composite, marked_compound, marked_compounds, marked_line}
 
 -- ---- what is told of characters
@@ -70,14 +70,14 @@ composite_told tell paint has runs skin outer margins filled n l nothing utf8 =
     told_before tell (marked_compounds paint (has l.kind) runs skin style n l.compounds.items) (map (compound_piece skin style) l.compounds.items) end (
     compounds_told tell paint (has l.kind) runs skin style n l.compounds.items nothing utf8))))
 
-cells_told : (tell : Look → Look) (paint : ℕ → ContentStyle → ContentStyle) (has : CompositeKind → Flags → Bool) (runs : List MarkRun) (skin : RowSkin) (ns : List ℕ) (cs : List FmtComposite) → TellsNothing tell paint
+row_cells_told : (tell : Look → Look) (paint : ℕ → ContentStyle → ContentStyle) (has : CompositeKind → Flags → Bool) (runs : List MarkRun) (skin : RowSkin) (ns : List ℕ) (cs : List FmtComposite) → TellsNothing tell paint
     → AllByRecursion (λ (l : FmtComposite). AllByRecursion (λ k. IsUtf8 k.src.now) l.compounds.items) cs → told_chars tell (marked_cells paint has runs skin ns cs) ≡ told_chars tell (flat_map (cell_pieces skin) cs)
-cells_told tell paint has runs skin ns [] nothing utf8 = refl
-cells_told tell paint has runs skin ns (c ∷ cs) nothing utf8 =
+row_cells_told tell paint has runs skin ns [] nothing utf8 = refl
+row_cells_told tell paint has runs skin ns (c ∷ cs) nothing utf8 =
     let own : List RowPiece = vertical_piece skin ∷ marked_composite paint has runs skin None (0, 0) false (slice_index ns 0) c in
     told_before tell own (cell_pieces skin c) (marked_cells paint has runs skin (drop 1 ns) cs)
     (told_after tell (vertical_piece skin ∷ []) _ _ (composite_told tell paint has runs skin None (0, 0) false (slice_index ns 0) c nothing utf8.0))
-    ∙ told_after tell (cell_pieces skin c) _ _ (cells_told tell paint has runs skin (drop 1 ns) cs nothing utf8.1)
+    ∙ told_after tell (cell_pieces skin c) _ _ (row_cells_told tell paint has runs skin (drop 1 ns) cs nothing utf8.1)
 
 chars_told : (tell : Look → Look) (paint : ℕ → ContentStyle → ContentStyle) (has : CompositeKind → Flags → Bool) (runs : List MarkRun) (skin : RowSkin) (outer : Option ℕ) (filled : Bool) (numbers : List ℕ) (line : FmtLine) → TellsNothing tell paint → AreTexts line
     → told_chars tell (marked_line paint has runs skin outer filled numbers line) ≡ told_chars tell (line_pieces skin outer filled line)
@@ -87,7 +87,7 @@ chars_told tell paint has runs skin outer filled numbers (TableRow row) nothing 
     let right : List RowPiece = if filled then spaces skin.paragraph.compound_style (right_of_place skin.table.align (row_columns cells) outer) else [] in
     told_after tell (spaces skin.paragraph.compound_style (left_of_place skin.table.align (row_columns cells) outer)) _ _ (
     told_before tell (marked_cells paint has runs skin numbers cells ++ vertical_piece skin ∷ []) (flat_map (cell_pieces skin) cells ++ vertical_piece skin ∷ []) right (
-    told_before tell (marked_cells paint has runs skin numbers cells) (flat_map (cell_pieces skin) cells) (vertical_piece skin ∷ []) (cells_told tell paint has runs skin numbers cells nothing utf8)))
+    told_before tell (marked_cells paint has runs skin numbers cells) (flat_map (cell_pieces skin) cells) (vertical_piece skin ∷ []) (row_cells_told tell paint has runs skin numbers cells nothing utf8)))
 chars_told tell paint has runs skin outer filled numbers (TableRule rule) nothing utf8 = refl
 chars_told tell paint has runs skin outer filled numbers HorizontalRule nothing utf8 = refl
 

@@ -1,5 +1,13 @@
+pub mod CursorLemmas
+pub mod ForegroundLemmas
 pub mod LawLemmas
 pub mod LinkLawLemmas
 pub mod LinkLemmas
+pub mod OpeningLemmas
+pub mod PartLemmas
 pub mod RowLemmas
+pub mod SeenLemmas
+pub mod ShownLemmas
+pub mod ToldLemmas
 pub mod UnmarkedLemmas
+pub mod WrittenLemmas

@@ -28,15 +28,15 @@ use Rattle.mad_links.specs.LinkTerminal.{LinkedCell, LinkPaints}
 use Rattle.mad_links.specs.SkippingTerminal.{after_skipping}
 use Rattle.mad_links.proofs.PlainLemmas.{shows_the_same}
 use Rattle.mad_links.proofs.LinkRowLemmas.{links_are_in_their_cells, rows_are_woven, writes_nothing}
-use Rattle.mad_link_rows.specs.LinkedAreas.{in_no_link, without_link, without_links}
-use Rattle.mad_link_rows.specs.LinkedLines.{composite_links}
-use Rattle.mad_link_rows.proofs.AreaLemmas.{pieces_are, unlinked_is}
+use Rattle.mad_links.specs.LinkedAreas.{in_no_link, without_link, without_links}
+use Rattle.mad_links.specs.LinkedLines.{composite_links}
+use Rattle.mad_links.proofs.AreaLemmas.{pieces_are, unlinked_is}
 use Rattle.mad_mark_runs.specs.declared.mark_runs.MarkRun.{MarkRun}
 use Rattle.mad_marks.specs.RowMarks.{counted}
-use Rattle.mad_marked_text.specs.Laws.{told_cell, told_cells, TellsNothing}
-use Rattle.mad_marked_text.specs.LinkedTexts.{part_link, text_links}
-use Rattle.mad_marked_text.specs.MarkedTexts.{LetterPart, letters_of, part_piece, parts_of, text_pieces}
-use Rattle.mad_marked_rows.specs.Laws.{AreTexts}
+use Rattle.mad_marked_rows.specs.Told.{told_cell, told_cells, TellsNothing}
+use Rattle.mad_marked_rows.specs.LinkedTexts.{part_link, text_links}
+use Rattle.mad_marked_rows.specs.MarkedTexts.{LetterPart, letters_of, part_piece, parts_of, text_pieces}
+use Rattle.mad_marked_rows.specs.RowLaws.{AreTexts}
 use Rattle.mad_marked_rows.specs.LinkLaws.{IsLinkableLine}
 use Rattle.mad_marked_rows.specs.LinkedRows.{linked_cells, linked_composite, linked_compound, linked_compounds, linked_line}
 use Rattle.mad_marked_rows.specs.MarkedRows.{marked_cells, marked_composite, marked_compound, marked_compounds, marked_line}

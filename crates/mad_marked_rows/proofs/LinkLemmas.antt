@@ -3,8 +3,8 @@ use Rattle.std.proofs.Common.{◌≡◌, ℕ, List, [], ◌∷◌, ◌++◌, map
 use Rattle.mad_term.specs.Styles.{piece_bytes}
 use Rattle.mad_draw.specs.Pieces.{RowPiece, pieces_bytes}
 use Rattle.mad_links.specs.LinkRows.{LinkedPiece, change_bytes, linked_bytes, linked_bytes_from, written_link}
-use Rattle.mad_link_rows.specs.LinkedAreas.{in_no_link}
-use Rattle.mad_marked_text.specs.LinkedTexts.{piece_on, pieces_on}
+use Rattle.mad_links.specs.LinkedAreas.{in_no_link}
+use Rattle.mad_marked_rows.specs.LinkedTexts.{piece_on, pieces_on}
 
 pub on_both : (a : List (Option (List ℕ))) (row : List ℕ × Option ℕ) (ps qs : List LinkedPiece) → pieces_on a row (ps ++ qs) ≡ pieces_on a (pieces_on a row ps) qs
 on_both a row [] qs = refl
@@ -20,8 +20,8 @@ on_end a row (p ∷ ps) =
     on_end a (piece_on a row p) ps ∙ append_assoc row.0 (change ++ own) rest ∙ ap (λ l. row.0 ++ l) (append_assoc change own rest)
 
 -- a piece in front of others
-in_front : (change own rest more : List ℕ) → change ++ (own ++ (rest ++ more)) ≡ (change ++ (own ++ rest)) ++ more
-in_front change own rest more = ap (λ l. change ++ l) (sym (append_assoc own rest more)) ∙ sym (append_assoc change (own ++ rest) more)
+piece_in_front : (change own rest more : List ℕ) → change ++ (own ++ (rest ++ more)) ≡ (change ++ (own ++ rest)) ++ more
+piece_in_front change own rest more = ap (λ l. change ++ l) (sym (append_assoc own rest more)) ∙ sym (append_assoc change (own ++ rest) more)
 
 -- ---- pieces in no link
 
@@ -40,7 +40,7 @@ then_plain a was [] ps = plain_end a was ps
 then_plain a was (q ∷ qs) ps =
     let change = change_bytes a was (written_link a q.link) in
     let own = piece_bytes q.style q.text in
-    ap (λ l. change ++ (own ++ l)) (then_plain a (written_link a q.link) qs ps) ∙ in_front change own (linked_bytes_from a (written_link a q.link) qs) (pieces_bytes ps)
+    ap (λ l. change ++ (own ++ l)) (then_plain a (written_link a q.link) qs ps) ∙ piece_in_front change own (linked_bytes_from a (written_link a q.link) qs) (pieces_bytes ps)
 
 -- so what begins with such a piece can be written for itself
 pub then_border : (a : List (Option (List ℕ))) (was : Option ℕ) (ps : List LinkedPiece) (q : RowPiece) (qs : List LinkedPiece) → linked_bytes_from a was (ps ++ in_no_link q ∷ qs) ≡ linked_bytes_from a was ps ++ linked_bytes a (in_no_link q ∷ qs)
@@ -48,4 +48,4 @@ then_border a was [] q qs = refl
 then_border a was (p ∷ ps) q qs =
     let change = change_bytes a was (written_link a p.link) in
     let own = piece_bytes p.style p.text in
-    ap (λ l. change ++ (own ++ l)) (then_border a (written_link a p.link) ps q qs) ∙ in_front change own (linked_bytes_from a (written_link a p.link) ps) (linked_bytes a (in_no_link q ∷ qs))
+    ap (λ l. change ++ (own ++ l)) (then_border a (written_link a p.link) ps q qs) ∙ piece_in_front change own (linked_bytes_from a (written_link a p.link) ps) (linked_bytes a (in_no_link q ∷ qs))

@@ -1,7 +1,7 @@
 -- Rows with marks, as they are written.
-use Rattle.std.proofs.Common.{◌≡◌, ℕ, zero, suc, ◌+◌, ◌-◌, ◌<◌, ◌≤◌, Bool, true, false, cond, List, [], ◌∷◌, ◌++◌, map, length, drop, get_or, Option, None, refl, sym, ap, ◌∙◌, arith, append_assoc, append-nil}
+use Rattle.std.proofs.Common.{◌≡◌, ℕ, ◌+◌, ◌-◌, ◌<◌, ◌≤◌, Bool, true, false, cond, List, [], ◌∷◌, ◌++◌, map, length, drop, get_or, Option, None, refl, sym, ap, ◌∙◌, arith, append_assoc, append-nil}
 use Rattle.std.specs.Prelude.{chars, slice_index, if◌then◌else◌}
-use Rattle.std.proofs.lemmas.List.{at_drop_more, map-append}
+use Rattle.std.proofs.lemmas.List.{at_drop_more, drop_all, map-append}
 use Rattle.mad_md.specs.Flagged.{Flags, flagged_of, flags_of, run_of}
 use Rattle.mad_md.specs.declared.compound.Compound.{Compound}
 use Rattle.mad_term.specs.Styles.{piece_bytes}
@@ -19,17 +19,17 @@ use Rattle.mad_format.specs.declared.table.FmtTableRow.{FmtTableRow}
 use Rattle.mad_rows.specs.RowStyles.{compound_style, line_style}
 use Rattle.mad_rows.specs.Rows.{blanks_beside, compound_piece, inner_blanks, left_of_place, line_pieces, outer_blanks, prefix_pieces, right_of_place, row_columns, vertical_piece}
 use Rattle.mad_rows.specs.declared.row_skin.RowSkin.{RowSkin}
-use Rattle.mad_links.specs.LinkRows.{LinkedPiece, change_bytes, linked_bytes, linked_bytes_from}
-use Rattle.mad_link_rows.specs.LinkedAreas.{in_no_link}
-use Rattle.mad_link_rows.specs.LinkedLines.{composite_links}
-use Rattle.mad_link_rows.proofs.AreaLemmas.{no_link_no_byte}
+use Rattle.mad_links.specs.LinkRows.{LinkedPiece, change_bytes, linked_bytes}
+use Rattle.mad_links.specs.LinkedAreas.{in_no_link}
+use Rattle.mad_links.specs.LinkedLines.{composite_links}
+use Rattle.mad_links.proofs.AreaLemmas.{no_link_no_byte}
 use Rattle.mad_mark_runs.specs.Marks.{count_of, next_start, value_at}
 use Rattle.mad_mark_runs.specs.declared.mark_runs.MarkRun.{MarkRun}
 use Rattle.mad_marks.specs.RowMarks.{counted}
 use Rattle.mad_marks.proofs.NumberLemmas.{compound_count}
-use Rattle.mad_marked_text.specs.LinkedTexts.{part_link, pieces_on, text_links}
-use Rattle.mad_marked_text.specs.MarkedTexts.{parts_of, SameFrom}
-use Rattle.mad_marked_text.proofs.CursorLemmas.{from_start, letters_same}
+use Rattle.mad_marked_rows.specs.LinkedTexts.{part_link, pieces_on, text_links}
+use Rattle.mad_marked_rows.specs.MarkedTexts.{parts_of, SameFrom}
+use Rattle.mad_marked_rows.proofs.CursorLemmas.{from_start, letters_same}
 use Rattle.mad_marked_rows.specs.LinkedRows.{linked_cells, linked_composite, linked_compound, linked_compounds, linked_line, linked_table_row}
 use Rattle.mad_marked_rows.proofs.LinkLemmas.{on_both, on_end, plain_then, then_border, then_plain}
 
@@ -88,17 +88,11 @@ compounds_same paint has a b skin style n (k ∷ ks) same =
 pub begins_same : (runs found : List MarkRun) (n m : ℕ) → m ≡ n - 1 → found ≡ next_start runs m → SameFrom runs found n
 begins_same runs found n m m_is found_is = λ k le. ap (λ (r : List MarkRun). value_at r k) found_is ∙ from_start runs m k (omega arith)
 
-none_left : {A : Type 0} (i : ℕ) (xs : List A) → length xs ≤ i → drop i xs ≡ []
-none_left {A} zero [] h = refl
-none_left {A} (suc i) [] h = refl
-none_left {A} zero (x ∷ xs) h = absurd (omega arith)
-none_left {A} (suc i) (x ∷ xs) h = none_left i xs (omega arith)
-
 -- the last link is closed
 pub compounds_done : (paint : ℕ → ContentStyle → ContentStyle) (has : Flags → Bool) (a : List MarkRun) (skin : RowSkin) (style : LineStyle) (addresses : List (Option (List ℕ))) (row : List ℕ × Option ℕ) (old new : List ℕ) (said : List LinkedPiece) (ks : List Compound) (i n : ℕ) → length ks ≤ i
     → pieces_on addresses row (linked_compounds paint has a skin style n (drop i ks)) ≡ pieces_on addresses (old, None) said → new ≡ row.0 ++ change_bytes addresses row.1 None → new ≡ old ++ linked_bytes addresses said
 compounds_done paint has a skin style addresses row old new said ks i n h before is =
-    is ∙ ap (λ (r : List ℕ × Option ℕ). r.0 ++ change_bytes addresses r.1 None) (sym (ap (λ l. pieces_on addresses row (linked_compounds paint has a skin style n l)) (none_left i ks h)) ∙ before)
+    is ∙ ap (λ (r : List ℕ × Option ℕ). r.0 ++ change_bytes addresses r.1 None) (sym (ap (λ l. pieces_on addresses row (linked_compounds paint has a skin style n l)) (drop_all i ks h)) ∙ before)
     ∙ on_end addresses (old, None) said
 
 -- ---- a composite
@@ -180,7 +174,7 @@ cell_gone paint has runs skin a old one new all ns next cs i n d h one_is n_is n
 
 pub cells_done : (paint : ℕ → ContentStyle → ContentStyle) (has : CompositeKind → Flags → Bool) (runs : List MarkRun) (skin : RowSkin) (a : List (Option (List ℕ))) (now all ns : List ℕ) (cs : List FmtComposite) (i : ℕ) → length cs ≤ i
     → now ++ linked_bytes a (linked_cells paint has runs skin ns (drop i cs)) ≡ all → now ≡ all
-cells_done paint has runs skin a now all ns cs i h before = sym (append-nil now) ∙ sym (ap (λ l. now ++ linked_bytes a (linked_cells paint has runs skin ns l)) (none_left i cs h)) ∙ before
+cells_done paint has runs skin a now all ns cs i h before = sym (append-nil now) ∙ sym (ap (λ l. now ++ linked_bytes a (linked_cells paint has runs skin ns l)) (drop_all i cs h)) ∙ before
 
 -- a row of cells between blanks
 pub row_bytes : (paint : ℕ → ContentStyle → ContentStyle) (has : CompositeKind → Flags → Bool) (runs : List MarkRun) (skin : RowSkin) (outer : Option ℕ) (filled : Bool) (ns : List ℕ) (cells : List FmtComposite) (a : List (Option (List ℕ))) (before after : Spaces) (old one two three new : List ℕ)

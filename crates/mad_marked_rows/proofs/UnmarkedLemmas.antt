@@ -18,8 +18,8 @@ use Rattle.mad_rows.specs.Rows.{cell_pieces, composite_pieces, compound_piece, i
 use Rattle.mad_rows.specs.declared.row_skin.RowSkin.{RowSkin}
 use Rattle.mad_mark_runs.specs.Marks.{blank_value, value_at}
 use Rattle.mad_marks.specs.RowMarks.{counted}
-use Rattle.mad_marked_text.specs.MarkedTexts.{goes_on, LetterPart, letters_of, mark_value, number_next, part_piece, parts_from, text_pieces}
-use Rattle.mad_marked_rows.specs.Laws.{AreWholeTexts, IsWholeText}
+use Rattle.mad_marked_rows.specs.MarkedTexts.{goes_on, LetterPart, letters_of, mark_value, number_next, part_piece, parts_from, text_pieces}
+use Rattle.mad_marked_rows.specs.RowLaws.{AreWholeTexts, IsWholeText}
 use Rattle.mad_marked_rows.specs.MarkedRows.{marked_cells, marked_composite, marked_compounds, marked_line}
 
 none_by : (n : ℕ) (w : Bool) → cond w (blank_value [] n) (value_at [] n) ≡ 0

@@ -1,4 +1,13 @@
-pub mod Laws
 pub mod LinkLaws
 pub mod LinkedRows
+pub mod LinkedTexts
 pub mod MarkedRows
+pub mod MarkedTexts
+pub mod Openings
+pub mod Paints
+pub mod RowLaws
+pub mod Seen
+pub mod SeenLaws
+pub mod Told
+pub mod ToneLaws
+pub mod Written

@@ -14,10 +14,10 @@ use Rattle.mad_rows.specs.declared.row_skin.RowSkin.{RowSkin}
 use Rattle.mad_links.specs.LinkRows.{AreAddresses, linked_bytes, row_cells}
 use Rattle.mad_links.specs.LinkTerminal.{LinkPaints}
 use Rattle.mad_links.specs.SkippingTerminal.{after_skipping}
-use Rattle.mad_link_rows.specs.LinkedAreas.{without_links}
+use Rattle.mad_links.specs.LinkedAreas.{without_links}
 use Rattle.mad_mark_runs.specs.declared.mark_runs.MarkRun.{MarkRun}
-use Rattle.mad_marked_text.specs.Laws.{told_cell, told_cells, TellsNothing}
-use Rattle.mad_marked_rows.specs.Laws.{AreTexts}
+use Rattle.mad_marked_rows.specs.Told.{told_cell, told_cells, TellsNothing}
+use Rattle.mad_marked_rows.specs.RowLaws.{AreTexts}
 use Rattle.mad_marked_rows.specs.LinkedRows.{linked_line}
 use Rattle.mad_marked_rows.specs.MarkedRows.{marked_line}
 

@@ -13,11 +13,11 @@ use Rattle.mad_rows.specs.RowStyles.{compound_style, line_style}
 use Rattle.mad_rows.specs.Rows.{compound_piece, left_of_place, line_pieces, margins_of, right_of_place, row_columns, vertical_piece}
 use Rattle.mad_rows.specs.declared.row_skin.RowSkin.{RowSkin}
 use Rattle.mad_links.specs.LinkRows.{LinkedPiece}
-use Rattle.mad_link_rows.specs.LinkedAreas.{in_no_link}
-use Rattle.mad_link_rows.specs.LinkedLines.{composite_links}
+use Rattle.mad_links.specs.LinkedAreas.{in_no_link}
+use Rattle.mad_links.specs.LinkedLines.{composite_links}
 use Rattle.mad_mark_runs.specs.declared.mark_runs.MarkRun.{MarkRun}
 use Rattle.mad_marks.specs.RowMarks.{counted}
-use Rattle.mad_marked_text.specs.LinkedTexts.{text_links}
+use Rattle.mad_marked_rows.specs.LinkedTexts.{text_links}
 
 -- a compound before which so many counted characters are: its parts in their links where it is counted, else its piece, in none
 abbrev pub linked_compound : (ℕ → ContentStyle → ContentStyle) → (Flags → Bool) → List MarkRun → RowSkin → LineStyle → ℕ → Compound → List LinkedPiece

@@ -14,7 +14,7 @@ use Rattle.mad_rows.specs.Rows.{compound_piece, inner_blanks, line_pieces, margi
 use Rattle.mad_rows.specs.declared.row_skin.RowSkin.{RowSkin}
 use Rattle.mad_mark_runs.specs.declared.mark_runs.MarkRun.{MarkRun}
 use Rattle.mad_marks.specs.RowMarks.{counted}
-use Rattle.mad_marked_text.specs.MarkedTexts.{text_pieces}
+use Rattle.mad_marked_rows.specs.MarkedTexts.{text_pieces}
 
 -- a compound before which so many counted characters are: its parts where it is counted, else its piece
 abbrev pub marked_compound : (ℕ → ContentStyle → ContentStyle) → (Flags → Bool) → List MarkRun → RowSkin → LineStyle → ℕ → Compound → List RowPiece

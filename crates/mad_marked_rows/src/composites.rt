@@ -3,16 +3,16 @@
 ghost use Rattle.std.specs.Prelude.{◌≡◌, ◌++◌, OnOk, string_bytes};
 ghost use Rattle.mad_links.specs.LinkRows.{linked_bytes};
 ghost use Rattle.mad_marked_rows.specs.LinkedRows.{linked_composite};
-ghost use Rattle.mad_marked_text.specs.Paints.{paint_by};
+ghost use Rattle.mad_marked_rows.specs.Paints.{paint_by};
 ghost use Rattle.mad_mark_runs.specs.Values.{AreRising};
 ghost use Rattle.mad_marks.specs.LineMarks.{has_mark};
 
 use crate::compounds::append_compounds;
+use crate::cursors::MarkCursor;
 use crate::fronts::{End, Front, blanks_beside, inner_blanks};
 use crate::lines::MarkedSkin;
 use mad_format::FmtComposite;
 use mad_mark_runs::runs_from;
-use mad_marked_text::MarkCursor;
 use mad_rows::RowPlace;
 use std::alloc::AllocError;
 

@@ -4,15 +4,16 @@ ghost use Rattle.std.specs.Prelude.{◌≡◌, ◌+◌, ◌++◌, IfOk, OnOk, st
 ghost use Rattle.mad_links.specs.LinkRows.{linked_bytes};
 ghost use Rattle.mad_md.specs.Flagged.{flagged_of};
 ghost use Rattle.mad_marked_rows.specs.LinkedRows.{linked_compound, linked_compounds};
-ghost use Rattle.mad_marked_text.specs.LinkedTexts.{pieces_on};
-ghost use Rattle.mad_marked_text.specs.MarkedTexts.{SameFrom};
-ghost use Rattle.mad_marked_text.specs.Paints.{paint_by};
+ghost use Rattle.mad_marked_rows.specs.LinkedTexts.{pieces_on};
+ghost use Rattle.mad_marked_rows.specs.MarkedTexts.{SameFrom};
+ghost use Rattle.mad_marked_rows.specs.Paints.{paint_by};
 ghost use Rattle.mad_marks.specs.LineMarks.{has_mark};
 ghost use Rattle.mad_marks.specs.RowMarks.{counted};
 
+use crate::cursors::MarkCursor;
 use crate::lines::MarkedSkin;
+use crate::texts::append_marked_text;
 use mad_links::push_end;
-use mad_marked_text::{MarkCursor, append_marked_text};
 use mad_marks::has_mark;
 use mad_md::Compound;
 use mad_style::{CompositeKind, LineStyle};

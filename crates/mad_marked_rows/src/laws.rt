@@ -1,7 +1,9 @@
-//! What callers rely on.
+//! What callers rely on: laws, each a function that does nothing and states it.
 
-ghost use Rattle.mad_marked_rows.specs.Laws.{MarksChangeNothingTold, MarksFillAsNone, NoRunsNoChange};
 ghost use Rattle.mad_marked_rows.specs.LinkLaws.{LinesAreTheSame, LinkedCellsAreTold, LinksAreInTheirCells, LinksAreOnMarks, NoAddressNoByte};
+ghost use Rattle.mad_marked_rows.specs.RowLaws.{MarksChangeNothingTold, MarksFillAsNone, NoRunsNoChange};
+ghost use Rattle.mad_marked_rows.specs.SeenLaws.{SeenAreShown};
+ghost use Rattle.mad_marked_rows.specs.ToneLaws.{TonesChangeForegroundsAlone};
 
 /// What a plain terminal shows of a line with marks is what it shows of the line without, but for what they make of styles.
 #[tactic(auto, using(crate::proofs::LawLemmas::line_told))]
@@ -49,4 +51,15 @@ pub fn links_are_in_their_cells()
 #[tactic(auto, using(crate::proofs::LinkLawLemmas::linked_told))]
 pub fn linked_cells_are_told()
     ensures { LinkedCellsAreTold }
+{}
+
+/// Where tones set a foreground alone, the cells of a line with tones are, but for their foregrounds, those of the line without.
+pub fn tones_change_foregrounds_alone()
+    ensures { TonesChangeForegroundsAlone }
+{}
+
+/// The characters of a composite, each in its style, are those that its row shows with its marks.
+#[tactic(auto, using(crate::proofs::ShownLemmas::seen_shown))]
+pub fn seen_are_shown()
+    ensures { SeenAreShown }
 {}

@@ -3,16 +3,16 @@
 ghost use Rattle.std.specs.Prelude.{◌≡◌, ◌++◌, OnOk, drop, slice_index, string_bytes};
 ghost use Rattle.mad_links.specs.LinkRows.{linked_bytes};
 ghost use Rattle.mad_marked_rows.specs.LinkedRows.{linked_cells, linked_line, linked_table_row};
-ghost use Rattle.mad_marked_text.specs.Paints.{paint_by};
+ghost use Rattle.mad_marked_rows.specs.Paints.{paint_by};
 ghost use Rattle.mad_mark_runs.specs.Values.{AreRising};
 ghost use Rattle.mad_marks.specs.LineMarks.{has_mark};
 
 use crate::composites::append_composite;
 use crate::fronts::{spaces_beside, vertical};
+use crate::paints::Paint;
 use mad_format::{FmtComposite, FmtLine};
 use mad_links::LinkAddress;
 use mad_mark_runs::MarkRun;
-use mad_marked_text::Paint;
 use mad_rows::{PlacedComposite, PlacedLine, RowPlace, RowSkin, line_blanks};
 use std::alloc::AllocError;
 

@@ -33,6 +33,7 @@ table_told (Some (a ∷ others)) cells = refl
 table_told (Some []) cells = refl
 table_told None cells = refl
 
+-- what a table part is read as is of a table, a rule or a row
 pub part_told : (text : List ℕ) → told_kind (part_of text) ≡ kinds.Table
 part_told text = table_told _ _
 
@@ -105,6 +106,7 @@ stripped_by true (b ∷ c ∷ cs) h = let size : length (b ∷ c ∷ cs) - 1 ≡
 stripped_by false [] h = tt
 stripped_by false (b ∷ bs) h = h
 
+-- a line that begins with no backquote, bar, space or tab is alone
 pub alone_part : (line part : List ℕ) → MayNotGoOn line → line ≡ part ++ 10 ∷ [] → kind_of_line false (strip_carriage_return part) ≡ kinds.Alone
 alone_part line part h is = alone_line (strip_carriage_return part) (stripped_by (get_or part (length part - 1) 0 == 13) part (subst MayNotGoOn is h))
 
@@ -115,9 +117,11 @@ newline_stripped line (Some x) h part is = append_cancel_right x.now part (10 �
 
 -- ---- by its text
 
+-- a fence line is told as a fence, whether one is open or not
 pub kind_fence : (fenced : Bool) (text : List ℕ) → is_fence text ≡ true → kind_of_line fenced text ≡ kinds.Fence
 kind_fence fenced text h = ap (λ t. if t then kinds.Fence else told_kind (line_of fenced unflagged text)) h
 
+-- another line is told by what it is read as
 pub kind_other : (fenced : Bool) (text : List ℕ) → is_fence text ≡ false → kind_of_line fenced text ≡ told_kind (line_of fenced unflagged text)
 kind_other fenced text h = ap (λ t. if t then kinds.Fence else told_kind (line_of fenced unflagged text)) h
 
@@ -148,10 +152,12 @@ some_text (b ∷ bs) later = omega arith
 left_is : (fenced : Bool) (part later : List ℕ) → HasNoNewline part → lines_of (resumed_text fenced (after_first is_newline (part ++ 10 ∷ later))) ≡ lines_of (resumed_text fenced later)
 left_is fenced part later h = ap (λ (t : List ℕ). lines_of (resumed_text fenced t)) (after_newline part later h)
 
+-- a fence line in front opens or closes a fence before the lines after it
 pub resumed_fence : (fenced : Bool) (part later : List ℕ) → HasNoNewline part → is_fence (strip_carriage_return part) ≡ true → lines_of (resumed_text fenced (part ++ 10 ∷ later)) ≡ lines_of (resumed_text (not fenced) later)
 resumed_fence fenced part later h fence =
     lines_fence (resumed_text fenced (part ++ 10 ∷ later)) (some_text part later) (ap (λ p. is_fence (strip_carriage_return p)) (before_newline part later h) ∙ fence) ∙ left_is (not fenced) part later h
 
+-- another line in front is the first, and those after it follow
 pub resumed_line : (fenced : Bool) (part later : List ℕ) → HasNoNewline part → is_fence (strip_carriage_return part) ≡ false
     → lines_of (resumed_text fenced (part ++ 10 ∷ later)) ≡ line_of fenced unflagged (strip_carriage_return part) ∷ lines_of (resumed_text fenced later)
 resumed_line fenced part later h other =
@@ -159,5 +165,6 @@ resumed_line fenced part later h other =
     ∙ ap (λ p. line_of fenced unflagged (strip_carriage_return p) ∷ lines_of (resumed_text fenced (after_first is_newline (part ++ 10 ∷ later)))) (before_newline part later h)
     ∙ ap (λ ls. line_of fenced unflagged (strip_carriage_return part) ∷ ls) (left_is fenced part later h)
 
+-- an empty text has no line
 pub resumed_none : (fenced : Bool) → lines_of (resumed_text fenced []) ≡ []
 resumed_none fenced = lines_none (resumed_text fenced []) refl

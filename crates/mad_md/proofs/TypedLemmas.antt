@@ -98,6 +98,7 @@ runs_typed : (source : List ℕ) (spans : List RunSpan) → AreWhole source span
 runs_typed source [] h = tt
 runs_typed source (span ∷ spans) h = (h.0.2, runs_typed source spans h.1)
 
+-- the runs of a UTF-8 text that is read by its marks are UTF-8
 pub marked_typed : (text : List ℕ) (carried : Flags) → IsUtf8 text → AllByRecursion IsTypedRun (map (run_at text) (runs_with carried 0 (items_of carried text)))
 marked_typed text carried u = runs_typed text (runs_with carried 0 (items_of carried text)) (marked_said text text 0 carried ([], sym (append-nil text)) u).1
 
@@ -182,6 +183,7 @@ form_typed Rule carried rest h u = tt
 form_typed (Continuing style) carried rest h u = record { style = h; runs = marked_typed rest carried u }
 form_typed (Separate style) carried rest h u = record { style = h; runs = marked_typed rest unflagged u }
 
+-- a line of UTF-8 text is as its types promise
 pub line_typed : (fenced : Bool) (carried : Flags) (text : List ℕ) → IsUtf8 text → IsTypedLine (line_of fenced carried text)
 unfolding line_of
 line_typed true carried text u = code_typed text u
@@ -216,10 +218,12 @@ texts_utf8 text u =
     let parts = slice_split is_newline text in
     stripped (without_last_empty parts) (all_but_last IsUtf8 (λ part. length part == 0) parts (parts_utf8 parts (subst IsUtf8 (sym (split_is_parts text).joined) u)))
 
+-- the lines of what is left are as their types promise, where it is UTF-8
 pub lines_typed : (unread : Unread) → IsUtf8 unread.text → AllByRecursion IsTypedLine (lines_of unread)
 unfolding lines_of
 lines_typed unread u = texts_typed unread.continue_spans unread.fenced unread.carried (texts_of unread.text) (texts_utf8 unread.text u)
 
+-- the lines that are read of a UTF-8 text are as their types promise
 pub read_lines_are_typed : ReadLinesAreTyped
 read_lines_are_typed unread lines u h =
     let own : IsRead unread (lines_of unread) = one_reading unread u in

@@ -39,6 +39,7 @@ pub record LinksIn : Type 0 where
   pub from : ℕ
   pub to : ℕ
 
+-- the line of a link is one of those from one on up to another
 abbrev pub is_in : ℕ → ℕ → LinkSaid → Bool
 is_in from to link = nat_le from link.line && nat_lt link.line to
 
@@ -50,6 +51,7 @@ number_after n = min (n + 1) (2 ^ 32 - 1)
 abbrev pub link_said : ℕ → ℕ → ℕ → LinkSaid → List LineContent
 link_said from to n link = if is_in from to link then raw_line (OrderedListItem 0 (number_after n)) link.address ∷ [] else []
 
+-- the addresses of these links as items, or a line that says that there are none
 abbrev pub links_listed : LinksIn → List LineContent
 links_listed l = or_said NO_LINKS.now (items_by (link_said l.from l.to) 0 l.links)
 
@@ -60,10 +62,12 @@ pub record Headed : Type 0 where
   pub level : ℕ
   pub runs : List Run
 
+-- what a line of this kind says as a header, if it is one
 abbrev pub headed : CompositeStyle → List Run → Option Headed
 headed (Header level) runs = Some (record { level = level; runs = runs })
 headed style runs = None
 
+-- what a line says as a header, if it is one
 abbrev pub header_of : LineContent → Option Headed
 header_of (normal l) = headed l.style l.runs
 header_of l = None
@@ -72,6 +76,7 @@ header_of l = None
 abbrev pub item_style : Bool → ℕ → CompositeStyle
 item_style chosen level = if chosen then ListItem (min (2 * (level - 1)) 255) else ListItemFollowUp (min (2 * (level - 1)) 255)
 
+-- a header as an item, if there is one
 abbrev pub header_item : Bool → Option Headed → List LineContent
 header_item chosen None = []
 header_item chosen (Some h) = normal (record { style = item_style chosen h.level; runs = h.runs }) ∷ []
@@ -80,6 +85,7 @@ header_item chosen (Some h) = normal (record { style = item_style chosen h.level
 abbrev pub header_said : ℕ → ℕ → LineContent → List LineContent
 header_said chosen n l = header_item (n == chosen) (header_of l)
 
+-- the headers of a text as items, one of them chosen, or a line that says that there are none
 abbrev pub headers_listed : List LineContent → ℕ → List LineContent
 headers_listed text chosen = or_said NO_HEADERS.now (items_by (header_said chosen) 0 text)
 
@@ -90,6 +96,7 @@ pub record TextSaid : Type 0 where
   pub lines : List LineContent
   pub links : Option (List LinkSaid)
 
+-- what a text says that is paged
 abbrev pub text_said : PagedText → TextSaid
 text_said (Lines source) = record { lines = paged_lines (Lines source); links = None }
 text_said (Markdown markdown) = record { lines = paged_lines (Markdown markdown); links = Some (links_said markdown.now) }
@@ -100,6 +107,7 @@ pub data Content : Type 0 where
   addresses : LinksIn → Content
   headers : List LineContent → ℕ → Content
 
+-- the lines of what is shown
 abbrev pub content_lines : Content → List LineContent
 content_lines (a_text text) = text.lines
 content_lines (addresses links) = links_listed links
@@ -111,6 +119,7 @@ content_of (Text text) = a_text (text_said text)
 content_of (Links markdown from to) = addresses (record { links = links_said markdown.now; from = from; to = to })
 content_of (Contents text chosen) = headers (paged_lines text) chosen
 
+-- the lines of what a session shows
 abbrev pub source_lines : Source → List LineContent
 source_lines source = content_lines (content_of source)
 
@@ -134,10 +143,12 @@ next n = min (n + 1) (2 ^ 64 - 1)
 abbrev pub next_part : ℕ → LineContent → List LineContent → ℕ
 next_part part l ls = if joins_next l ls then part else next part
 
+-- there is a header
 abbrev pub is_headed : Option Headed → Bool
 is_headed None = false
 is_headed (Some h) = true
 
+-- a line is a header
 abbrev pub is_header_line : LineContent → Bool
 is_header_line l = is_headed (header_of l)
 

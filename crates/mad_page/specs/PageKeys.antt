@@ -157,10 +157,11 @@ after_key key p =
     if p.has_colon then record { page = record p { has_colon = false }; ask = file_ask p.files key }
     else after_command (command_of key) p
 
--- what the left button does on the bar: the page goes where it is pressed, and follows it until it comes up
+-- what the left button does when it is pressed on the bar: the page goes there, and holds the bar
 abbrev pub pressed : ℕ → ℕ → Page → Page
 pressed x y p = if is_on_bar p x y then record (at_bar p y) { holds_bar = true } else p
 
+-- what the mouse does while that button is down: a page that holds the bar goes there
 abbrev pub dragged : ℕ → Page → Page
 dragged y p = if p.holds_bar then at_bar p y else p
 
@@ -173,6 +174,7 @@ after_kind (MouseEventKind.Drag Left) x y p = dragged y p
 after_kind (MouseEventKind.Up Left) x y p = record p { holds_bar = false }
 after_kind kind x y p = p
 
+-- a page after what the mouse did
 abbrev pub after_mouse : MouseEvent → Page → Page
 after_mouse mouse p = after_kind mouse.kind mouse.column mouse.row p
 

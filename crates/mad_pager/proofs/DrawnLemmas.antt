@@ -47,10 +47,11 @@ use Rattle.mad_pager.specs.Sessions.{State, field_row, last_row, prompt_cell, te
 -- ---- what is shown
 
 -- the columns of a layout are drawn, beside a bar too
-drawn_wide : (bar : Option ScrollBar) (width : ℕ) → width - 1 ≤ columns_beside bar width
+pub drawn_wide : (bar : Option ScrollBar) (width : ℕ) → width - 1 ≤ columns_beside bar width
 drawn_wide None width = omega arith
 drawn_wide (Some bar) width = omega arith
 
+-- rows that were drawn beside the bar are the text's rows there, where the premises hold
 pub lines_shown : (skin : MadSkin) (s : State) (old new : Trace) → 5 ≤ s.page.columns → ShowsLayoutBeside (paged_skin skin) (bar_of skin s) s.lines (area_of s) s.page.top old new
     → KeepsTextPremises skin s → TookWith old new (AreShownBeside (bar_of skin s) (text_rows skin s) (area_of s))
 lines_shown skin s old new wide h keeps =
@@ -183,6 +184,7 @@ status_drawn name words s dress line area old new dressed said is at drawn =
 showing : (skin : MadSkin) (name : List ℕ) (asks : Bool) (s : State) (bytes : List ℕ) → IsPicture skin name s bytes → IsShowing skin name asks s (question asks ++ bytes)
 showing skin name asks s bytes h = record { picture = bytes; is = refl; shows = h }
 
+-- the question and the picture went out and were flushed
 pub shown_whole : (skin : MadSkin) (name : List ℕ) (asks : Bool) (s : State) (bytes : List ℕ) (old mid new done : Trace)
     → IsPicture skin name s bytes → mid ≡ after old (question asks) → new ≡ after mid bytes → done ≡ flushed new → IsShown skin name asks s old done
 shown_whole skin name asks s bytes old mid new done h a b c =

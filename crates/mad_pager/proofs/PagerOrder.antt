@@ -39,10 +39,11 @@ settled_leaf old new h settled = record { same = same_leaf old new h; settled = 
 pub stepped_leaf : (event : Event) (old new : Session) → HasSameText old new → IsEventStep old.text.skin.now (source_lines old.source) event (state_of old) (state_of new) → IsLeafStep event (leaf_of old) (leaf_of new)
 stepped_leaf event old new h step = record { same = same_leaf old new h; step = step }
 
--- a page is opened over the text, or not
+-- a page is opened over the text
 pub covered_so : (opened : Option Overlay) (overlay : Overlay) (below start : Leaf) (over : Option Leaf) → opened ≡ Some overlay → IsOverStart overlay below start → over ≡ Some start → IsCovered opened below over
 covered_so opened overlay below start over is begun e = subst (λ (o : Option Overlay). IsCovered o below over) (sym is) (start, begun, e)
 
+-- no page is opened over it
 pub covered_not : (opened : Option Overlay) (below : Leaf) (over : Option Leaf) → opened ≡ None → over ≡ None → IsCovered opened below over
 covered_not opened below over is none = subst (λ (o : Option Overlay). IsCovered o below over) (sym is) none
 

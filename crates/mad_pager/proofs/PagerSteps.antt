@@ -20,23 +20,29 @@ use Rattle.mad_pager.specs.declared.sizes.ScreenSize.{ScreenSize}
 
 -- ---- which is shown
 
+-- an event is done on the page over the text, while one is open
 pub step_over : (event : Event) (over : Option Session) (page : Session) (text : Leaf) (new : View) → over ≡ Some page → IsOverStep event (leaf_of page) text new → IsStepIn (option_map leaf_of over) event text new
 step_over event over page text new is h = subst (λ (o : Option Session). IsStepIn (option_map leaf_of o) event text new) (sym is) h
 
+-- it is done on the text, while none is open
 pub step_below : (event : Event) (over : Option Session) (text : Leaf) (new : View) → over ≡ None → IsTextStep event text new → IsStepIn (option_map leaf_of over) event text new
 step_below event over text new is h = subst (λ (o : Option Session). IsStepIn (option_map leaf_of o) event text new) (sym is) h
 
+-- the pager goes on as the page over the text says, while one is open
 pub turn_at_over : (event : Event) (over : Option Session) (page : Session) (text : Leaf) (turn : Turn) → over ≡ Some page → turn ≡ turn_over event (leaf_of page) → turn ≡ turn_at (option_map leaf_of over) event text
 turn_at_over event over page text turn is h = h ∙ ap (λ (o : Option Session). turn_at (option_map leaf_of o) event text) (sym is)
 
+-- it goes on as the text says, while none is open
 pub turn_at_text : (event : Event) (over : Option Session) (text : Leaf) (turn : Turn) → over ≡ None → turn ≡ turn_of event text.state → turn ≡ turn_at (option_map leaf_of over) event text
 turn_at_text event over text turn is h = h ∙ ap (λ (o : Option Session). turn_at (option_map leaf_of o) event text) (sym is)
 
 -- ---- what is answered
 
+-- what an event does on a page is what its answer does
 pub answered : (answer made : Answer) (event : Event) (over text : Leaf) (new : View) → made ≡ over_answer event over → made ≡ answer → IsAnswered answer event over text new → IsOverStep event over text new
 answered answer made event over text new e is h = subst (λ (a : Answer). IsAnswered a event over text new) (sym is ∙ e) h
 
+-- the pager goes on after it as the answer says
 pub turn_so : (answer made : Answer) (event : Event) (over : Leaf) (turn : Turn) → made ≡ over_answer event over → made ≡ answer → turn ≡ turn_answered answer event over.state → turn ≡ turn_over event over
 turn_so answer made event over turn e is h = h ∙ ap (λ (a : Answer). turn_answered a event over.state) (sym is ∙ e)
 

@@ -35,10 +35,12 @@ asked_step key s page ask new same is h =
 pub sought_step : (s new : State) (bytes text : List ℕ) → bytes ≡ text → IsAsked Next (record s { is_typing = false; sought = bytes; found = None }) new → IsAsked Next (record s { is_typing = false; sought = text; found = None }) new
 sought_step s new bytes text e h = subst (λ (b : List ℕ). IsAsked Next (record s { is_typing = false; sought = b; found = None }) new) e h
 
+-- the next row, along what is equal
 pub same_next : (a b : List ℕ) (l m : List FmtLine) (t u : List ℕ) (from to : ℕ) (row : Option ℕ) → a ≡ b → l ≡ m → t ≡ u → from ≡ to → IsNextRowIn a l t from row → IsNextRowIn b m u to row
 same_next a b l m t u from to row e k i f h =
     subst (λ (n : ℕ). IsNextRowIn b m u n row) f (subst (λ (y : List ℕ). IsNextRowIn b m y from row) i (subst (λ (x : List FmtLine). IsNextRowIn b x t from row) k (subst (λ (x : List ℕ). IsNextRowIn x l t from row) e h)))
 
+-- the previous row, along what is equal
 pub same_previous : (a b : List ℕ) (l m : List FmtLine) (t u : List ℕ) (end to : ℕ) (row : Option ℕ) → a ≡ b → l ≡ m → t ≡ u → end ≡ to → IsPreviousRowIn a l t end row → IsPreviousRowIn b m u to row
 same_previous a b l m t u end to row e k i f h =
     subst (λ (n : ℕ). IsPreviousRowIn b m u n row) f (subst (λ (y : List ℕ). IsPreviousRowIn b m y end row) i (subst (λ (x : List FmtLine). IsPreviousRowIn b x t end row) k (subst (λ (x : List ℕ). IsPreviousRowIn x l t end row) e h)))
@@ -51,10 +53,11 @@ laid_at skin text columns width lines e h = subst (λ (n : ℕ). IsLayoutAt (lin
 pub starts_at : (skin : MadSkin) (text : List LineContent) (columns width : ℕ) (starts : List ℕ) → width ≡ columns - 1 → ArePartStarts (line_rules (row_skin skin)) width text starts → AreStartsFor skin text columns starts
 starts_at skin text columns width starts e h = subst (λ (n : ℕ). ArePartStarts (line_rules (row_skin skin)) n text starts) e h
 
--- a text that is laid out anew, or not
+-- a text that is laid out anew for the size that was told
 pub settled_some : (skin : MadSkin) (text : List LineContent) (told : Option ScreenSize) (size : ScreenSize) (s new : State) → told ≡ Some size → IsResized skin text size.columns size.rows s new → IsLaidAnew told skin text s new
 settled_some skin text told size s new is h = subst (λ (o : Option ScreenSize). IsLaidAnew o skin text s new) (sym is) h
 
+-- without such a size it stays
 pub settled_none : (skin : MadSkin) (text : List LineContent) (told : Option ScreenSize) (s : State) → told ≡ None → IsLaidAnew told skin text s s
 settled_none skin text told s is = subst (λ (o : Option ScreenSize). IsLaidAnew o skin text s s) (sym is) refl
 

@@ -45,6 +45,7 @@ pub record Leaf : Type 0 where
   pub content : Content
   pub state : State
 
+-- what this session shows
 abbrev pub leaf_of : Session → Leaf
 leaf_of s = record { skin = s.text.skin.now; name = s.name.now; content = content_of s.source; state = state_of s }
 
@@ -57,6 +58,7 @@ pub record View : Type 0 where
   pub text : Leaf
   pub over : Option Leaf
 
+-- what this pager has
 abbrev pub view_of : Pager → View
 view_of p = record { text = leaf_of p.text; over = option_map leaf_of p.over }
 
@@ -65,6 +67,7 @@ abbrev pub leaf_or : Leaf → Option Leaf → Leaf
 leaf_or text None = text
 leaf_or text (Some over) = over
 
+-- the one that a pager shows
 abbrev pub shown : View → Leaf
 shown v = leaf_or v.text v.over
 
@@ -121,6 +124,7 @@ links_in lines links s =
       to = lines_before numbers (next (part_of s.starts (last_row_of s.page)));
     }
 
+-- the page for these links of a text; without a list of links it says that the text can't have some
 abbrev pub links_page_of : Option (List LinkSaid) → List LineContent → State → Content
 links_page_of None lines s = a_text (record { lines = lines_of (unread_text false NEVER_LINKS.now); links = None })
 links_page_of (Some links) lines s = addresses (links_in lines links s)
@@ -156,10 +160,12 @@ abbrev pub has_choice : Content → Bool
 has_choice (headers text chosen) = true
 has_choice content = false
 
+-- the code of Enter
 abbrev pub is_enter_code : KeyCode → Bool
 is_enter_code Enter = true
 is_enter_code code = false
 
+-- Enter without modifiers
 abbrev pub is_enter : KeyEvent → Bool
 is_enter key = key.modifiers.0 == 0 && is_enter_code key.code
 
@@ -187,6 +193,7 @@ abbrev pub choice_after : KeyEvent → State → ℕ → ℕ
 choice_after key s chosen =
     (after_key key (record { columns = s.page.columns; rows = 2; height = length s.starts - 1; top = chosen; count = s.page.count; holds_bar = false; has_colon = false; files = s.page.files })).page.top
 
+-- the content after a key that chooses: another header is chosen, where it has headers
 abbrev pub content_chosen : KeyEvent → State → Content → Content
 content_chosen key s (headers text chosen) = headers text (choice_after key s chosen)
 content_chosen key s content = content
@@ -196,6 +203,7 @@ abbrev pub size_or : Option ScreenSize → Page → ScreenSize
 size_or None page = record { columns = page.columns; rows = page.rows }
 size_or (Some size) page = size
 
+-- the size that this session is to be laid out for
 abbrev pub size_to_lay : State → ScreenSize
 size_to_lay s = size_or s.told s.page
 
@@ -243,6 +251,7 @@ pub record IsDoneOver (event : Event) (page below : Leaf) (new : View) : Type 0 
   pub over : new.over ≡ Some after
   pub text : new.text ≡ hearing event below
 
+-- what an event does on a page over a text, by how the page answers it
 abbrev pub IsAnswered : Answer → Event → Leaf → Leaf → View → Type 0
 IsAnswered Closes event over text new = IsClosed text new
 IsAnswered Takes event over text new = IsTaken over text new
@@ -255,6 +264,7 @@ IsOverStep event over text new = IsAnswered (over_answer event over) event over 
 
 -- ---- what events do
 
+-- what an event does on a text, or on the page over it, while one is open
 abbrev pub IsStepIn : Option Leaf → Event → Leaf → View → Type 0
 IsStepIn None event text new = IsTextStep event text new
 IsStepIn (Some over) event text new = IsOverStep event over text new
@@ -268,13 +278,16 @@ abbrev pub turn_answered : Answer → Event → State → Turn
 turn_answered Passes event s = turn_of event s
 turn_answered answer event s = Goes
 
+-- how the pager goes on after an event on this page over the text
 abbrev pub turn_over : Event → Leaf → Turn
 turn_over event over = turn_answered (over_answer event over) event over.state
 
+-- how it goes on after an event on the text, or on the page over it, while one is open
 abbrev pub turn_at : Option Leaf → Event → Leaf → Turn
 turn_at None event text = turn_of event text.state
 turn_at (Some over) event text = turn_over event over
 
+-- how it goes on after an event
 abbrev pub turn_in : Event → View → Turn
 turn_in event v = turn_at v.over event v.text
 
@@ -290,23 +303,27 @@ abbrev pub sighted : Content → State → State
 sighted (headers text chosen) s = record s { page = in_sight s.page (slice_index s.starts chosen) }
 sighted content s = s
 
+-- what is shown, with the header that is chosen on the screen
 abbrev pub in_sight_of : Leaf → Leaf
 in_sight_of l = record l { state = sighted l.content l.state }
 
+-- the page over a text, while one is open, is laid out so, and the header that is chosen is on the screen
 abbrev pub IsOverSettled : Option Leaf → Option Leaf → Type 0
 IsOverSettled None new = new ≡ None
 IsOverSettled (Some over) new = (mid : Leaf) × IsLeafSettled over mid × (new ≡ Some (in_sight_of mid))
 
--- so are the text and the page over it, on which the header that is chosen is on the screen
+-- the text is laid out so, and the page over it
 pub record IsViewSettled (old new : View) : Type 0 where
   pub text : IsLeafSettled old.text new.text
   pub over : IsOverSettled old.over new.over
 
 -- ---- what is shown
 
+-- the session of what is shown is orderly
 abbrev pub IsOrderlyLeaf : Leaf → Type 0
 IsOrderlyLeaf l = IsOrderly l.skin (leaf_lines l) l.state
 
+-- so is that of the page over a text, while one is open
 abbrev pub IsOrderlyOver : Option Leaf → Type 0
 IsOrderlyOver None = Unit {0}
 IsOrderlyOver (Some over) = IsOrderlyLeaf over
@@ -320,8 +337,10 @@ pub record IsOrderlyView (v : View) : Type 0 where
 abbrev pub IsLeafShown : Bool → Leaf → Trace → Trace → Type 0
 IsLeafShown asks l old new = IsShown l.skin l.name asks l.state old new
 
+-- the screen is that of what the pager shows
 abbrev pub IsViewShown : Bool → View → Trace → Trace → Type 0
 IsViewShown asks v old new = IsLeafShown asks (shown v) old new
 
+-- what the pager shows was not shown, by this fault
 abbrev pub IsViewUnshown : Bool → View → Trace → Error → Trace → Type 0
 IsViewUnshown asks v old e new = IsUnshown (shown v).skin (shown v).name asks (shown v).state old e new

@@ -86,13 +86,17 @@ prompt_cell rows = record { left = 0; top = rows - 1; width = 1; height = 1 }
 abbrev pub field_row : ℕ → ℕ → Area
 field_row columns rows = record { left = 1; top = rows - 1; width = columns - 1; height = 1 }
 
+-- the width that a text is laid out at for a screen of these columns: one is left for a bar
+abbrev pub layout_width : ℕ → ℕ
+layout_width columns = columns - 1
+
 -- these lines are a layout of a text for a screen of these columns
 abbrev pub IsLaidFor : MadSkin → List LineContent → ℕ → List FmtLine → Type 0
-IsLaidFor skin text columns lines = IsLayoutAt (line_rules (row_skin skin)) (Some (columns - 1)) text lines
+IsLaidFor skin text columns lines = IsLayoutAt (line_rules (row_skin skin)) (Some (layout_width columns)) text lines
 
 -- in these rows its parts begin
 abbrev pub AreStartsFor : MadSkin → List LineContent → ℕ → List ℕ → Type 0
-AreStartsFor skin text columns starts = ArePartStarts (line_rules (row_skin skin)) (columns - 1) text starts
+AreStartsFor skin text columns starts = ArePartStarts (line_rules (row_skin skin)) (layout_width columns) text starts
 
 -- the start of a text on a screen of this size: its first row is on top, nothing is being typed and nothing is sought; these files are beside it
 pub record IsStart (skin : MadSkin) (text : List LineContent) (columns rows : ℕ) (files : Files) (s : State) : Type 0 where
@@ -113,6 +117,7 @@ abbrev pub start_after : Option ℕ → State → ℕ
 start_after None s = s.page.top
 start_after (Some row) s = if shows_row s.page row then min (row + 1) (2 ^ 64 - 1) else s.page.top
 
+-- where a search of this session goes on
 abbrev pub search_start : State → ℕ
 search_start s = start_after s.found s
 
@@ -121,6 +126,7 @@ abbrev pub end_before : Option ℕ → State → ℕ
 end_before None s = s.page.top
 end_before (Some row) s = if shows_row s.page row then row else s.page.top
 
+-- where one backwards of this session goes on
 abbrev pub search_end : State → ℕ
 search_end s = end_before s.found s
 
@@ -198,6 +204,7 @@ abbrev pub IsLaidAnew : Option ScreenSize → MadSkin → List LineContent → S
 IsLaidAnew None skin text s new = new ≡ s
 IsLaidAnew (Some size) skin text s new = IsResized skin text size.columns size.rows s new
 
+-- a session is laid out for the size that it was told, if it was told one
 abbrev pub IsSettled : MadSkin → List LineContent → State → State → Type 0
 IsSettled skin text s new = IsLaidAnew s.told skin text s new
 

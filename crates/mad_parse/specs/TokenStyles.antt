@@ -52,19 +52,23 @@ abbrev pub char_said : StyleToken → Option ℕ
 char_said (token.Char c) = Some c
 char_said _ = None
 
--- what tokens say of each, in order
+-- the colors that tokens say, in order
 abbrev pub colors_of : List StyleToken → List (Option Color)
 colors_of ts = filter_map color_said ts
 
+-- the attributes that they say
 abbrev pub attributes_of : List StyleToken → List Attribute
 attributes_of ts = filter_map attribute_said ts
 
+-- the alignments that they say
 abbrev pub aligns_of : List StyleToken → List Alignment
 aligns_of ts = filter_map align_said ts
 
+-- the numbers that they say
 abbrev pub numbers_of : List StyleToken → List ℕ
 numbers_of ts = filter_map number_said ts
 
+-- the characters that they say
 abbrev pub chars_of : List StyleToken → List ℕ
 chars_of ts = filter_map char_said ts
 

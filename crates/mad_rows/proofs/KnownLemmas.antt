@@ -67,6 +67,7 @@ asked_known false ps h = tt
 
 -- ---- the styles of a line and of an item
 
+-- P holds of one element more
 pub all_taken : {A : Type 0} (P : A → Type 0) (xs : List A) (i : ℕ) (x : A) → i < length xs → x ≡ get_or xs i x → AllByRecursion P (take i xs) → P x → AllByRecursion P (take (i + 1) xs)
 all_taken {A} P xs i x inside is h k = subst (AllByRecursion P) (sym (take_more xs i x inside)) (all_push P (take i xs) (get_or xs i x) h (subst P is k))
 
@@ -137,6 +138,7 @@ line_pieces_known skin outer right (TableRule rule) h =
     placed_known skin outer right (rule_columns rule.widths.items) (rule_pieces skin.table.compound_style chars rule.widths.items) h (rule_known skin.table.compound_style chars rule.widths.items h.parts.table)
 line_pieces_known skin outer right HorizontalRule h = char_repeat_known skin.horizontal_rule _ h.parts.rule
 
+-- the numbers of a row's colors are bytes, where those of its skin are
 pub row_known : (skin : RowSkin) (width : ℕ) (line : Option FmtLine) → AreKnownStyles skin → AreKnown (row_pieces skin width line)
 row_known skin width (Some line) h = line_pieces_known skin (Some width) true line h
 row_known skin width None h = spaces_known skin.paragraph.compound_style width h.parts.paragraph

@@ -76,6 +76,7 @@ between skin style p part open_bytes close_bytes other same opens closes = λ pa
     let styles : compound_style skin style (run_of part) ≡ own = style_by_flags skin style part part_other ∙ ap (flagged_style skin style) same ∙ sym (style_by_flags skin style p other) in
     ap (λ (s : CompoundStyle). piece_bytes s.object_style text) styles ∙ ap (λ (b : List ℕ). b ++ (text ++ closing_bytes own.object_style)) (sym opens) ∙ ap (λ (b : List ℕ). open_bytes ++ (text ++ b)) (sym closes)
 
+-- a compound that is plain in a line has each of its tokens written as it is
 pub written_bare : (skin : RowSkin) (style : LineStyle) (p : Compound) → IsPlainIn skin style p → IsWrittenBare (token_bytes skin style) p
 written_bare skin style p h = λ t e. ap (λ (q : Compound). run_bytes skin style (record { flags = flags_of q; text = token_text t })) e ∙ h (token_text t)
 
@@ -133,6 +134,7 @@ tokens_short max (p ∷ ps) ts (own, others, joins, first, more) = omega (arith,
 abbrev pub front_text : RowSkin → CompositeKind → ℕ → List ℕ
 front_text skin kind margin = pieces_bytes (spaces skin.paragraph.compound_style margin ++ prefix_pieces skin kind)
 
+-- lines of this style have all blank columns on their right
 abbrev pub LeftOfAll : LineStyle → Type 0
 LeftOfAll style = (rest : ℕ) → left_completion style.align rest ≡ 0
 
@@ -283,6 +285,7 @@ pub compounds_end : (write : Token → List ℕ) (later : List ℕ) (max : ℕ) 
     → WritesBefore write later max ps (drop i ps) s old n new → WritesBefore write later max ps [] s old n new
 compounds_end write later max ps i s old n new past h = subst (λ (qs : List Compound). WritesBefore write later max ps qs s old n new) (drop_all i ps past) h
 
+-- what is in front, the compounds and a newline are the written wrap of a composite
 pub wrap_written : (front : CompositeFront) (r : Room) (ps : List Compound) (max : ℕ) (later : List ℕ) (s n : FirstFit) (old mid end new : List ℕ) → max ≡ token_limit r → s ≡ at_first r → later ≡ front_bytes (later_front front)
     → mid ≡ old ++ front_bytes front → WritesBefore (token_bytes front.skin.now front.style.now) later max ps [] s mid n end → new ≡ end ++ 10 ∷ [] → WritesWrap front r ps old new
 wrap_written front r ps max later s n old mid end new max_is first later_is begun h put =

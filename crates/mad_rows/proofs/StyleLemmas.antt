@@ -16,6 +16,7 @@ use Rattle.mad_term.proofs.SameAttributes.{same_bits}
 abbrev same_color : Color → Color → Bool
 same_color = (color_equality.ghosts).eq
 
+-- what `==` answers of two styles
 abbrev pub same_style : ContentStyle → ContentStyle → Bool
 same_style = (style_equality.ghosts).eq
 
@@ -75,6 +76,7 @@ option_true None (Some b) h = absurd (false≢true h)
 option_true (Some a) None h = absurd (false≢true h)
 option_true (Some a) (Some b) h = ap Some (color_true a b h)
 
+-- where it answers true, the styles are the same
 pub same_style_true : (a b : ContentStyle) → same_style a b ≡ true → a ≡ b
 same_style_true a b h =
     let s = both_true (option_eq same_color a.foreground_color b.foreground_color) _ h in

@@ -51,9 +51,11 @@ pieces_both write later [] qs s m n a b (same, none) h = subst (λ (x : List ℕ
 pieces_both write later (p ∷ ps) qs s m n a b (put, k, rest, first, more, is) h =
     (put, k, rest ++ b, first, pieces_both write later ps qs k m n rest b more h, ap (λ (x : List ℕ). x ++ b) is ∙ append_assoc (put_bytes later put (flat_map write (piece_tokens p))) rest b)
 
+-- pieces and then others are written as all of them
 pub both_written : (write : Token → List ℕ) (later : List ℕ) (ps qs : List Piece) (s m n : FirstFit) (old mid new : List ℕ) → WritesPieces write later s ps old m mid → WritesPieces write later m qs mid n new → WritesPieces write later s (ps ++ qs) old n new
 both_written write later ps qs s m n old mid new h g = (h.0 ++ g.0, pieces_both write later ps qs s m n h.0 g.0 h.1 g.1, g.2 ∙ ap (λ (x : List ℕ). x ++ g.0) h.2 ∙ append_assoc old h.0 g.0)
 
+-- for no piece nothing is written
 pub none_written : (write : Token → List ℕ) (later : List ℕ) (s : FirstFit) (old : List ℕ) → WritesPieces write later s [] old s old
 none_written write later s old = ([], (refl, refl), sym (append-nil old))
 
@@ -72,6 +74,7 @@ word_written write later s n (x ∷ ts) width first put old new some is h bytes 
     let token : as_token p ≡ record first { width = width } = ap (λ k. record x { width = k }) (sym is) ∙ ap (λ (u : Token). record u { width = width }) same in
     piece_written write later s n p put old new (subst (λ u. Puts s u put n) (sym token) h) bytes
 
+-- for a word without tokens nothing is written
 pub no_word : (write : Token → List ℕ) (later : List ℕ) (s : FirstFit) (word : List Token) (old : List ℕ) → slice_get word 0 ≡ None → WritesPieces write later s (together word) old s old
 no_word write later s [] old none = none_written write later s old
 no_word write later s (x ∷ ts) old none = absurd (cc)
@@ -213,6 +216,7 @@ blank_with max at p t k is uncoded low high space =
 
 -- ---- tokens at an index
 
+-- one token more is written, as a part of its compound
 pub parts_more : (skin : RowSkin) (style : LineStyle) (ts : List Token) (i : ℕ) (d : Token) (old mid new : List ℕ) (part : Compound) → i < length ts → mid ≡ old ++ flat_map (token_bytes skin style) (take i ts) → part.src.now ≡ token_text (get_or ts i d)
     → flags_of part ≡ flags_of (get_or ts i d).compound → new ≡ mid ++ pieces_bytes (map (compound_piece skin style) (part ∷ [])) → new ≡ old ++ flat_map (token_bytes skin style) (take (i + 1) ts)
 parts_more skin style ts i d old mid new part inside h text flags put =
@@ -223,6 +227,7 @@ parts_more skin style ts i d old mid new part inside h text flags put =
     ap (flat_map write) (take_more ts i d inside) ∙ flat_map-append write (take i ts) (get_or ts i d ∷ []) ∙ ap (λ (x : List ℕ). flat_map write (take i ts) ++ x) (append-nil own) in
     put ∙ ap (λ (x : List ℕ). mid ++ x) is ∙ ap (λ (x : List ℕ). x ++ own) h ∙ append_assoc old (flat_map write (take i ts)) own ∙ ap (λ (x : List ℕ). old ++ x) (sym more)
 
+-- one token more is put alone, and written
 pub each_more : (write : Token → List ℕ) (later : List ℕ) (ts : List Token) (i : ℕ) (d : Token) (s m n : FirstFit) (old mid new : List ℕ) → i < length ts → WritesPieces write later s (map alone (take i ts)) old m mid
     → WritesPieces write later m (together (get_or ts i d ∷ [])) mid n new → WritesPieces write later s (map alone (take (i + 1) ts)) old n new
 each_more write later ts i d s m n old mid new inside h put =
@@ -231,6 +236,7 @@ each_more write later ts i d s m n old mid new inside h put =
 
 -- ---- tokens of a compound in a row, each of which begins before a byte
 
+-- before the first token nothing is written
 pub some_start : (write : Token → List ℕ) (later : List ℕ) (max : ℕ) (p : Compound) (at end : ℕ) (s : FirstFit) (old : List ℕ) → WritesSome write later max p at end at s old s old
 some_start write later max p at end s old = record { own = []; out = []; tokens = λ rest h. h; before = tt; writes = (refl, refl); bytes = sym (append-nil old) }
 
@@ -325,6 +331,7 @@ pub record WordsTo (write : Token → List ℕ) (later : List ℕ) (limit : ℕ)
   pub none_wide : wide ≡ true → word ≡ []
   pub rest : (more : List Token) → next more → pieces_of limit (tokens ++ more) ≡ pieces ++ left_pieces limit wide word more
 
+-- before the first compound no word has begun
 pub words_begin : (write : Token → List ℕ) (later : List ℕ) (limit : ℕ) (ps : List Compound) (s : FirstFit) (old : List ℕ) (word : List Token) → word ≡ [] → WordsTo write later limit ps (AreTokensOf limit ps) s old word 0 false s old
 words_begin write later limit ps s old word none = subst (λ w. WordsTo write later limit ps (AreTokensOf limit ps) s old w 0 false s old) (sym none) (record {
   tokens = [];
@@ -353,12 +360,14 @@ words_next write later limit ps next other s old word width wide n new f h = rec
   rest = λ more o. h.rest more (f more o);
 }
 
+-- before a compound all its tokens may come, and then those of the others
 pub compound_begins : (write : Token → List ℕ) (later : List ℕ) (limit : ℕ) (ps : List Compound) (i : ℕ) (d : Compound) (s : FirstFit) (old : List ℕ) (word : List Token) (width : ℕ) (wide : Bool) (n : FirstFit) (new : List ℕ) → i < length ps
     → WordsTo write later limit ps (AreTokensOf limit (drop i ps)) s old word width wide n new → WordsTo write later limit ps (AreLeft limit (get_or ps i d) 0 (drop (i + 1) ps)) s old word width wide n new
 compound_begins write later limit ps i d s old word width wide n new inside h =
     let is : drop i ps ≡ get_or ps i d ∷ drop (i + 1) ps = at_drop_more (λ (qs : List Compound). qs) ps i d inside in
     words_next write later limit ps _ _ s old word width wide n new (λ more o. subst (λ (qs : List Compound). AreTokensOf limit qs more) (sym is) o) h
 
+-- behind its last byte those of the others may come
 pub compound_ends : (write : Token → List ℕ) (later : List ℕ) (limit : ℕ) (ps : List Compound) (p : Compound) (at : ℕ) (others : List Compound) (s : FirstFit) (old : List ℕ) (word : List Token) (width : ℕ) (wide : Bool) (n : FirstFit) (new : List ℕ)
     → at ≡ length p.src.now → WordsTo write later limit ps (AreLeft limit p at others) s old word width wide n new → WordsTo write later limit ps (AreTokensOf limit others) s old word width wide n new
 compound_ends write later limit ps p at others s old word width wide n new end h = words_next write later limit ps _ _ s old word width wide n new (λ more o. ([], more, refl, end, o)) h
@@ -418,6 +427,7 @@ left_put : (limit : ℕ) (ps : List Compound) (ts : List Token) (width : ℕ) (w
 left_put limit ps ts width wide word more t true e is fits none over tokens = left_blank limit wide word more t (omega (arith, is, fits)) none e
 left_put limit ps ts width wide word more t false e is fits none over tokens = left_solid limit ps ts width wide word more t is none (over e) tokens e
 
+-- a token that the word can't take in is put after it; before a blank one the word is put whole, and else token by token
 pub word_puts : (write : Token → List ℕ) (later : List ℕ) (limit : ℕ) (ps : List Compound) (p : Compound) (at : ℕ) (others : List Compound) (t : Token) (s : FirstFit) (old : List ℕ) (word new_word : List Token) (width new_width : ℕ) (wide new_wide : Bool)
     (m k n : FirstFit) (mid mid' new : List ℕ) → WordsTo write later limit ps (AreLeft limit p at others) s old word width wide m mid → IsTokenAt limit p at t → (t.blank ≡ false → wide ≡ false → StopsWord limit word width t)
     → WritesPieces write later m (if t.blank then together word else map alone word) mid k mid' → WritesPieces write later k (together (t ∷ [])) mid' n new → new_word ≡ [] → new_width ≡ 0 → new_wide ≡ not t.blank
@@ -605,10 +615,12 @@ words_quick write later limit ps p at end to others s old word width wide m n mi
 words_quick write later limit ps p at end to others s old word width wide m n mid new utf8 border (inr (ends, bare, next)) early past empty narrow h own =
     words_whole write later limit ps p at end to others s old word width wide m n mid new (omega (arith, ends, past, border.0)) next empty narrow h own
 
+-- each token of such a compound is written as it is
 pub quick_bare : (write : Token → List ℕ) (p : Compound) (others : List Compound) (end : ℕ) → IsQuickTo write p others end → IsWrittenBare write p
 quick_bare write p others end (inl last) = last.bare
 quick_bare write p others end (inr (ends, bare, next)) = bare
 
+-- the byte up to which its tokens are put alone is within it
 pub quick_inside : (write : Token → List ℕ) (p : Compound) (others : List Compound) (end : ℕ) → IsQuickTo write p others end → end ≤ length p.src.now
 quick_inside write p others end (inl last) = last.inside
 quick_inside write p others end (inr (ends, bare, next)) = omega (arith, ends)
@@ -618,6 +630,7 @@ left_end : (limit : ℕ) (wide : Bool) (word : List Token) → total_width word 
 left_end limit false word fits none = word_fits limit word fits
 left_end limit true word fits none = ap together (sym (none refl))
 
+-- after the last compound the word that is left is put, and all words are written
 pub words_end : (write : Token → List ℕ) (later : List ℕ) (limit : ℕ) (ps : List Compound) (i : ℕ) (s : FirstFit) (old : List ℕ) (word : List Token) (width : ℕ) (wide : Bool) (m n : FirstFit) (mid new : List ℕ) → length ps ≤ i
     → WordsTo write later limit ps (AreTokensOf limit (drop i ps)) s old word width wide m mid → WritesPieces write later m (together word) mid n new → WritesWords write later limit ps s old new
 words_end write later limit ps i s old word width wide m n mid new past h put =
@@ -659,6 +672,7 @@ single_words write later limit ps s n old new one h =
 
 -- ---- the whole wrap
 
+-- what is in front, the words and a newline are the written wrap of a composite, with whole words
 pub word_wrap_written : (front : CompositeFront) (r : Room) (ps : List Compound) (limit : ℕ) (later : List ℕ) (s : FirstFit) (old mid end new : List ℕ) → limit ≡ token_limit r → s ≡ at_first r → later ≡ front_bytes (later_front front)
     → mid ≡ old ++ front_bytes front → WritesWords (token_bytes front.skin.now front.style.now) later limit ps s mid end → new ≡ end ++ 10 ∷ [] → WritesWordWrap front r ps old new
 word_wrap_written front r ps limit later s old mid end new limit_is first later_is begun h put =
@@ -687,6 +701,7 @@ none_at_all : (write : Token → List ℕ) (later : List ℕ) (s n : FirstFit) (
 none_at_all write later s n true old new same bytes = ([], (same, refl), bytes ∙ sym (append-nil old))
 none_at_all write later s n false old new same bytes = ([], (same, refl), bytes ∙ sym (append-nil old))
 
+-- without a word nothing is put
 pub none_begun : (write : Token → List ℕ) (later : List ℕ) (s n : FirstFit) (b : Bool) (old new : List ℕ) (word new_word : List Token) (width new_width : ℕ) → word ≡ [] → width ≡ total_width word → n ≡ s → new ≡ old → new_word ≡ word → new_width ≡ width
     → IsBegun write later s word b old n new new_word new_width
 none_begun write later s n b old new [] new_word width new_width none is same bytes same_word same_width = record { written = none_at_all write later s n b old new same bytes; none = same_word; zero = same_width ∙ is }

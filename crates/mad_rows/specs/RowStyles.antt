@@ -70,10 +70,11 @@ adds_nothing skin = sets_nothing skin.bold && sets_nothing skin.italic && sets_n
 abbrev pub with_links : RowSkin → RowSkin
 with_links skin = record skin { link = (if adds_nothing skin then unstyled else text_style None None (only Underlined)) }
 
--- the numbers of a line's colors, and of an item's, are bytes, as those of every style are that a program has
+-- the numbers of a line's colors are bytes, as those of every style are that a program has
 abbrev pub IsKnownLine : LineStyle → Type 0
 IsKnownLine s = IsStyle s.compound_style.object_style
 
+-- so are those of an item's number, and of the character after it
 abbrev pub IsKnownItem : OrderedItemStyle → Type 0
 IsKnownItem s = IsStyle s.index_style.object_style × IsStyle (char_style s.index_suffix).object_style
 
@@ -102,6 +103,7 @@ pub record AreKnownStyles (skin : RowSkin) : Type 0 where
 abbrev pub item_style_at : List OrderedItemStyle → ℕ → OrderedItemStyle
 item_style_at styles level = unwrap_or (slice_get styles (min level 3)) unstyled_item
 
+-- how items of this level look in a skin
 abbrev pub ordered_item_style : RowSkin → ℕ → OrderedItemStyle
 ordered_item_style skin level = item_style_at skin.ordered_item_styles level
 

@@ -64,20 +64,22 @@ compound_piece skin style p = run_piece skin style (run_of p)
 
 -- ---- beside it
 
--- the columns left and right of `inner` columns in a place; none where there is no place
+-- the columns left of `inner` columns in a place; none where there is no place
 abbrev pub left_of_place : Alignment → ℕ → Option ℕ → ℕ
 left_of_place align inner None = 0
 left_of_place align inner (Some outer) = left_completion align (outer - inner)
 
+-- the columns right of `inner` columns in a place; none where there is no place
 abbrev pub right_of_place : Alignment → ℕ → Option ℕ → ℕ
 right_of_place align inner None = 0
 right_of_place align inner (Some outer) = (outer - inner) - left_completion align (outer - inner)
 
--- a line's own place, and how it is aligned in it
+-- the columns of a line's own place, if it has one
 abbrev pub place_of : Option Spacing → Option ℕ
 place_of None = None
 place_of (Some s) = Some s.width
 
+-- how a line is aligned in its own place
 abbrev pub align_in : Option Spacing → Alignment
 align_in None = Unspecified
 align_in (Some s) = s.align

@@ -19,6 +19,7 @@ use Rattle.mad_term.specs.Color.{IsColor, IsColorOrNone}
 use Rattle.mad_term.specs.Commands.{numbers_bytes, command_bytes, move_to_bytes, clear_bytes, sgr_bytes}
 use Rattle.mad_term.specs.Styles.{color_bytes, color_numbers, attribute_bytes, attributes_bytes, present_bytes, foreground_bytes, background_bytes, underline_bytes, opening_bytes, closing_bytes, IsStyle}
 
+-- ASCII and ASCII after it are ASCII
 pub ascii_both : (xs ys : List ℕ) → IsAscii xs → IsAscii ys → IsAscii (xs ++ ys)
 ascii_both [] ys p q = q
 ascii_both (x ∷ xs) ys p q = IsAscii-cons x (xs ++ ys) (p 0) (ascii_both xs ys (λ i. p (suc i)) q)
@@ -31,18 +32,22 @@ ascii_after : (ns : List ℕ) → AreSmall ns → IsAscii (flat_map (λ m. 59 �
 ascii_after [] small = IsAscii-nil
 ascii_after (n ∷ ns) small = ascii_both (59 ∷ decimal n) (flat_map (λ m. 59 ∷ decimal m) ns) (IsAscii-cons 59 (decimal n) (lit< tt) (IsAscii-decimal n small.0)) (ascii_after ns small.1)
 
+-- numbers with semicolons between are ASCII
 pub ascii_numbers : (ns : List ℕ) → AreSmall ns → IsAscii (numbers_bytes ns)
 ascii_numbers [] small = IsAscii-nil
 ascii_numbers (n ∷ ns) small = ascii_both (decimal n) (flat_map (λ m. 59 ∷ decimal m) ns) (IsAscii-decimal n small.0) (ascii_after ns small.1)
 
+-- a command of such numbers is ASCII
 pub ascii_command : (numbers : List ℕ) (letter : ℕ) → AreSmall numbers → letter < 128 → IsAscii (command_bytes numbers letter)
 ascii_command numbers letter small low =
     let tail : IsAscii (numbers_bytes numbers ++ letter ∷ []) = ascii_both (numbers_bytes numbers) (letter ∷ []) (ascii_numbers numbers small) (IsAscii-cons letter [] low IsAscii-nil) in
     IsAscii-cons 27 (91 ∷ (numbers_bytes numbers ++ letter ∷ [])) (lit< tt) (IsAscii-cons 91 (numbers_bytes numbers ++ letter ∷ []) (lit< tt) tail)
 
+-- the move to a position is ASCII
 pub ascii_move_to : (x y : ℕ) → x < 2 ^ 32 → y < 2 ^ 32 → IsAscii (move_to_bytes x y)
 ascii_move_to x y small_x small_y = ascii_command ((y + 1) ∷ (x + 1) ∷ []) 72 (omega arith, (omega arith, tt)) (lit< tt)
 
+-- what clears is ASCII
 pub ascii_clear : (what : ClearType) → IsAscii (clear_bytes what)
 ascii_clear All = ascii_command (2 ∷ []) 74 (lit< tt, tt) (lit< tt)
 ascii_clear FromCursorDown = ascii_command [] 74 tt (lit< tt)
@@ -50,6 +55,7 @@ ascii_clear FromCursorUp = ascii_command (1 ∷ []) 74 (lit< tt, tt) (lit< tt)
 ascii_clear CurrentLine = ascii_command (2 ∷ []) 75 (lit< tt, tt) (lit< tt)
 ascii_clear UntilNewLine = ascii_command [] 75 tt (lit< tt)
 
+-- what changes the pen is ASCII
 pub ascii_sgr : (numbers : List ℕ) → AreSmall numbers → IsAscii (sgr_bytes numbers)
 ascii_sgr numbers small = ascii_command numbers 109 small (lit< tt)
 
@@ -59,9 +65,11 @@ small_color kind (Rgb r g b) low h = (omega arith, (lit< tt, (omega (arith, h.0)
 small_color kind (AnsiValue n) low h = (omega arith, (lit< tt, (omega (arith, h), tt)))
 small_color kind _ low h = (omega arith, (lit< tt, (lit< tt, tt)))
 
+-- the command of a color is ASCII
 pub ascii_color : (kind : ℕ) (color : Color) → kind < 2 ^ 32 → IsColor color → IsAscii (color_bytes kind color)
 ascii_color kind color low h = ascii_sgr (color_numbers kind color) (small_color kind color low h)
 
+-- the code of an attribute can be written
 pub attribute_code-lt : (a : Attribute) → attribute_code a < 2 ^ 64
 attribute_code-lt attributes.Reset = lit< tt
 attribute_code-lt Bold = lit< tt
@@ -88,6 +96,7 @@ attribute_code-lt OverLined = lit< tt
 attribute_code-lt NotFramedOrEncircled = lit< tt
 attribute_code-lt NotOverLined = lit< tt
 
+-- the command of an attribute is ASCII
 pub ascii_attribute : (a : Attribute) → IsAscii (attribute_bytes a)
 ascii_attribute a = ascii_sgr (attribute_code a ∷ []) (attribute_code-lt a, tt)
 
@@ -101,6 +110,7 @@ ascii_some s (a ∷ rest) =
     ascii_both (if has_attribute s a then attribute_bytes a else []) (flat_map (λ b. if has_attribute s b then attribute_bytes b else []) rest)
     (ascii_chosen (has_attribute s a) (attribute_bytes a) (ascii_attribute a)) (ascii_some s rest)
 
+-- the commands of a set of attributes are ASCII
 pub ascii_attributes : (s : Attributes) → IsAscii (attributes_bytes s)
 ascii_attributes s = ascii_some s all_attributes
 
@@ -108,6 +118,7 @@ ascii_present : (kind : ℕ) (color : Option Color) → kind < 2 ^ 32 → IsColo
 ascii_present kind None low h = IsAscii-nil
 ascii_present kind (Some color) low h = ascii_color kind color low h
 
+-- the commands before a text in a style are ASCII
 pub ascii_opening : (s : ContentStyle) → IsStyle s → IsAscii (opening_bytes s)
 ascii_opening s h =
     let underline : List ℕ = present_bytes underline_bytes s.underline_color in
@@ -124,6 +135,7 @@ ascii_either : (b : Bool) (xs ys : List ℕ) → IsAscii xs → IsAscii ys → I
 ascii_either true xs ys p q = p
 ascii_either false xs ys p q = q
 
+-- the commands after it are ASCII
 pub ascii_closing : (s : ContentStyle) → IsAscii (closing_bytes s)
 ascii_closing s =
     let defaults : List ℕ = present_bytes (λ _. sgr_bytes (49 ∷ [])) s.background_color ++ present_bytes (λ _. sgr_bytes (39 ∷ [])) s.foreground_color in

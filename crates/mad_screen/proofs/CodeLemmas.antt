@@ -9,6 +9,7 @@ use Rattle.std.proofs.lemmas.Nat.Bits.{bit_at_and, bit_at_or, bit_at-lt, bit_at-
 abbrev pub bits_to : ℕ → ℕ → ℕ
 bits_to n k = bit_and n (2 ^ k - 2 ^ 1)
 
+-- up to index 1 there is none
 pub no_bits : (n : ℕ) → bits_to n 1 ≡ 0
 no_bits n = same_from_bits (bits_to n 1) 0 (λ i. bit_at_and n (2 ^ 1 - 2 ^ 1) i ∙ ap (λ b. min (bit_at n i) b) (bit_at-zero i) ∙ nothing (bit_at n i) ∙ sym (bit_at-zero i))
   where
@@ -22,6 +23,7 @@ inside n k i low high =
     let same : min (bit_at n i) 1 ≡ bit_at n i = omega arith in
     bit_at_and n (2 ^ k - 2 ^ 1) i ∙ ap (λ b. min (bit_at n i) b) (bit_at_mask_inside 1 k i low high) ∙ same
 
+-- no other bit is there
 pub outside : (n k i : ℕ) → (i < 1) ⊎ (k ≤ i) → bit_at (bits_to n k) i ≡ 0
 outside n k i out =
     let none : min (bit_at n i) 0 ≡ 0 = omega arith in

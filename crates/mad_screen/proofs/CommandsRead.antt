@@ -32,6 +32,7 @@ pub command_read : (g new : Grid) (ns : List ℕ) (letter : ℕ) → AreReadable
 command_read g new ns letter small is low done =
     ascii_read g new (command_bytes ns letter) (ascii_command ns letter (small_from_readable ns small) low) (command_leads g new ns letter small is done)
 
+-- after the move to a position on the screen the cursor is there
 pub move_read : (g : Grid) (x y : ℕ) → x < g.width → y < g.height → x < 2 ^ 16 → y < 2 ^ 16 → after_bytes g (move_to_bytes x y) ≡ Some (record g { x = x; y = y })
 move_read g x y in_width in_height small_x small_y =
     ascii_read g (record g { x = x; y = y }) (move_to_bytes x y) (ascii_move_to x y (omega arith) (omega arith)) (move_leads g x y in_width in_height (omega arith) (omega arith))

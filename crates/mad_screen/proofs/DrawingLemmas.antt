@@ -22,6 +22,7 @@ use Rattle.mad_screen.proofs.Paints.{read_leads}
 abbrev pub at : Grid → ℕ → ℕ → Grid
 at g x y = record g { x = x; y = y }
 
+-- from a position on there are columns for as many cells as the row has room for
 pub at_columns : (g : Grid) (x y n : ℕ) → IsGrid g → y < g.height → x + n ≤ g.width → HasColumns (at g x y) n
 at_columns g x y n h in_rows fits = record {
   grid = record { full = h.full; column = omega arith; row = omega arith };
@@ -77,6 +78,7 @@ drawing_chars left top t ts small_x small_y text texts =
           ∙ ap (λ l. move_to_bytes left top ++ l) (chars-append t rest text),
     )
 
+-- the bytes of a drawing lead to the grid after its rows
 pub drawing_leads : (ts : List (List ℕ)) (rs : List (List Glyph)) (g : Grid) (left top w : ℕ) → PaintRows ts rs → AreWide w rs → IsGrid g → g.pen ≡ plain_pen → 0 < w → left + w ≤ g.width → top + length rs ≤ g.height → left + 1 < 2 ^ 32 → top + length rs < 2 ^ 32 → IsUtf8 (drawing left top ts) × Leads (resting g) (chars (drawing left top ts)) (resting (painted_rows g left top rs))
 unfolding painted
 drawing_leads [] [] g left top w paints wide h pen some fits_x fits_y small_x small_y = (IsUtf8-nil, subst (λ (cs : List ℕ). Leads (resting g) cs (resting g)) (sym chars-nil) (nothing_leads _))
@@ -110,6 +112,7 @@ outside_step r rs g new left top w wide fits below x y in_width out =
     below.outside x y in_width (⊎_elim (λ a. inl a) (⊎_elim (λ a. inr (inl a)) (⊎_elim (λ a. inr (inr (inl (omega arith)))) (λ a. inr (inr (inr (omega arith)))))) out)
     ∙ row_outside g left top r x y (omega arith) in_width (⊎_elim (λ a. inr (inl a)) (⊎_elim (λ a. inr (inr (omega arith))) (⊎_elim (λ a. inl (omega arith)) (λ a. inl (omega arith)))) out)
 
+-- on the grid after rows these are shown, and nothing else has changed
 pub painted_rows_show : (rs : List (List Glyph)) (g : Grid) (left top w : ℕ) → AreWide w rs → IsGrid g → left + w ≤ g.width → top + length rs ≤ g.height → ShowsRows left top w (length rs) (listed rs) g (painted_rows g left top rs)
 unfolding painted
 painted_rows_show [] g left top w wide h fits_x fits_y = record {

@@ -9,9 +9,11 @@ use Rattle.mad_screen.specs.declared.reader.Mode.TheVariants as mode
 use Rattle.mad_screen.specs.Readers.{mode_of}
 use Rattle.mad_screen.specs.Terminal.{Reading, Numbers, is_digit, end_number, feed_in, perform, resting}
 
+-- what comes before `0` is no digit
 pub below_digits : (c : ℕ) → c < 48 → is_digit c ≡ false
 below_digits c h = grind (arith, nat_tests)
 
+-- what comes after `9` is no digit
 pub above_digits : (c : ℕ) → 57 < c → is_digit c ≡ false
 above_digits c h = grind (arith, nat_tests)
 

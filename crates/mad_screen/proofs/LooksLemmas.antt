@@ -31,10 +31,11 @@ position_look known pen =
     ap (λ n. cond (nat_lt n (length known)) (Some n) None) (positions_look known pen)
     ∙ ap (λ n. cond (nat_lt (position_or_len (λ k. same_look k pen) (map look_of known)) n) (Some (position_or_len (λ k. same_look k pen) (map look_of known))) None) (sym (length-map known look_of))
 
--- a further pen that gets a letter, and one that doesn't
+-- a further pen that gets a letter is one more
 pub letter_given : (known : List Look) (pen : Look) → gets_letter known pen ≡ true → with_letter known pen ≡ known ++ pen ∷ []
 letter_given known pen given = ap (λ b. cond b (known ++ pen ∷ []) known) given
 
+-- one that gets none changes nothing
 pub letter_refused : (known : List Look) (pen : Look) → gets_letter known pen ≡ false → with_letter known pen ≡ known
 letter_refused known pen refused = ap (λ b. cond b (known ++ pen ∷ []) known) refused
 
@@ -52,10 +53,11 @@ gets_if_left known pen given = go (nat_lt (length known) 26) refl given where
   go true e _ = ltb-true _ _ e
   go false _ h = absurd (false≢true h)
 
--- the letter at an index below 26, and the question mark at any other index
+-- the letter at an index below 26
 pub letter_below : (index : ℕ) (place : Option ℕ) → place ≡ Some index → index < 26 → 97 + index ≡ nth_letter place
 letter_below index place is below = cond_below index 26 (97 + index) 63 below ∙ ap nth_letter (sym is)
 
+-- the question mark at any other index
 pub letter_past : (index : ℕ) (place : Option ℕ) → place ≡ Some index → 26 ≤ index → 63 ≡ nth_letter place
 letter_past index place is past = cond_above index 26 (97 + index) 63 63 past refl ∙ ap nth_letter (sym is)
 

@@ -115,10 +115,11 @@ whole_both : (a b : List ℕ) → IsWhole a → IsWhole b → IsWhole (a ++ b)
 whole_both [] b p q = q
 whole_both (c ∷ a) b p q = p
 
--- nothing shows cells of its own, and so do two texts that do
+-- an empty text shows cells of its own
 pub shown_nothing : IsShown []
 shown_nothing = record { printed = tt; whole = tt }
 
+-- two texts that do are one that does
 pub shown_both : (a b : List ℕ) → IsShown a → IsShown b → IsShown (a ++ b)
 shown_both a b p q = record { printed = printed_both a b p.printed q.printed; whole = whole_both a b p.whole q.whole }
 

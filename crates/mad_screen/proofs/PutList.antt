@@ -5,10 +5,12 @@ use Rattle.std.proofs.lemmas.Bool.{cases_lt}
 use Rattle.mad_screen.specs.Glyph.{Glyph}
 use Rattle.mad_screen.specs.Grid.{put_list}
 
+-- there are as many cells as before
 pub length-put_list : (cells : List Glyph) (i : ℕ) (gs : List Glyph) → length (put_list cells i gs) ≡ length cells
 length-put_list cells i [] = refl
 length-put_list cells i (g ∷ gs) = length-put_list (set cells i g) (suc i) gs ∙ length-set cells i g
 
+-- the first cells are written, and then the others behind them
 pub put_list-append : (cells : List Glyph) (i : ℕ) (gs hs : List Glyph) → put_list cells i (gs ++ hs) ≡ put_list (put_list cells i gs) (i + length gs) hs
 put_list-append cells i [] hs = ap (λ j. put_list cells j hs) (omega arith)
 put_list-append cells i (g ∷ gs) hs =

@@ -12,6 +12,7 @@ at_each : (a b : List ℕ) → ((r : Reading) → feed_all (a ++ b) r ≡ option
 at_each a b h None = refl
 at_each a b h (Some s) = h s
 
+-- characters are read, and then those after them
 pub feed_all-append : (a b : List ℕ) (r : Reading) → feed_all (a ++ b) r ≡ option_and_then (feed_all b) (feed_all a r)
 feed_all-append [] b r = refl
 feed_all-append (c ∷ a) b r = at_each a b (λ s. feed_all-append a b s) (feed r c)
@@ -21,6 +22,7 @@ pub then_leads : (r s t : Reading) (a b : List ℕ) → Leads r a s → Leads s 
 unfolding Leads
 then_leads r s t a b p q = feed_all-append a b r ∙ ap (option_and_then (feed_all b)) p ∙ q
 
+-- without a character nothing changes
 pub nothing_leads : (r : Reading) → Leads r [] r
 unfolding Leads
 nothing_leads r = refl
@@ -30,6 +32,7 @@ pub one_leads : (r s : Reading) (c : ℕ) → feed r c ≡ Some s → Leads r (c
 unfolding Leads
 one_leads r s c p = ap (option_and_then (feed_all [])) p
 
+-- one character, and then those after it
 pub next_leads : (r s t : Reading) (c : ℕ) (cs : List ℕ) → feed r c ≡ Some s → Leads s cs t → Leads r (c ∷ cs) t
 next_leads r s t c cs p q = then_leads r s t (c ∷ []) cs (one_leads r s c p) q
 
@@ -51,6 +54,7 @@ one_more n some small =
     ap (λ b. cond b None (cond (ltb (n / 10 * 10 + n % 10) (2 ^ 32)) (Some (n / 10 * 10 + n % 10)) None)) leads
     ∙ ap (λ b. cond b (Some (n / 10 * 10 + n % 10)) None) below ∙ ap Some value
 
+-- the digits of a number are read as the number
 pub decimal_leads : (g : Grid) (ps : List ℕ) (n : ℕ) → n < 2 ^ 32 → Leads (numbers g ps None) (decimal n) (numbers g ps (Some n))
 decimal_leads g ps n fits =
     decimal_by_steps (λ n ds. n < 2 ^ 32 → Leads (numbers g ps None) ds (numbers g ps (Some n)))
@@ -98,15 +102,19 @@ command_leads g new (n ∷ ns) letter small is done =
     (subst (λ (l : List ℕ). Leads (numbers g [] None) l (resting new)) (sym (append_assoc (decimal n) others (letter ∷ [])))
     (then_leads _ _ _ (decimal n) (others ++ letter ∷ []) (decimal_leads g [] n small.0) (rest_leads g new letter is ns [] n small.1 done))))
 
+-- `H` ends a sequence
 pub letter_move : IsLetter 72
 letter_move = record { no_digit = refl; no_separator = refl }
 
+-- so does `m`
 pub letter_sgr : IsLetter 109
 letter_sgr = record { no_digit = refl; no_separator = refl }
 
+-- so does `J`
 pub letter_screen : IsLetter 74
 letter_screen = record { no_digit = refl; no_separator = refl }
 
+-- so does `K`
 pub letter_row : IsLetter 75
 letter_row = record { no_digit = refl; no_separator = refl }
 

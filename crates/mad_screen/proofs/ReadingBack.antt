@@ -34,6 +34,7 @@ was_text : (g new : Grid) (bytes : List ℕ) → after_bytes g bytes ≡ Some ne
 unfolding after_bytes
 was_text g new bytes h = tested (is_utf8 bytes) (option_and_then settled (feed_all (chars bytes) (resting g))) new h
 
+-- it was UTF-8, and its characters lead there
 pub read_was : (g new : Grid) (bytes : List ℕ) → after_bytes g bytes ≡ Some new → IsUtf8 bytes × Leads (resting g) (chars bytes) (resting new)
 unfolding after_bytes Leads
 read_was g new bytes h =
@@ -42,6 +43,7 @@ read_was g new bytes h =
       ended (feed_all (chars bytes) (resting g)) new (ap (λ b. cond b (option_and_then settled (feed_all (chars bytes) (resting g))) None) (sym text) ∙ h),
     )
 
+-- two texts that it could read in turn are one that it can read
 pub read_in_turn : (g mid new : Grid) (a b : List ℕ) → after_bytes g a ≡ Some mid → after_bytes mid b ≡ Some new → after_bytes g (a ++ b) ≡ Some new
 read_in_turn g mid new a b p q =
     let first : IsUtf8 a × Leads (resting g) (chars a) (resting mid) = read_was g mid a p in

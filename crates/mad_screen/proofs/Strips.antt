@@ -16,10 +16,11 @@ use Rattle.mad_screen.proofs.PaintingLemmas.{painted_is_grid}
 use Rattle.mad_screen.proofs.Paints.{read_leads}
 use Rattle.mad_screen.proofs.DrawingLemmas.{at, at_columns, row_inside, row_outside}
 
--- the grid after a strip, and after some
+-- the grid after a strip
 abbrev pub with_strip : Grid → Strip → Grid
 with_strip g s = painted (at g s.x s.y) s.cells
 
+-- the grid after some strips
 abbrev pub with_strips : Grid → List Strip → Grid
 with_strips g [] = g
 with_strips g (s ∷ strips) = with_strips (with_strip g s) strips

@@ -29,6 +29,7 @@ use Rattle.mad_screen.proofs.CodeLemmas.{bits_to, no_bits, bits_more, bits_same}
 abbrev pub with_pen : Grid → Look → Grid
 with_pen g p = record g { pen = p }
 
+-- a command changes the pen as its numbers say
 pub sgr_leads : (g : Grid) (ns : List ℕ) (p : Look) → AreReadable ns → restyled ns g.pen ≡ Some p → Leads (resting g) (sgr_bytes ns) (resting (with_pen g p))
 sgr_leads g ns p small e = command_leads g (with_pen g p) ns 109 small letter_sgr (ap (option_map (λ q. with_pen g q)) e)
 
@@ -45,11 +46,13 @@ index_passes n p h =
     let test : ltb n 256 ≡ true = grind (arith, nat_tests) in
     ap (λ t. cond t (Some p) None) test
 
+-- the numbers of a foreground give the pen its color
 pub foreground_restyles : (c : Color) (p : Look) → IsColor c → restyled (color_numbers 38 c) p ≡ Some (record p { fg = shown_color c })
 foreground_restyles (colors.Rgb r g b) p h = rgb_passes r g b _ h
 foreground_restyles (colors.AnsiValue n) p h = index_passes n _ h
 foreground_restyles _ p h = refl
 
+-- the numbers of a background give the pen its color
 pub background_restyles : (c : Color) (p : Look) → IsColor c → restyled (color_numbers 48 c) p ≡ Some (record p { bg = shown_color c })
 background_restyles (colors.Rgb r g b) p h = rgb_passes r g b _ h
 background_restyles (colors.AnsiValue n) p h = index_passes n _ h
@@ -60,6 +63,7 @@ underline_restyles (colors.Rgb r g b) p h = rgb_passes r g b _ h
 underline_restyles (colors.AnsiValue n) p h = index_passes n _ h
 underline_restyles _ p h = refl
 
+-- the terminal can read the numbers of a color
 pub color_small : (kind : ℕ) (c : Color) → kind < 100 → IsColor c → AreReadable (color_numbers kind c)
 color_small kind (colors.Rgb r g b) low h = (omega arith, (omega arith, (omega arith, (omega arith, (omega arith, tt)))))
 color_small kind (colors.AnsiValue n) low h = (omega arith, (omega arith, (omega arith, tt)))
@@ -70,14 +74,17 @@ color_small kind _ low h = (omega arith, (omega arith, (omega arith, tt)))
 abbrev pub shown : Option Color → Option Color
 shown o = option_and_then shown_color o
 
+-- the command of a background, if a style has one, changes the plain pen
 pub background_leads : (g : Grid) (o : Option Color) → IsColorOrNone o → Leads (resting (with_pen g plain_pen)) (present_bytes background_bytes o) (resting (with_pen g (record plain_pen { bg = shown o })))
 background_leads g None h = nothing_leads _
 background_leads g (Some c) h = sgr_leads (with_pen g plain_pen) (color_numbers 48 c) _ (color_small 48 c (omega arith) h) (background_restyles c plain_pen h)
 
+-- so does that of a foreground after it
 pub foreground_leads : (g : Grid) (b o : Option Color) → IsColorOrNone o → Leads (resting (with_pen g (record plain_pen { bg = b }))) (present_bytes foreground_bytes o) (resting (with_pen g (record plain_pen { bg = b; fg = shown o })))
 foreground_leads g b None h = nothing_leads _
 foreground_leads g b (Some c) h = sgr_leads (with_pen g (record plain_pen { bg = b })) (color_numbers 38 c) _ (color_small 38 c (omega arith) h) (foreground_restyles c (record plain_pen { bg = b }) h)
 
+-- so does that of an underline's color after both
 pub underline_leads : (g : Grid) (b f o : Option Color) → IsColorOrNone o → Leads (resting (with_pen g (record plain_pen { bg = b; fg = f }))) (present_bytes underline_bytes o) (resting (with_pen g (record plain_pen { bg = b; fg = f; underline = shown o })))
 underline_leads g b f None h = nothing_leads _
 underline_leads g b f (Some c) h = sgr_leads (with_pen g (record plain_pen { bg = b; fg = f })) (color_numbers 58 c) _ (color_small 58 c (omega arith) h) (underline_restyles c (record plain_pen { bg = b; fg = f }) h)
@@ -159,6 +166,7 @@ after_reset = Bold ∷ Dim ∷ Italic ∷ Underlined ∷ SlowBlink ∷ RapidBlin
 after_reset_indexes : AtIndexes 1 after_reset
 after_reset_indexes = (refl, (refl, (refl, (refl, (refl, (refl, (refl, (refl, (refl, (refl, (refl, (refl, (refl, (refl, (refl, (refl, (refl, (refl, (refl, (refl, (refl, (refl, (refl, tt)))))))))))))))))))))))
 
+-- the commands of attributes give the pen their codes; Reset takes its colors first
 pub attributes_leads : (g : Grid) (p : Look) (s : Attributes) → p.codes ≡ 0 → Leads (resting (with_pen g p)) (attributes_bytes s) (resting (with_pen g (record (colors_of (has_attribute s Reset) p) { codes = bits_to (attribute_bits s) 24 })))
 attributes_leads g p s none =
     let b : Bool = has_attribute s Reset in
@@ -177,6 +185,7 @@ kept_colors : (b : Bool) (f g u : Option Color) (n : ℕ) → record (colors_of 
 kept_colors true f g u n = refl
 kept_colors false f g u n = refl
 
+-- the commands before a text in a style lead from the plain pen to that of the style
 pub opening_leads : (g : Grid) (s : ContentStyle) → IsStyle s → Leads (resting (with_pen g plain_pen)) (opening_bytes s) (resting (with_pen g (look_of_style s)))
 opening_leads g s known =
     let b = shown s.background_color in
@@ -228,6 +237,7 @@ closing_by g s false e =
     subst (λ (q : Look). Leads (resting (with_pen g q)) (defaults ++ present_bytes (λ _. sgr_bytes (39 ∷ [])) s.foreground_color) (resting (with_pen g plain_pen))) (sym (colored_alone s e))
     (then_leads _ _ _ defaults (present_bytes (λ _. sgr_bytes (39 ∷ [])) s.foreground_color) (default_background g (shown s.foreground_color) s.background_color) (default_foreground g s.foreground_color))
 
+-- the commands after it lead back to the plain pen
 pub closing_leads : (g : Grid) (s : ContentStyle) → Leads (resting (with_pen g (look_of_style s))) (closing_bytes s) (resting (with_pen g plain_pen))
 closing_leads g s = closing_by g s (is_some s.underline_color || not (eqb (attribute_bits s.attributes) 0)) refl
 

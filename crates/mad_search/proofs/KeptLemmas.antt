@@ -13,6 +13,7 @@ pub record StartsSoFar (rules : LineRules) (width : ℕ) (all left : List LineCo
   pub are : starts ≡ front ++ length lines ∷ []
   pub goes : (rest : List ℕ) → AreStartsFrom rules width (text_parts left) (length lines) rest → AreStartsFrom rules width (text_parts all) 0 (front ++ rest)
 
+-- at first all parts are left, and the first one begins in row 0
 pub no_start : (rules : LineRules) (width : ℕ) (all : List LineContent) (lines : List FmtLine) (starts : List ℕ) → lines ≡ [] → starts ≡ 0 ∷ [] → StartsSoFar rules width all all lines starts
 no_start rules width all lines starts none one = record {
   front = [];
@@ -20,6 +21,7 @@ no_start rules width all lines starts none one = record {
   goes = λ rest h. subst (λ (l : List FmtLine). AreStartsFrom rules width (text_parts all) (length l) rest) none h;
 }
 
+-- one part more is laid out, and the next one begins below it
 pub starts_more : (rules : LineRules) (width : ℕ) (all before after : List LineContent) (lines new : List FmtLine) (starts more : List ℕ) → StartsSoFar rules width all before lines starts → LaidPart rules (Some width) before lines after new → more ≡ starts ++ length new ∷ [] → StartsSoFar rules width all after new more
 starts_more rules width all before after lines new starts more h laid e =
     let count : length new ≡ length lines + length laid.own = ap length laid.added ∙ length-append lines laid.own in
@@ -33,6 +35,7 @@ starts_more rules width all before after lines new starts more h laid e =
           (laid.own, rest, laid.layout, refl, subst (λ (n : ℕ). AreStartsFrom rules width (text_parts after) n rest) count k)));
     }
 
+-- where nothing is left, all starts are there
 pub starts_whole : (rules : LineRules) (width : ℕ) (all left : List LineContent) (lines : List FmtLine) (starts : List ℕ) → StartsSoFar rules width all left lines starts → left ≡ [] → AreStartsFrom rules width (text_parts all) 0 starts
 starts_whole rules width all left lines starts h none =
     subst (λ (l : List ℕ). AreStartsFrom rules width (text_parts all) 0 l) (sym h.are)

@@ -15,5 +15,6 @@ small_more old new done c d so is pushed =
     ∙ (ap (λ (l : List ℕ). put ++ l) (sym (append-nil (encode_utf8 (small c))))
     ∙ (sym (encodes-append (map small done) (small c ∷ [])) ∙ ap encode_utf8_all (sym (map-append small done (c ∷ [])))))))
 
+-- all characters of a text in small letters are the text so
 pub small_whole : (out done text : List ℕ) → out ≡ encode_utf8_all (map small done) → done ≡ chars text → out ≡ in_small text
 small_whole out done text so all = so ∙ ap (λ (cs : List ℕ). encode_utf8_all (map small cs)) all

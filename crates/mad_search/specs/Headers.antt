@@ -5,6 +5,7 @@ use Rattle.mad_style.specs.declared.kinds.CompositeKind.TheVariants.{Header}
 use Rattle.mad_format.specs.declared.line.FmtLine.{FmtLine}
 use Rattle.mad_format.specs.declared.line.FmtLine.TheVariants.{Normal}
 
+-- this kind is that of a header
 abbrev pub is_header_kind : CompositeKind → Bool
 is_header_kind (Header level) = true
 is_header_kind kind = false
@@ -14,10 +15,11 @@ abbrev pub is_header : Option FmtLine → Bool
 is_header (Some (Normal l)) = is_header_kind l.kind
 is_header line = false
 
--- a row has a header, below this one, and above it
+-- a row has a header, and is below this one
 abbrev pub is_below : List FmtLine → ℕ → ℕ → Bool
 is_below lines row start = nat_lt row start && is_header (slice_get lines start)
 
+-- a row has a header, and is above this one
 abbrev pub is_above : List FmtLine → ℕ → ℕ → Bool
 is_above lines row start = nat_lt start row && is_header (slice_get lines start)
 

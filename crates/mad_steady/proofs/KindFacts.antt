@@ -37,6 +37,7 @@ known_other : (c : ℕ) → Known c (other_kind c)
 unfolding other_kind
 known_other c = by_test c (is_opening c) Opening (columns_kind (char_columns c)) (λ _. tt) (λ _. known_columns c (char_columns c))
 
+-- each character has what is known of its kind
 pub known : (c : ℕ) → Known c (kind c)
 unfolding kind
 known c =
@@ -48,6 +49,7 @@ known c =
     (λ _. by_test c (is_syllable c) (syllable_kind c) _ (known_syllable c)
     (λ _. by_test c (is_jamo c) (jamo_kind c) (other_kind c) (λ _. known_jamo c) (λ _. known_other c)))))))
 
+-- a character has what is known of the kind that it is of
 pub known_as : (c : ℕ) (k : Kind) → kind c ≡ k → Known c k
 known_as c k e = subst (Known c) e (known c)
 
@@ -65,14 +67,17 @@ lo_columns : char_columns 0x179B ≡ 1
 unfolding char_columns unicode_width
 lo_columns = refl
 
+-- the replacement character is narrow
 pub replacement_kind : kind 0xFFFD ≡ Narrow
 unfolding kind other_kind
 replacement_kind = ap columns_kind replacement_columns
 
+-- so is U+17D4
 pub khan_kind : kind 0x17D4 ≡ Narrow
 unfolding kind other_kind
 khan_kind = ap columns_kind khan_columns
 
+-- so is U+179B
 pub lo_kind : kind 0x179B ≡ Narrow
 unfolding kind other_kind
 lo_kind = ap columns_kind lo_columns
@@ -85,6 +90,7 @@ letter_other : (c : ℕ) → 65 ≤ c → c ≤ 90 → kind c ≡ columns_kind (
 unfolding kind other_kind
 letter_other c low high = grind (arith, nat_tests)
 
+-- so is the letter of a regional indicator
 pub letter_kind : (c : ℕ) → is_in_range 0x1F1E6 0x1F1FF c ≡ true → kind (letter c) ≡ Narrow
 letter_kind c h =
     let low : 0x1F1E6 ≤ c = grind (arith, nat_tests) in
@@ -101,6 +107,7 @@ open_kind k h =
     let test : (((0xAC00 + k * 28) - 0xAC00) % 28 == 0) ≡ true = grind (arith, nat_tests) in
     of_syllable (0xAC00 + k * 28) (omega arith) (omega arith) ∙ ap (λ t. cond t OpenSyllable Wide) test
 
+-- a leading jamo and a vowel make an open syllable
 pub vowel_kind : (lead vowel : ℕ) → is_in_range 0x1100 0x1112 lead ≡ true → is_in_range 0x1161 0x1175 vowel ≡ true → kind (with_vowel lead vowel) ≡ OpenSyllable
 vowel_kind lead vowel h v =
     let l : lead - 0x1100 ≤ 18 = grind (arith, nat_tests) in
@@ -110,6 +117,7 @@ vowel_kind lead vowel h v =
     let inside : is_syllable (0xAC00 + k * 28) ≡ true = grind (arith, nat_tests, few) in
     ap (λ t. kind (cond t (0xAC00 + k * 28) 0xFFFD)) inside ∙ open_kind k few
 
+-- an open syllable and a trailing jamo make a wide one
 pub tail_kind : (s tail : ℕ) → is_syllable s ≡ true → ((s - 0xAC00) % 28 == 0) ≡ true → is_in_range 0x11A8 0x11C2 tail ≡ true → kind (with_tail s tail) ≡ Wide
 tail_kind s tail h m v =
     let r : (s - 0xAC00) % 28 ≡ 0 = grind (arith, nat_tests) in
@@ -138,6 +146,7 @@ ascii_other c low high = grind (arith, nat_tests)
 ascii_opening : (c : ℕ) → 32 ≤ c → c < 127 → is_opening c ≡ (is_mark c || (c == 32))
 ascii_opening c low high = grind (arith, nat_tests)
 
+-- the rule of printed ASCII characters gives each its kind
 pub ascii_is : (c : ℕ) → 32 ≤ c → c < 127 → ascii_kind c ≡ kind c
 ascii_is c low high =
     sym (ascii_other c low high ∙ ap (λ n. cond (is_opening c) Opening (columns_kind n)) (ascii_columns c low high) ∙ ap (λ t. cond t Opening Narrow) (ascii_opening c low high))

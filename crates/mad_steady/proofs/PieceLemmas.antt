@@ -71,6 +71,7 @@ joined_from b after (c ∷ cs) f h p =
       joined_from (bears b c) (not (is_whitespace c)) cs (bears_black b c (is_whitespace c) refl) both.1 plain.1,
     )
 
+-- every piece of steady characters without control characters is joined, where it begins them or stands behind an opening one
 pub pieces : (cs : List ℕ) → are_steady cs ≡ true → PiecesAreJoined cs
 pieces cs h front piece more parts opened plain =
     let all : are_borne false (front ++ (piece ++ more)) ≡ true = sym (ap (are_borne false) parts) ∙ borne cs h in

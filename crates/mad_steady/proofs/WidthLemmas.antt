@@ -166,6 +166,7 @@ opening_high c o h high =
     let above : 0xA0 ≤ c = grind (arith, nat_tests) in
     listed_columns c above (grind (arith, nat_tests))
 
+-- an opening character is not widthless
 pub opening_by : (c : ℕ) (b : Bool) → is_control c ≡ b → is_opening c ≡ true → is_widthless c ≡ false
 opening_by c true e o = ap (λ t. not t && (char_columns c == 0)) e
 opening_by c false e o = not_widthless c (⊎_elim (λ low. opening_low c e low) (λ high. opening_high c o e high) (cases_lt c 127))

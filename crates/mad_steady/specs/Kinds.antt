@@ -10,6 +10,7 @@ use Rattle.mad_steady.specs.declared.kinds.Kind.TheVariants.{Dropped, Selector, 
 abbrev pub is_dropped : ℕ → Bool
 is_dropped c = ((c == 0xAD) || (c == 0x200D)) || (is_in_range 0x1F3FB 0x1F3FF c || is_in_range 0xE0000 0xE0FFF c)
 
+-- one of the variation selectors, U+FE00 to U+FE0F
 abbrev pub is_selector : ℕ → Bool
 is_selector c = is_in_range 0xFE00 0xFE0F c
 
@@ -17,6 +18,7 @@ is_selector c = is_in_range 0xFE00 0xFE0F c
 abbrev pub is_jamo : ℕ → Bool
 is_jamo c = is_in_range 0x1160 0x11FF c || (is_in_range 0xD7B0 0xD7C6 c || is_in_range 0xD7CB 0xD7FB c)
 
+-- a Hangul syllable
 abbrev pub is_syllable : ℕ → Bool
 is_syllable c = is_in_range 0xAC00 0xD7A3 c
 
@@ -28,16 +30,19 @@ is_mark c = ((c == 42) || (c == 126)) || (((c == 96) || (c == 124)) || ((c == 35
 abbrev pub is_opening : ℕ → Bool
 is_opening c = is_mark c || (is_control c || is_whitespace c)
 
+-- the kind of a Hangul vowel or trailing jamo, or of one that no syllable has
 abbrev pub jamo_kind : ℕ → Kind
 jamo_kind c = if is_in_range 0x1161 0x1175 c then Vowel else if is_in_range 0x11A8 0x11C2 c then Tail else Jamo
 
+-- the kind of a syllable: open without a trailing jamo, and else wide
 abbrev pub syllable_kind : ℕ → Kind
 syllable_kind c = if (c - 0xAC00) % 28 == 0 then OpenSyllable else Wide
 
+-- the kind of a character of so many columns, where nothing else tells it
 abbrev pub columns_kind : ℕ → Kind
 columns_kind columns = if columns == 0 then Widthless else if columns == 2 then Wide else Narrow
 
--- the same of a printed ASCII character
+-- the kind of a printed ASCII character
 abbrev pub ascii_kind : ℕ → Kind
 ascii_kind c = if is_mark c || (c == 32) then Opening else Narrow
 
@@ -45,6 +50,7 @@ ascii_kind c = if is_mark c || (c == 32) then Opening else Narrow
 unfoldable pub other_kind : ℕ → Kind
 other_kind c = if is_opening c then Opening else columns_kind (char_columns c)
 
+-- the kind of a character
 unfoldable pub kind : ℕ → Kind
 kind c =
     if is_dropped c then Dropped

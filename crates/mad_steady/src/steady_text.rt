@@ -3,7 +3,7 @@
 ghost use Rattle.std.specs.Prelude.{◌≡◌, ◌↔◌, ◌++◌, ℕ, Bool, false, true, chars, string_bytes, encode_utf8_all, IfOk, OnOk, OnErr, IsTrue};
 ghost use Rattle.std.specs.Cow.{cow_str_bytes, IsOwnedStr};
 ghost use Rattle.mad_steady.specs.Kinds.{kind};
-ghost use Rattle.mad_steady.specs.Steady.{held, sign, alone, joined, written, steady_from, steady_text, are_steady};
+ghost use Rattle.mad_steady.specs.Steady.{held, sign, alone, joined, written, steady_from, steady_text, steady_growing, place_behind, are_steady};
 ghost use Rattle.mad_steady.specs.Widths.{are_borne, PiecesAreJoined};
 ghost use Rattle.std.specs.List.{list_all};
 ghost use Rattle.mad_printable.specs.Pictures.{is_printable_char};
@@ -64,14 +64,31 @@ pub fn is_steady(text: &str) -> bool
 fn push_steady(shown: &mut String, text: &str) -> Result<(), AllocError>
     ensures { OnOk result (string_bytes shown.new ≡ string_bytes shown.old ++ encode_utf8_all (steady_text (chars text.now))) }
 {
-    let mut place = Place::Opened;
-    let mut rest = text.chars();
+    let place = push_steady_piece(shown, Place::Opened, text)?;
+    push_held(shown, place)
+}
+
+/// Writes the steady text of the next piece of a text, which comes at a place, and answers the place behind it. The first piece comes where a line
+/// begins ([`Place::Opened`]).
+///
+/// What the end of the piece leaves to be written, as half of a flag, is held there: it comes with the next piece, and after the last one by
+/// [`push_held`].
+///
+/// # Errors
+///
+/// Out of memory is the only error. Then a beginning of it was written.
+pub fn push_steady_piece(shown: &mut String, place: Place, piece: &str) -> Result<Place, AllocError>
+    ensures text { OnOk result (string_bytes shown.new ≡ string_bytes shown.old ++ encode_utf8_all (steady_growing place (chars piece.now))) }
+    ensures place { IfOk result (λ next. next ≡ place_behind place (chars piece.now)) }
+{
+    let mut place = place;
+    let mut rest = piece.chars();
     while let Some(c) = rest.next() {
         let kind = kind_of(c);
         push_written(shown, place, kind, c)?;
         place = place.next(kind, c);
     }
-    push_held(shown, place)
+    Ok(place)
 }
 
 // Writes what a character is, of this kind and at this place.
@@ -88,8 +105,8 @@ fn push_written(shown: &mut String, place: Place, kind: Kind, c: char) -> Result
     }
 }
 
-// Writes what is held.
-fn push_held(shown: &mut String, place: Place) -> Result<(), AllocError>
+/// Writes what is held at a place, where the text ends there. Only out of memory is an error.
+pub fn push_held(shown: &mut String, place: Place) -> Result<(), AllocError>
     ensures { OnOk result (string_bytes shown.new ≡ string_bytes shown.old ++ encode_utf8_all (held place)) }
 {
     match place {

@@ -40,6 +40,7 @@ pub record Scanned (text : List ℕ) (fenced : Bool) (scan : Scan) (rest : List 
   pub kind : AreHeld scan.last own
   pub whole : (later : List ℕ) → apart front (own ++ lines_of (resumed_text scan.is_open (rest ++ later))) ≡ true
 
+-- nothing was read yet
 pub scanned_start : (text : List ℕ) (fenced : Bool) (scan : Scan) → IsUtf8 text → scan ≡ record { used = 0; fenced = fenced; last = Fence; is_open = fenced } → Scanned text fenced scan text
 scanned_start text fenced scan utf8 is = subst (λ (s : Scan). Scanned text fenced s text) (sym is) (record {
   done = [];
@@ -57,6 +58,7 @@ scanned_start text fenced scan utf8 is = subst (λ (s : Scan). Scanned text fenc
 
 -- ---- a line comes
 
+-- the first line of a text is whole
 pub whole_line : (text line rest : List ℕ) → IsFirstLine text line rest → IsWholeLine line
 whole_line text line rest h = (h.part, h.cut, h.ends)
 
@@ -114,6 +116,7 @@ stays_if Table Code off = absurd (cc)
 stays_if Table Table off = refl
 stays_if Table Alone off = absurd (cc)
 
+-- one more line was read
 pub scanned_line : (text : List ℕ) (fenced : Bool) (scan new : Scan) (rest line after : List ℕ) (kind : LineKind) (start : ℕ) → Scanned text fenced scan rest → IsUtf8 rest → IsFirstLine rest line after → LineReads scan.is_open line kind
     → start ≡ length text - length rest → new ≡ joined_by (settled_before scan kind start) kind → Scanned text fenced new after
 scanned_line text fenced scan new rest line after kind start h utf8 cut reads there is =
@@ -171,6 +174,7 @@ one_left text fenced scan rest h line one =
 abbrev IsDone : List ℕ → Bool → ℕ × Bool → Type 0
 IsDone text fenced r = IsCompleteFront text fenced r.0 r.1
 
+-- where no whole line is left, that is how far the text is complete
 pub scanned_all : (text : List ℕ) (fenced : Bool) (scan : Scan) (rest : List ℕ) (end : ℕ) (r : ℕ × Bool) → Scanned text fenced scan rest → HasNoNewline rest → end ≡ length text - length rest → r ≡ settled_at scan end → IsCompleteFront text fenced r.0 r.1
 scanned_all text fenced scan rest end r h line there is = subst (λ (q : ℕ × Bool). IsDone text fenced q) (sym is) (by_kind scan.last refl)
   where
@@ -180,6 +184,7 @@ scanned_all text fenced scan rest end r h line there is = subst (λ (q : ℕ × 
     by_kind Code e = one_left text fenced scan rest h line (inr (subst (λ k. AreHeld k h.own) e h.kind).1)
     by_kind Table e = one_left text fenced scan rest h line (inl (subst (λ k. AreHeld k h.own) e h.kind).1)
 
+-- it is complete up to the border of a character
 pub scanned_boundary : (text : List ℕ) (fenced : Bool) (scan : Scan) (rest : List ℕ) (end : ℕ) (r : ℕ × Bool) → Scanned text fenced scan rest → IsUtf8 rest → end ≡ length text - length rest → r ≡ settled_at scan end → IsCharBoundary text r.0
 scanned_boundary text fenced scan rest end r h utf8 there is = subst (λ (q : ℕ × Bool). IsCharBoundary text q.0) (sym is) (by_kind scan.last)
   where
@@ -194,6 +199,7 @@ scanned_boundary text fenced scan rest end r h utf8 there is = subst (λ (q : �
 
 -- ---- what is written of a front
 
+-- the rows of a front were refused
 pub front_refused : (T : Type 0) (r : Result (ℕ × Bool) Error) (e : Error) (skin laid : RowSkin) (width : Option ℕ) (text part : List ℕ) (fenced is_last : Bool) (used : ℕ) (fenced_then : Bool) (before now : Trace) → IsLaidOutFront is_last text fenced used fenced_then → part ≡ take used text → laid ≡ skin
     → WritesPartsOf {T = T} laid width (lines_of (resumed_text fenced part)) before (Err e) now → IsErrAnd r (λ d. d ≡ e) → WritesFront skin width text fenced is_last before r now
 front_refused T r e skin laid width text part fenced is_last used fenced_then before now front is same w refused =
@@ -207,6 +213,7 @@ front_refused T r e skin laid width text part fenced is_last used fenced_then be
       answers = tt;
     })
 
+-- the rows of a front were written
 pub front_written : (T : Type 0) (x : T) (skin laid : RowSkin) (width : Option ℕ) (text part : List ℕ) (fenced is_last : Bool) (used : ℕ) (fenced_then : Bool) (before now : Trace) → IsLaidOutFront is_last text fenced used fenced_then → part ≡ take used text → laid ≡ skin
     → WritesPartsOf {T = T} laid width (lines_of (resumed_text fenced part)) before (Ok x) now → WritesFront skin width text fenced is_last before (Ok (used, fenced_then)) now
 front_written T x skin laid width text part fenced is_last used fenced_then before now front is same w = record {

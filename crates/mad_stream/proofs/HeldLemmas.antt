@@ -85,6 +85,7 @@ apart_alone : (own rest : List LineContent) → 0 < length own → AllTold Alone
 apart_alone own [] some all = apart_end own
 apart_alone own (m ∷ ms) some all = apart_own Alone (told_kind m) own m ms some all refl refl
 
+-- no part goes on where nothing is held
 pub apart_none : (own rest : List LineContent) → own ≡ [] → apart own rest ≡ true
 apart_none own rest none = ap (λ ls. apart ls rest) none
 
@@ -93,6 +94,7 @@ apart_line : (last kind : LineKind) (own : List LineContent) (fenced : Bool) (li
 apart_line last kind own fenced line later some all off (l, told, reads) =
     subst (λ ls. apart own ls ≡ true) (sym (reads later)) (apart_own last kind own l (lines_of (resumed_text fenced later)) some all told off)
 
+-- no part goes on from what is held to a line of a kind before which it ends
 pub apart_before : (last kind : LineKind) (own : List LineContent) (fenced : Bool) (line later : List ℕ) → AreHeld last own → LineReads fenced line kind → ends_before last kind ≡ true
     → apart own (lines_of (resumed_text fenced (line ++ later))) ≡ true
 apart_before Fence kind own fenced line later held reads ends = apart_none own _ held
@@ -126,6 +128,7 @@ reads_by fenced part kind cut other is = (
   λ later. ap (λ (t : List ℕ). lines_of (resumed_text fenced t)) (line_same part later) ∙ resumed_line fenced part later cut other,
 )
 
+-- a fence is no line, and opens or closes code
 pub reads_fence : (fenced : Bool) (part : List ℕ) → HasNoNewline part → is_fence (strip_carriage_return part) ≡ true → ReadsTo fenced (part ++ 10 ∷ []) [] (not fenced)
 reads_fence fenced part cut fence later = ap (λ (t : List ℕ). lines_of (resumed_text fenced t)) (line_same part later) ∙ resumed_fence fenced part later cut fence
 
@@ -158,6 +161,7 @@ reads_kind fenced part kind cut is =
     (λ off e. reads_other fenced (part ++ 10 ∷ []) kind (reads_by fenced part kind cut off (is ∙ kind_other fenced (strip_carriage_return part) off)))
     refl
 
+-- a whole line is read as one of its kind
 pub line_reads : (fenced : Bool) (line : List ℕ) (kind : LineKind) → IsWholeLine line → ((part : List ℕ) → line ≡ part ++ 10 ∷ [] → kind ≡ kind_of_line fenced (strip_carriage_return part)) → LineReads fenced line kind
 line_reads fenced line kind (part, cut, ends) is = subst (λ (t : List ℕ). LineReads fenced t kind) (sym ends) (reads_kind fenced part kind cut (is part ends))
 
@@ -191,6 +195,7 @@ more_joined : (before fenced : Bool) (held line : List ℕ) (own : List LineCont
 more_joined before fenced held line own reads line_reads later =
     reads_both before fenced (not fenced) held line own [] reads line_reads later ∙ ap (λ ls. ls ++ lines_of (resumed_text (not fenced) later)) (append-nil own)
 
+-- a line that stays with what is held is held with it
 pub joined : (last kind : LineKind) (before fenced : Bool) (held line : List ℕ) (own : List LineContent) → stays_with last kind ≡ true → AreHeld last own → ReadsTo before held own fenced → LineReads fenced line kind
     → Joined before (fence_after kind fenced) (held ++ line) (last_after last kind)
 joined Fence Fence before fenced held line own stays are reads h = record { own = own; reads = more_joined before fenced held line own reads h; kind = are }
@@ -218,5 +223,6 @@ pub held_lines : (before now : Bool) (text : List ℕ) (own : List LineContent) 
 held_lines before now text own reads =
     ap (λ (t : List ℕ). lines_of (resumed_text before t)) (sym (append-nil text)) ∙ reads [] ∙ ap (λ ls. own ++ ls) (resumed_none now) ∙ append-nil own
 
+-- an empty text has no line
 pub reads_nothing : (fenced : Bool) (text : List ℕ) → text ≡ [] → ReadsTo fenced text [] fenced
 reads_nothing fenced text none later = ap (λ (t : List ℕ). lines_of (resumed_text fenced (t ++ later))) none

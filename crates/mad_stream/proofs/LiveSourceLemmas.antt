@@ -20,20 +20,19 @@ use Rattle.mad_rows.specs.declared.row_skin.RowSkin.{RowSkin}
 use Rattle.mad_stream.specs.LiveSources.{FitsAsItGrows, LeadsTo, ShowsAll, ShowsSoFar, ShowsSource, StopsShowing}
 use Rattle.mad_stream.specs.LiveSteps.{EndsShown, EndsWith, ShowsBlock, ShowsPiece, StopsAt, StopsInBlock}
 use Rattle.mad_stream.specs.LiveTexts.{EndsLive, FeedsLive, FitsRows, IsLaidOut, IsLive, ShowsNow, StartsLive, without_last}
-use Rattle.mad_stream.specs.PrintedPieces.{end_shown, growing, piece_shown, place_after, printed}
+use Rattle.mad_stream.specs.SteadyPieces.{end_piece, growing, spot_after, start_spot, steadied, steady_piece}
 use Rattle.mad_stream.specs.SourceErrors.{refusal_of}
 use Rattle.mad_stream.specs.SourceSteps.{FlushesOut}
 use Rattle.mad_stream.specs.Sources.{IsNoText, IsReadOut, Streamed}
 use Rattle.mad_stream.specs.TextFronts.{BeginNoText, IsTextFront}
 use Rattle.mad_stream.specs.declared.live_sources.Shown.{Shown}
 use Rattle.mad_stream.specs.declared.live_text.LiveText.{LiveText}
-use Rattle.mad_stream.specs.declared.printed.Place.{Place}
-use Rattle.mad_stream.specs.declared.printed.Place.TheVariants.{LineStart, InLine, AfterReturn}
+use Rattle.mad_stream.specs.declared.steadied.Spot.{Spot}
 use Rattle.mad_stream.specs.declared.source_error.SourceError.{SourceError}
 use Rattle.mad_stream.specs.declared.source_error.SourceError.TheVariants.{Source, Device, NotUtf8, Memory}
 use Rattle.mad_stream.proofs.LiveTextLemmas.{fed_ok, fits_same}
 use Rattle.mad_stream.proofs.PiecesShown.{nothing_reads}
-use Rattle.mad_stream.proofs.PrintedLemmas.{after_both, growing_more, growing_none, printed_all}
+use Rattle.mad_stream.proofs.SteadyPieceLemmas.{growing_more, growing_none, spot_more, spot_none, steadied_all}
 use Rattle.mad_stream.proofs.SourceLemmas.{ahead_more, ahead_none, front_none, front_partly, front_whole, fronts_joined, more_went, no_text_joined}
 
 -- ---- so far
@@ -43,24 +42,26 @@ abbrev pub LiveNow : RowSkin → Option ℕ → ℕ → List ℕ → List ℕ �
 LiveNow skin width height text bytes live columns p q =
     (done : List ℕ) × IsLive columns (p.reach + length p.below + 1) p.above text done live q × ((bytes ≡ []) ⊎ ShowsSoFar columns height p.above skin width text q)
 
-pub record LiveSoFar (skin : RowSkin) (width : Option ℕ) (height : ℕ) (source out : Trace) (live : LiveText) (place : Place) (waiting : List ℕ) (blocks : ℕ) (source_now out_now : Trace) : Type 0 where
+-- What was read of a source so far and shown, of which these bytes wait.
+pub record LiveSoFar (skin : RowSkin) (width : Option ℕ) (height : ℕ) (source out : Trace) (live : LiveText) (spot : Spot) (waiting : List ℕ) (blocks : ℕ) (source_now out_now : Trace) : Type 0 where
   pub streamed : Streamed source out source_now out_now
   pub rest : streamed.front.rest ≡ waiting
   pub counted : blocks ≤ length streamed.read
-  pub place_is : place ≡ place_after LineStart (chars streamed.text)
+  pub spot_is : spot ≡ spot_after start_spot (chars streamed.text)
   pub utf8 : IsUtf8 (growing streamed.text)
   pub skin_is : live.stream.skin ≡ skin
   pub width_is : live.stream.width ≡ width
   pub height_is : live.rows.height ≡ height
   pub shows : LeadsTo skin width height (growing streamed.text) streamed.bytes (LiveNow skin width height (growing streamed.text) streamed.bytes live)
 
+-- nothing was read yet
 pub live_start : (skin : RowSkin) (width : Option ℕ) (height : ℕ) (source out : Trace) (live : LiveText) (waiting : List ℕ) → waiting ≡ [] → StartsLive live → live.stream.skin ≡ skin → live.stream.width ≡ width → live.rows.height ≡ height
-    → LiveSoFar skin width height source out live LineStart waiting 0 source out
+    → LiveSoFar skin width height source out live start_spot waiting 0 source out
 live_start skin width height source out live waiting none start skin_is width_is height_is = record {
   streamed = record { read = []; handed_out = ahead_none source; text = []; front = record { rest = []; joins = refl; utf8 = IsUtf8-nil; longest = front_none.longest }; bytes = []; flushes = 0; went = sym (after-nil out) };
   rest = sym none;
   counted = omega arith;
-  place_is = ap (λ (cs : List ℕ). place_after LineStart cs) (sym chars-nil);
+  spot_is = sym spot_none;
   utf8 = subst IsUtf8 (sym growing_none) IsUtf8-nil;
   skin_is = skin_is;
   width_is = width_is;
@@ -110,17 +111,18 @@ shows_more skin width height text next piece bytes old new before now skin_is wi
       ),
     )
 
-pub live_more : (skin : RowSkin) (width : Option ℕ) (height : ℕ) (source out : Trace) (old new : LiveText) (place : Place) (waiting got block left : List ℕ) (shown : Shown) (blocks : ℕ) (source_now source_next out_now out_next : Trace)
-    → LiveSoFar skin width height source out old place waiting blocks source_now out_now → source_now ≡ ahead_all got source_next → 0 < length got → block ≡ waiting ++ got → ShowsBlock old place block shown new out_now out_next → left ≡ drop shown.used block
-    → (k : LiveSoFar skin width height source out new shown.place left (blocks + 1) source_next out_next) × (shown.is_wrong ≡ true → BeginNoText k.streamed.read)
-live_more skin width height source out old new place waiting got block left shown blocks source_now source_next out_now out_next h handed came is f left_is =
+-- one more block was read and shown
+pub live_more : (skin : RowSkin) (width : Option ℕ) (height : ℕ) (source out : Trace) (old new : LiveText) (spot : Spot) (waiting got block left : List ℕ) (shown : Shown) (blocks : ℕ) (source_now source_next out_now out_next : Trace)
+    → LiveSoFar skin width height source out old spot waiting blocks source_now out_now → source_now ≡ ahead_all got source_next → 0 < length got → block ≡ waiting ++ got → ShowsBlock old spot block shown new out_now out_next → left ≡ drop shown.used block
+    → (k : LiveSoFar skin width height source out new shown.spot left (blocks + 1) source_next out_next) × (shown.is_wrong ≡ true → BeginNoText k.streamed.read)
+live_more skin width height source out old new spot waiting got block left shown blocks source_now source_next out_now out_next h handed came is f left_is =
     let s : Streamed source out source_now out_now = h.streamed in
     let taken : List ℕ = take shown.used block in
     let unfed : block ≡ s.front.rest ++ got = is ∙ ap (λ (l : List ℕ). l ++ got) (sym h.rest) in
     let front : IsTextFront block taken = record { rest = drop shown.used block; joins = sym (take-append-drop shown.used block); utf8 = f.front.utf8; longest = f.front.longest } in
     let both = fronts_joined s.read got s.text taken block s.front unfed front in
-    let made : List ℕ = encode_utf8_all (piece_shown place (chars taken)) in
-    let grown : growing (s.text ++ taken) ≡ growing s.text ++ made = growing_more s.text taken s.front.utf8 ∙ ap (λ p. growing s.text ++ encode_utf8_all (piece_shown p (chars taken))) (sym h.place_is) in
+    let made : List ℕ = encode_utf8_all (steady_piece spot (chars taken)) in
+    let grown : growing (s.text ++ taken) ≡ growing s.text ++ made = growing_more s.text taken s.front.utf8 ∙ ap (λ (p : Spot). growing s.text ++ encode_utf8_all (steady_piece p (chars taken))) (sym h.spot_is) in
     let utf8 : IsUtf8 (growing (s.text ++ taken)) = subst IsUtf8 (sym grown) (IsUtf8-append (growing s.text) made h.utf8 f.piece.utf8) in
     let bytes : List ℕ = f.piece.fed.bytes in (
       record {
@@ -135,7 +137,7 @@ live_more skin width height source out old new place waiting got block left show
         };
         rest = both.1 ∙ sym left_is;
         counted = omega (arith, h.counted, length-append s.read got);
-        place_is = f.place_is ∙ ap (λ p. place_after p (chars taken)) h.place_is ∙ sym (after_both LineStart (chars s.text) (chars taken)) ∙ ap (λ (cs : List ℕ). place_after LineStart cs) (sym (chars-append s.text taken s.front.utf8));
+        spot_is = f.spot_is ∙ ap (λ (p : Spot). spot_after p (chars taken)) h.spot_is ∙ sym (spot_more s.text taken s.front.utf8);
         utf8 = utf8;
         skin_is = f.piece.skin ∙ h.skin_is;
         width_is = f.piece.width ∙ h.width_is;
@@ -146,20 +148,21 @@ live_more skin width height source out old new place waiting got block left show
     )
 
 -- a block without bytes
-pub live_ended : (skin : RowSkin) (width : Option ℕ) (height : ℕ) (source out : Trace) (live : LiveText) (place : Place) (waiting : List ℕ) (blocks : ℕ) (source_now source_next out_now : Trace) (buffer : List ℕ) (count : ℕ)
-    → LiveSoFar skin width height source out live place waiting blocks source_now out_now → source_now ≡ ahead_all (take count buffer) source_next → count ≡ 0 → LiveSoFar skin width height source out live place waiting blocks source_next out_now
-live_ended skin width height source out live place waiting blocks source_now source_next out_now buffer count h handed none =
+pub live_ended : (skin : RowSkin) (width : Option ℕ) (height : ℕ) (source out : Trace) (live : LiveText) (spot : Spot) (waiting : List ℕ) (blocks : ℕ) (source_now source_next out_now : Trace) (buffer : List ℕ) (count : ℕ)
+    → LiveSoFar skin width height source out live spot waiting blocks source_now out_now → source_now ≡ ahead_all (take count buffer) source_next → count ≡ 0 → LiveSoFar skin width height source out live spot waiting blocks source_next out_now
+live_ended skin width height source out live spot waiting blocks source_now source_next out_now buffer count h handed none =
     let same : source_now ≡ source_next = handed ∙ ap (λ n. ahead_all (take n buffer) source_next) none ∙ sym (ahead_none source_next) in
-    subst (λ (t : Trace). LiveSoFar skin width height source out live place waiting blocks t out_now) same h
+    subst (λ (t : Trace). LiveSoFar skin width height source out live spot waiting blocks t out_now) same h
 
 -- ---- how it ends
 
 -- all rows of the text were shown
-pub shown_all : (skin : RowSkin) (width : Option ℕ) (height : ℕ) (source out : Trace) (live : LiveText) (place : Place) (waiting : List ℕ) (blocks : ℕ) (source_now out_now out_next : Trace) → (h : LiveSoFar skin width height source out live place waiting blocks source_now out_now)
-    → EndsShown live (end_shown place) out_now out_next → (k : Streamed source out source_now out_next) × (k.read ≡ h.streamed.read) × (k.text ≡ h.streamed.text) × ShowsAll skin width height source out source_now out_next k
-shown_all skin width height source out live place waiting blocks source_now out_now out_next h f =
+pub shown_all : (skin : RowSkin) (width : Option ℕ) (height : ℕ) (source out : Trace) (live : LiveText) (spot : Spot) (waiting : List ℕ) (blocks : ℕ) (source_now out_now out_next : Trace) → (h : LiveSoFar skin width height source out live spot waiting blocks source_now out_now)
+    → EndsShown live (encode_utf8_all (end_piece spot)) out_now out_next → (k : Streamed source out source_now out_next) × (k.read ≡ h.streamed.read) × (k.text ≡ h.streamed.text) × ShowsAll skin width height source out source_now out_next k
+shown_all skin width height source out live spot waiting blocks source_now out_now out_next h f =
     let s : Streamed source out source_now out_now = h.streamed in
-    let whole : printed s.text ≡ growing s.text ++ end_shown place = printed_all s.text ∙ ap (λ p. growing s.text ++ end_shown p) (sym h.place_is) in (
+    let last : List ℕ = encode_utf8_all (end_piece spot) in
+    let whole : steadied s.text ≡ growing s.text ++ last = steadied_all s.text ∙ ap (λ (p : Spot). growing s.text ++ encode_utf8_all (end_piece p)) (sym h.spot_is) in (
       record {
         read = s.read;
         handed_out = s.handed_out;
@@ -175,36 +178,27 @@ shown_all skin width height source out live place waiting blocks source_now out_
         some = omega arith;
         shows = λ columns p here clear enough fits.
             let rows : ℕ = p.reach + length p.below + 1 in
-            let so_far = h.shows columns p here clear enough (fits_before columns skin width (growing s.text) (end_shown place) (printed s.text) whole fits) in
+            let so_far = h.shows columns p here clear enough (fits_before columns skin width (growing s.text) last (steadied s.text) whole fits) in
             let now : FitsRows columns live.stream.skin live.stream.width (growing s.text) =
-            fits_same columns skin live.stream.skin width live.stream.width (growing s.text) h.skin_is h.width_is (fits_whole columns skin width (growing s.text) h.utf8 (fits_before columns skin width (growing s.text) (end_shown place) (printed s.text) whole fits)) in
-            let all : FitsRows columns live.stream.skin live.stream.width (growing s.text ++ end_shown place) =
-            fits_same columns skin live.stream.skin width live.stream.width (growing s.text ++ end_shown place) h.skin_is h.width_is (subst (λ (l : List ℕ). FitsRows columns skin width l) whole (fits_whole columns skin width (printed s.text) (subst IsUtf8 (sym whole) (IsUtf8-append (growing s.text) (end_shown place) h.utf8 (end_utf8 place))) fits)) in
+            fits_same columns skin live.stream.skin width live.stream.width (growing s.text) h.skin_is h.width_is (fits_whole columns skin width (growing s.text) h.utf8 (fits_before columns skin width (growing s.text) last (steadied s.text) whole fits)) in
+            let all : FitsRows columns live.stream.skin live.stream.width (growing s.text ++ last) =
+            fits_same columns skin live.stream.skin width live.stream.width (growing s.text ++ last) h.skin_is h.width_is (subst (λ (l : List ℕ). FitsRows columns skin width l) whole (fits_whole columns skin width (steadied s.text) (subst IsUtf8 (sym whole) (IsUtf8-append (growing s.text) last h.utf8 f.utf8)) fits)) in
             let ended = f.shows columns rows p.above (growing s.text) so_far.2.0 so_far.0 so_far.2.1 (omega (arith, h.height_is, enough)) now all in (
               ended.0,
               then_reads p so_far.0 ended.0 s.bytes f.bytes so_far.1 ended.2,
               (
                 ended.1,
-                laid_same live.stream.skin skin live.stream.width width (growing s.text ++ end_shown place) (printed s.text) ended.1 h.skin_is h.width_is whole ended.3,
+                laid_same live.stream.skin skin live.stream.width width (growing s.text ++ last) (steadied s.text) ended.1 h.skin_is h.width_is whole ended.3,
                 ended.4,
               ),
             );
       },
     )
-  where
-    newline_ascii : (i : ℕ) → get_or (10 ∷ []) i 0 < 128
-    newline_ascii zero = omega arith
-    newline_ascii (suc i) = omega arith
-
-    end_utf8 : (p : Place) → IsUtf8 (end_shown p)
-    end_utf8 LineStart = IsUtf8-nil
-    end_utf8 InLine = IsUtf8-nil
-    end_utf8 AfterReturn = IsUtf8-from_ascii (10 ∷ []) newline_ascii
 
 -- it stopped after some bytes more
-stopped : (skin : RowSkin) (width : Option ℕ) (height : ℕ) (source out : Trace) (live : LiveText) (place : Place) (waiting : List ℕ) (blocks : ℕ) (source_now out_now out_next source_last : Trace) (bytes : List ℕ)
-    → LiveSoFar skin width height source out live place waiting blocks source_now out_now → out_next ≡ after out_now bytes → (source_last ≡ source_now) ⊎ (source_last ≡ failed source_now) → StopsShowing skin width height source out source_last out_next
-stopped skin width height source out live place waiting blocks source_now out_now out_next source_last bytes h went reached =
+stopped : (skin : RowSkin) (width : Option ℕ) (height : ℕ) (source out : Trace) (live : LiveText) (spot : Spot) (waiting : List ℕ) (blocks : ℕ) (source_now out_now out_next source_last : Trace) (bytes : List ℕ)
+    → LiveSoFar skin width height source out live spot waiting blocks source_now out_now → out_next ≡ after out_now bytes → (source_last ≡ source_now) ⊎ (source_last ≡ failed source_now) → StopsShowing skin width height source out source_last out_next
+stopped skin width height source out live spot waiting blocks source_now out_now out_next source_last bytes h went reached =
     let s : Streamed source out source_now out_now = h.streamed in
     record {
       source_then = source_now;
@@ -221,19 +215,20 @@ stopped skin width height source out live place waiting blocks source_now out_no
       };
     }
 
-pub stops : (T : Type 0) (e : SourceError) (skin : RowSkin) (width : Option ℕ) (height : ℕ) (source out : Trace) (live : LiveText) (place : Place) (waiting : List ℕ) (blocks : ℕ) (source_now out_now out_next source_last : Trace)
-    → LiveSoFar skin width height source out live place waiting blocks source_now out_now → StopsAt out_now e out_next → (source_last ≡ source_now) ⊎ (source_last ≡ failed source_now) → ShowsSource {T = T} skin width height source out (Err e) source_last out_next
-stops T (Device f) skin width height source out live place waiting blocks source_now out_now out_next source_last h (bytes, went) reached =
-    (after out_now bytes, went, stopped skin width height source out live place waiting blocks source_now out_now (after out_now bytes) source_last bytes h refl reached)
-stops T Memory skin width height source out live place waiting blocks source_now out_now out_next source_last h (bytes, went) reached =
-    stopped skin width height source out live place waiting blocks source_now out_now out_next source_last bytes h went reached
-stops T (Source f) skin width height source out live place waiting blocks source_now out_now out_next source_last h at reached = absurd at
-stops T NotUtf8 skin width height source out live place waiting blocks source_now out_now out_next source_last h at reached = absurd at
+-- it stopped after some bytes more, as the call answers
+pub stops : (T : Type 0) (e : SourceError) (skin : RowSkin) (width : Option ℕ) (height : ℕ) (source out : Trace) (live : LiveText) (spot : Spot) (waiting : List ℕ) (blocks : ℕ) (source_now out_now out_next source_last : Trace)
+    → LiveSoFar skin width height source out live spot waiting blocks source_now out_now → StopsAt out_now e out_next → (source_last ≡ source_now) ⊎ (source_last ≡ failed source_now) → ShowsSource {T = T} skin width height source out (Err e) source_last out_next
+stops T (Device f) skin width height source out live spot waiting blocks source_now out_now out_next source_last h (bytes, went) reached =
+    (after out_now bytes, went, stopped skin width height source out live spot waiting blocks source_now out_now (after out_now bytes) source_last bytes h refl reached)
+stops T Memory skin width height source out live spot waiting blocks source_now out_now out_next source_last h (bytes, went) reached =
+    stopped skin width height source out live spot waiting blocks source_now out_now out_next source_last bytes h went reached
+stops T (Source f) skin width height source out live spot waiting blocks source_now out_now out_next source_last h at reached = absurd at
+stops T NotUtf8 skin width height source out live spot waiting blocks source_now out_now out_next source_last h at reached = absurd at
 
 -- it stopped in the middle of a block
-stopped_in_block : (skin : RowSkin) (width : Option ℕ) (height : ℕ) (source out : Trace) (live : LiveText) (place : Place) (waiting got block text bytes : List ℕ) (blocks : ℕ) (source_now source_next out_now out_next : Trace)
-    → LiveSoFar skin width height source out live place waiting blocks source_now out_now → source_now ≡ ahead_all got source_next → block ≡ waiting ++ got → IsTextFront block text → out_next ≡ after out_now bytes → StopsShowing skin width height source out source_next out_next
-stopped_in_block skin width height source out live place waiting got block text bytes blocks source_now source_next out_now out_next h handed is front went =
+stopped_in_block : (skin : RowSkin) (width : Option ℕ) (height : ℕ) (source out : Trace) (live : LiveText) (spot : Spot) (waiting got block text bytes : List ℕ) (blocks : ℕ) (source_now source_next out_now out_next : Trace)
+    → LiveSoFar skin width height source out live spot waiting blocks source_now out_now → source_now ≡ ahead_all got source_next → block ≡ waiting ++ got → IsTextFront block text → out_next ≡ after out_now bytes → StopsShowing skin width height source out source_next out_next
+stopped_in_block skin width height source out live spot waiting got block text bytes blocks source_now source_next out_now out_next h handed is front went =
     let s : Streamed source out source_now out_now = h.streamed in
     let unfed : block ≡ s.front.rest ++ got = is ∙ ap (λ (l : List ℕ). l ++ got) (sym h.rest) in
     record {
@@ -259,45 +254,46 @@ stopped_in_block skin width height source out live place waiting got block text 
       };
     }
 
-block_stops : (T : Type 0) (e : SourceError) (skin : RowSkin) (width : Option ℕ) (height : ℕ) (source out : Trace) (live : LiveText) (place : Place) (waiting got block text : List ℕ) (blocks : ℕ) (source_now source_next out_now out_next : Trace)
-    → LiveSoFar skin width height source out live place waiting blocks source_now out_now → source_now ≡ ahead_all got source_next → block ≡ waiting ++ got → IsTextFront block text → StopsAt out_now e out_next → ShowsSource {T = T} skin width height source out (Err e) source_next out_next
-block_stops T (Device f) skin width height source out live place waiting got block text blocks source_now source_next out_now out_next h handed is front (bytes, went) =
-    (after out_now bytes, went, stopped_in_block skin width height source out live place waiting got block text bytes blocks source_now source_next out_now (after out_now bytes) h handed is front refl)
-block_stops T Memory skin width height source out live place waiting got block text blocks source_now source_next out_now out_next h handed is front (bytes, went) =
-    stopped_in_block skin width height source out live place waiting got block text bytes blocks source_now source_next out_now out_next h handed is front went
-block_stops T (Source f) skin width height source out live place waiting got block text blocks source_now source_next out_now out_next h handed is front at = absurd at
-block_stops T NotUtf8 skin width height source out live place waiting got block text blocks source_now source_next out_now out_next h handed is front at = absurd at
+block_stops : (T : Type 0) (e : SourceError) (skin : RowSkin) (width : Option ℕ) (height : ℕ) (source out : Trace) (live : LiveText) (spot : Spot) (waiting got block text : List ℕ) (blocks : ℕ) (source_now source_next out_now out_next : Trace)
+    → LiveSoFar skin width height source out live spot waiting blocks source_now out_now → source_now ≡ ahead_all got source_next → block ≡ waiting ++ got → IsTextFront block text → StopsAt out_now e out_next → ShowsSource {T = T} skin width height source out (Err e) source_next out_next
+block_stops T (Device f) skin width height source out live spot waiting got block text blocks source_now source_next out_now out_next h handed is front (bytes, went) =
+    (after out_now bytes, went, stopped_in_block skin width height source out live spot waiting got block text bytes blocks source_now source_next out_now (after out_now bytes) h handed is front refl)
+block_stops T Memory skin width height source out live spot waiting got block text blocks source_now source_next out_now out_next h handed is front (bytes, went) =
+    stopped_in_block skin width height source out live spot waiting got block text bytes blocks source_now source_next out_now out_next h handed is front went
+block_stops T (Source f) skin width height source out live spot waiting got block text blocks source_now source_next out_now out_next h handed is front at = absurd at
+block_stops T NotUtf8 skin width height source out live spot waiting got block text blocks source_now source_next out_now out_next h handed is front at = absurd at
 
-pub block_exit : {T : Type 0} (r : Result T SourceError) (e : SourceError) (skin : RowSkin) (width : Option ℕ) (height : ℕ) (source out : Trace) (live : LiveText) (place : Place) (waiting got block : List ℕ) (blocks : ℕ) (source_now source_next out_now out_next : Trace)
-    → LiveSoFar skin width height source out live place waiting blocks source_now out_now → source_now ≡ ahead_all got source_next → block ≡ waiting ++ got → StopsInBlock block out_now e out_next → IsErrAnd r (λ d. d ≡ e) → ShowsSource skin width height source out r source_next out_next
-block_exit {T} r e skin width height source out live place waiting got block blocks source_now source_next out_now out_next h handed is stop refused =
+-- it stopped in the middle of a block, as the call answers
+pub block_exit : {T : Type 0} (r : Result T SourceError) (e : SourceError) (skin : RowSkin) (width : Option ℕ) (height : ℕ) (source out : Trace) (live : LiveText) (spot : Spot) (waiting got block : List ℕ) (blocks : ℕ) (source_now source_next out_now out_next : Trace)
+    → LiveSoFar skin width height source out live spot waiting blocks source_now out_now → source_now ≡ ahead_all got source_next → block ≡ waiting ++ got → StopsInBlock block out_now e out_next → IsErrAnd r (λ d. d ≡ e) → ShowsSource skin width height source out r source_next out_next
+block_exit {T} r e skin width height source out live spot waiting got block blocks source_now source_next out_now out_next h handed is stop refused =
     let p = err_from_is_err_and r refused in
-    subst (λ (q : Result T SourceError). ShowsSource skin width height source out q source_next out_next) (sym (p.1 ∙ ap Err p.2)) (block_stops T e skin width height source out live place waiting got block stop.text blocks source_now source_next out_now out_next h handed is stop.front stop.stops)
+    subst (λ (q : Result T SourceError). ShowsSource skin width height source out q source_next out_next) (sym (p.1 ∙ ap Err p.2)) (block_stops T e skin width height source out live spot waiting got block stop.text blocks source_now source_next out_now out_next h handed is stop.front stop.stops)
 
 -- whatever the end answers, where the source had failed
-pub fault_exit : (r : Result (Unit {0}) SourceError) (e : IoError) (skin : RowSkin) (width : Option ℕ) (height : ℕ) (source out : Trace) (live : LiveText) (place : Place) (waiting : List ℕ) (blocks : ℕ) (source_now source_next out_now out_next : Trace)
-    → LiveSoFar skin width height source out live place waiting blocks source_now out_now → source_next ≡ failed source_now → EndsWith live (end_shown place) (Err (Source e)) out_now r out_next → ShowsSource skin width height source out r source_next out_next
-fault_exit (Ok x) e skin width height source out live place waiting blocks source_now source_next out_now out_next h fault ends = absurd (clash ends.0)
+pub fault_exit : (r : Result (Unit {0}) SourceError) (e : IoError) (skin : RowSkin) (width : Option ℕ) (height : ℕ) (source out : Trace) (live : LiveText) (spot : Spot) (waiting : List ℕ) (blocks : ℕ) (source_now source_next out_now out_next : Trace)
+    → LiveSoFar skin width height source out live spot waiting blocks source_now out_now → source_next ≡ failed source_now → EndsWith live (encode_utf8_all (end_piece spot)) (Err (Source e)) out_now r out_next → ShowsSource skin width height source out r source_next out_next
+fault_exit (Ok x) e skin width height source out live spot waiting blocks source_now source_next out_now out_next h fault ends = absurd (clash ends.0)
   where
     clash : Err (Source e) ≡ Ok x → ⊥
     clash is = cc
-fault_exit (Err f) e skin width height source out live place waiting blocks source_now source_next out_now out_next h fault (inr at) = stops (Unit {0}) f skin width height source out live place waiting blocks source_now out_now out_next source_next h at (inr fault)
-fault_exit (Err f) e skin width height source out live place waiting blocks source_now source_next out_now out_next h fault (inl (same, all)) =
-    let k = shown_all skin width height source out live place waiting blocks source_now out_now out_next h all in
+fault_exit (Err f) e skin width height source out live spot waiting blocks source_now source_next out_now out_next h fault (inr at) = stops (Unit {0}) f skin width height source out live spot waiting blocks source_now out_now out_next source_next h at (inr fault)
+fault_exit (Err f) e skin width height source out live spot waiting blocks source_now source_next out_now out_next h fault (inl (same, all)) =
+    let k = shown_all skin width height source out live spot waiting blocks source_now out_now out_next h all in
     subst (λ (q : Result (Unit {0}) SourceError). ShowsSource skin width height source out q source_next out_next) same (record { last = source_now; fault = fault; streamed = k.0; shows = k.3 })
 
 -- or all bytes were read, or some that are no text
-pub text_exit : (r ended : Result (Unit {0}) SourceError) (skin : RowSkin) (width : Option ℕ) (height : ℕ) (source out : Trace) (live : LiveText) (place : Place) (waiting : List ℕ) (blocks : ℕ) (source_now out_now out_next : Trace)
-    → (h : LiveSoFar skin width height source out live place waiting blocks source_now out_now) → MatchResult ended (λ _. (h.streamed.text ≡ h.streamed.read) × IsReadOut h.streamed.read source_now) (λ e. (e ≡ NotUtf8) × IsNoText h.streamed.read source_now)
-    → EndsWith live (end_shown place) ended out_now r out_next → ShowsSource skin width height source out r source_now out_next
-text_exit (Ok x) ended skin width height source out live place waiting blocks source_now out_now out_next h why (same, all) =
-    let k = shown_all skin width height source out live place waiting blocks source_now out_now out_next h all in
+pub text_exit : (r ended : Result (Unit {0}) SourceError) (skin : RowSkin) (width : Option ℕ) (height : ℕ) (source out : Trace) (live : LiveText) (spot : Spot) (waiting : List ℕ) (blocks : ℕ) (source_now out_now out_next : Trace)
+    → (h : LiveSoFar skin width height source out live spot waiting blocks source_now out_now) → MatchResult ended (λ _. (h.streamed.text ≡ h.streamed.read) × IsReadOut h.streamed.read source_now) (λ e. (e ≡ NotUtf8) × IsNoText h.streamed.read source_now)
+    → EndsWith live (encode_utf8_all (end_piece spot)) ended out_now r out_next → ShowsSource skin width height source out r source_now out_next
+text_exit (Ok x) ended skin width height source out live spot waiting blocks source_now out_now out_next h why (same, all) =
+    let k = shown_all skin width height source out live spot waiting blocks source_now out_now out_next h all in
     let good : (h.streamed.text ≡ h.streamed.read) × IsReadOut h.streamed.read source_now =
     subst (λ (q : Result (Unit {0}) SourceError). MatchResult q (λ _. (h.streamed.text ≡ h.streamed.read) × IsReadOut h.streamed.read source_now) (λ e. (e ≡ NotUtf8) × IsNoText h.streamed.read source_now)) same why in
     record { streamed = k.0; whole = k.2 ∙ good.0 ∙ sym k.1; over = subst (λ (l : List ℕ). IsReadOut l source_now) (sym k.1) good.1; shows = k.3 }
-text_exit (Err f) ended skin width height source out live place waiting blocks source_now out_now out_next h why (inr at) = stops (Unit {0}) f skin width height source out live place waiting blocks source_now out_now out_next source_now h at (inl refl)
-text_exit (Err f) ended skin width height source out live place waiting blocks source_now out_now out_next h why (inl (same, all)) =
-    let k = shown_all skin width height source out live place waiting blocks source_now out_now out_next h all in
+text_exit (Err f) ended skin width height source out live spot waiting blocks source_now out_now out_next h why (inr at) = stops (Unit {0}) f skin width height source out live spot waiting blocks source_now out_now out_next source_now h at (inl refl)
+text_exit (Err f) ended skin width height source out live spot waiting blocks source_now out_now out_next h why (inl (same, all)) =
+    let k = shown_all skin width height source out live spot waiting blocks source_now out_now out_next h all in
     let bad : (f ≡ NotUtf8) × IsNoText h.streamed.read source_now =
     subst (λ (q : Result (Unit {0}) SourceError). MatchResult q (λ _. (h.streamed.text ≡ h.streamed.read) × IsReadOut h.streamed.read source_now) (λ e. (e ≡ NotUtf8) × IsNoText h.streamed.read source_now)) same why in
     subst (λ (e : SourceError). ShowsSource {T = Unit {0}} skin width height source out (Err e) source_now out_next) (sym bad.0) (record { streamed = k.0; wrong = subst (λ (l : List ℕ). IsNoText l source_now) (sym k.1) bad.1; shows = k.3 })
@@ -360,6 +356,7 @@ end_shown_now x live before between now (inr is) flush = absurd (clash is)
     clash is = cc
 end_shown_now x live before between now (inl f) flush = record {
   bytes = f.bytes;
+  utf8 = IsUtf8-nil;
   went = flush ∙ ap flushed f.wrote;
   shows = λ columns height above read done p live_now enough fits all.
       let ended = f.shows columns height above read done p live_now enough fits in
@@ -370,6 +367,7 @@ end_shown_now x live before between now (inl f) flush = record {
 pub end_after_piece : (old new : LiveText) (piece : List ℕ) (before between now : Trace) → ShowsPiece old piece new before between → EndsShown new [] between now → EndsShown old piece before now
 end_after_piece old new piece before between now f e = record {
   bytes = f.fed.bytes ++ e.bytes;
+  utf8 = f.utf8;
   went = e.went ∙ ap flushed (ap (λ t. after t e.bytes) f.fed.wrote ∙ after-append before f.fed.bytes e.bytes);
   shows = λ columns height above read done p live_now enough fits all.
       let n : ShowsNow {T = Unit {0}} columns height above (read ++ piece) done f.fed.wanted new (Ok (tt {0})) p f.fed.bytes = f.fed.shows columns height above read done p live_now enough all in
@@ -415,6 +413,7 @@ piece_fed x old new piece n r before now utf8 is all fed skin width height =
       height = height;
     }
 
+-- a piece that was fed was refused
 pub piece_refused : (e : Error) (f : SourceError) (old new : LiveText) (piece : List ℕ) (n : ℕ) (r : Result (Unit {0}) Error) (before now : Trace) → r ≡ Err e → f ≡ refusal_of e
     → FeedsLive {T = Unit {0}} old (take n piece) new before r now ⊎ IsErrOf r writing.Memory → (IsErrOf r writing.Memory → now ≡ before) → StopsAt before f now
 piece_refused e f old new piece n r before now is told fed early =
@@ -423,18 +422,18 @@ piece_refused e f old new piece n r before now is told fed early =
     (subst (λ (q : Result (Unit {0}) Error). IsErrOf q writing.Memory → now ≡ before) is early))
 
 -- a block was shown
-pub block_shown : (old new : LiveText) (place next : Place) (block text piece : List ℕ) (is_wrong : Bool) (before between now : Trace) → IsTextFront block text → (is_wrong ≡ false → length block ≤ length text + 3) → (is_wrong ≡ true → BeginNoText block)
-    → next ≡ place_after place (chars text) → piece ≡ encode_utf8_all (piece_shown place (chars text)) → ShowsPiece old piece new before between → now ≡ flushed between → ShowsBlock old place block (record { used = length text; is_wrong = is_wrong; place = next }) new before now
-block_shown old new place next block text piece is_wrong before between now front short wrong place_is made f went =
+pub block_shown : (old new : LiveText) (spot next : Spot) (block text piece : List ℕ) (is_wrong : Bool) (before between now : Trace) → IsTextFront block text → (is_wrong ≡ false → length block ≤ length text + 3) → (is_wrong ≡ true → BeginNoText block)
+    → next ≡ spot_after spot (chars text) → piece ≡ encode_utf8_all (steady_piece spot (chars text)) → ShowsPiece old piece new before between → now ≡ flushed between → ShowsBlock old spot block (record { used = length text; is_wrong = is_wrong; spot = next }) new before now
+block_shown old new spot next block text piece is_wrong before between now front short wrong spot_is made f went =
     let taken : take (length text) block ≡ text = ap (take (length text)) front.joins ∙ take-append_seam text front.rest in
     record {
       within = omega (arith, ap length front.joins, length-append text front.rest);
       front = subst (λ (t : List ℕ). IsTextFront block t) (sym taken) front;
       short = short;
       wrong = wrong;
-      place_is = place_is ∙ ap (λ (t : List ℕ). place_after place (chars t)) (sym taken);
+      spot_is = spot_is ∙ ap (λ (t : List ℕ). spot_after spot (chars t)) (sym taken);
       between = between;
-      piece = subst (λ (l : List ℕ). ShowsPiece old l new before between) (made ∙ ap (λ (t : List ℕ). encode_utf8_all (piece_shown place (chars t))) (sym taken)) f;
+      piece = subst (λ (l : List ℕ). ShowsPiece old l new before between) (made ∙ ap (λ (t : List ℕ). encode_utf8_all (steady_piece spot (chars t))) (sym taken)) f;
       went = went;
     }
 
@@ -444,6 +443,7 @@ finish_refused e f live r before now is told ends early =
     subst (λ (d : SourceError). StopsAt before d now) (sym told)
     (end_stops (Unit {0}) e live before now (subst (λ (q : Result (Unit {0}) Error). EndsLive live before q now ⊎ IsErrOf q writing.Memory) is ends) (subst (λ (q : Result (Unit {0}) Error). IsErrOf q writing.Memory → now ≡ before) is early))
 
+-- the end of what was fed was shown, and flushed
 pub finish_shown : (x : Unit {0}) (live : LiveText) (r : Result (Unit {0}) Error) (before between now : Trace) → r ≡ Ok x → EndsLive live before r between ⊎ IsErrOf r writing.Memory → now ≡ flushed between → EndsShown live [] before now
 finish_shown x live r before between now is ends flush = end_shown_now x live before between now (subst (λ (q : Result (Unit {0}) Error). EndsLive live before q between ⊎ IsErrOf q writing.Memory) is ends) flush
 
@@ -454,6 +454,7 @@ finish_went x live before between (inr is) = absurd (clash is)
     clash : Ok x ≡ Err writing.Memory → ⊥
     clash is = cc
 
+-- the flush at a text's end was refused
 pub end_flush_exit : (r ended : Result (Unit {0}) SourceError) (e : SourceError) (x : Unit {0}) (live : LiveText) (s : Result (Unit {0}) Error) (before between now : Trace) → s ≡ Ok x → EndsLive live before s between ⊎ IsErrOf s writing.Memory
     → FlushesOut {T = Unit {0}} between (Err e) now → IsErrAnd r (λ d. d ≡ e) → EndsWith live [] ended before r now
 end_flush_exit r ended e x live s before between now is ends flush refused =
@@ -467,7 +468,6 @@ end_stop_exit r ended e live last before now at refused =
     let p = err_from_is_err_and r refused in
     subst (λ (q : Result (Unit {0}) SourceError). EndsWith live last ended before q now) (sym (p.1 ∙ ap Err p.2)) (inr at)
 
-pub no_return : (p : Place) → p ≢ AfterReturn → end_shown p ≡ []
-no_return LineStart other = refl
-no_return InLine other = refl
-no_return AfterReturn other = absurd (other refl)
+pub no_bytes : (l : List ℕ) → length l ≡ 0 → l ≡ []
+no_bytes [] none = refl
+no_bytes (x ∷ l) none = absurd (omega arith)

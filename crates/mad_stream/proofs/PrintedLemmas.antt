@@ -9,7 +9,7 @@ use Rattle.mad_printable.specs.Pictures.{picture}
 use Rattle.mad_md.proofs.PartsLemmas.{true_test}
 use Rattle.mad_blocks.proofs.LayoutJoins.{by_bool}
 use Rattle.mad_stream.proofs.TextFrontLemmas.{rest_of}
-use Rattle.mad_stream.specs.PrintedPieces.{shown_growing, growing, printed, place_of, place_after, place_char, place_shown, piece_shown, end_shown}
+use Rattle.mad_stream.specs.PrintedPieces.{shown_growing, place_of, place_after, place_char, place_shown, piece_shown, end_shown}
 use Rattle.mad_stream.specs.declared.printed.Place.{Place}
 use Rattle.mad_stream.specs.declared.printed.Place.TheVariants.{LineStart, InLine, AfterReturn}
 
@@ -50,6 +50,7 @@ one_then b c ds =
     other (d ∷ ds) off =
         ap (λ (l : List ℕ). l ++ shown_growing (c == 10) (d ∷ ds)) (shown_alone b c (d ∷ ds) off ∙ sym (growing_alone b c off)) ∙ ap (λ (l : List ℕ). shown_growing b (c ∷ []) ++ l) (line_end c (d ∷ ds) off)
 
+-- some characters, and what comes after them
 pub some_then : (b : Bool) (cs ds : List ℕ) (p : Place) → shown_growing b ds ≡ piece_shown p ds → shown_growing b (cs ++ ds) ≡ shown_growing b cs ++ piece_shown (place_after p cs) ds
 some_then b [] ds p first = first
 some_then b (c ∷ []) ds p first = one_then b c ds
@@ -81,35 +82,22 @@ one_ended b c =
     other : (c == 13) ≡ false → shown_from b (c ∷ []) ≡ shown_growing b (c ∷ []) ++ end_shown (place_of c)
     other off = ap (λ (l : List ℕ). l ++ []) (sym (growing_alone b c off)) ∙ ap (λ (l : List ℕ). shown_growing b (c ∷ []) ++ l) (sym (none_ended off))
 
+-- a text that is at its end is what it was as it grew, and what is shown at the end
 pub all_ended : (b : Bool) (cs : List ℕ) (p : Place) → end_shown p ≡ [] → shown_from b cs ≡ shown_growing b cs ++ end_shown (place_after p cs)
 all_ended b [] p none = sym none
 all_ended b (c ∷ []) p none = one_ended b c
 all_ended b (c ∷ d ∷ cs) p none =
     ap (λ (l : List ℕ). shown_as b c (d ∷ cs) ++ l) (all_ended (c == 10) (d ∷ cs) LineStart refl) ∙ sym (append_assoc (shown_as b c (d ∷ cs)) (shown_growing (c == 10) (d ∷ cs)) (end_shown (place_after (place_of d) cs)))
 
--- ---- texts
+-- ---- a piece that is placed behind a character
 
-pub growing_none : growing [] ≡ []
-growing_none = ap (λ (cs : List ℕ). encode_utf8_all (shown_growing true cs)) chars-nil
-
-pub growing_more : (a b : List ℕ) → IsUtf8 a → growing (a ++ b) ≡ growing a ++ encode_utf8_all (piece_shown (place_after LineStart (chars a)) (chars b))
-growing_more a b utf8 =
-    ap (λ (cs : List ℕ). encode_utf8_all (shown_growing true cs)) (chars-append a b utf8) ∙ ap encode_utf8_all (some_then true (chars a) (chars b) LineStart refl)
-    ∙ encodes-append (shown_growing true (chars a)) (piece_shown (place_after LineStart (chars a)) (chars b))
-
-encode_end : (p : Place) → encode_utf8_all (end_shown p) ≡ end_shown p
+pub encode_end : (p : Place) → encode_utf8_all (end_shown p) ≡ end_shown p
 unfolding lib.Utf8.encode
 encode_end LineStart = refl
 encode_end InLine = refl
 encode_end AfterReturn = refl
 
-pub printed_all : (text : List ℕ) → printed text ≡ growing text ++ end_shown (place_after LineStart (chars text))
-printed_all text =
-    ap encode_utf8_all (all_ended true (chars text) LineStart refl) ∙ encodes-append (shown_growing true (chars text)) (end_shown (place_after LineStart (chars text)))
-    ∙ ap (λ (l : List ℕ). growing text ++ l) (encode_end (place_after LineStart (chars text)))
-
--- ---- a piece that is placed behind a character
-
+-- the place after some characters and others
 pub after_both : (p : Place) (cs ds : List ℕ) → place_after p (cs ++ ds) ≡ place_after (place_after p cs) ds
 after_both p [] ds = refl
 after_both p (c ∷ cs) ds = after_both (place_of c) cs ds
@@ -136,6 +124,7 @@ last_place p text front c utf8 first is =
     ap (λ (t : List ℕ). place_after p (chars t)) is ∙ ap (λ (cs : List ℕ). place_after p cs) (chars-append front (encode_utf8 c) first ∙ ap (λ (cs : List ℕ). chars front ++ cs) (last ∙ ap (λ (cs : List ℕ). c ∷ cs) chars-nil))
     ∙ after_both p (chars front) (c ∷ [])
 
+-- an empty piece leaves the place
 pub no_place : (p : Place) (text : List ℕ) → length text ≡ 0 → place_after p (chars text) ≡ p
 no_place p [] none = ap (λ (cs : List ℕ). place_after p cs) chars-nil
 no_place p (x ∷ text) none = absurd (omega arith)
@@ -155,5 +144,6 @@ piece_made p piece placed made utf8 is made_is =
     made_is ∙ ap (λ (ds : List ℕ). encode_utf8_all (printable_text ds)) (placed_chars p piece placed utf8 is) ∙ ap encode_utf8_all (piece_placed p cs) ∙ encodes-append (place_shown p) (piece_shown p cs ++ last)
     ∙ ap (λ (l : List ℕ). l ++ encode_utf8_all (piece_shown p cs ++ last)) (encode_place p) ∙ ap (λ (l : List ℕ). place_shown p ++ l) (encodes-append (piece_shown p cs) last ∙ ap (λ (l : List ℕ). encode_utf8_all (piece_shown p cs) ++ l) (encode_end (place_after p cs)))
 
+-- a call answers a text, along what is equal
 pub text_is : {S E : Type 0} (bytes_of : S → List ℕ) (r : Result S E) (bytes text : List ℕ) → IfOk r (λ s. bytes_of s ≡ bytes) → bytes ≡ text → IfOk r (λ s. bytes_of s ≡ text)
 text_is {S} {E} bytes_of r bytes text h is = subst (λ (b : List ℕ). IfOk r (λ s. bytes_of s ≡ b)) is h

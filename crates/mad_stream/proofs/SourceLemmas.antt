@@ -71,6 +71,7 @@ ahead_more old mid new front back p q =
 
 -- ---- the text that was read
 
+-- an empty list of bytes is text
 pub front_none : IsTextFront [] []
 front_none = record { rest = []; joins = refl; utf8 = IsUtf8-nil; longest = λ n past within. absurd (omega arith) }
 
@@ -85,6 +86,7 @@ take_past (x ∷ a) b (suc n) h =
 whole_is : (read got text block : List ℕ) → (h : IsTextFront read text) → block ≡ h.rest ++ got → read ++ got ≡ text ++ block
 whole_is read got text block h is = ap (λ (l : List ℕ). l ++ got) h.joins ∙ append_assoc text h.rest got ∙ ap (λ (l : List ℕ). text ++ l) (sym is)
 
+-- the text of a block goes on with the text of what was read before
 pub fronts_joined : (read got text more block : List ℕ) → (h : IsTextFront read text) → block ≡ h.rest ++ got → (k : IsTextFront block more) → (f : IsTextFront (read ++ got) (text ++ more)) × (f.rest ≡ k.rest)
 fronts_joined read got text more block h is k =
     let whole : read ++ got ≡ text ++ block = whole_is read got text block h is in (
@@ -99,6 +101,7 @@ fronts_joined read got text more block h is k =
       refl,
     )
 
+-- where no text begins with a block, none begins with all that was read
 pub no_text_joined : (read got text block : List ℕ) → (h : IsTextFront read text) → block ≡ h.rest ++ got → BeginNoText block → BeginNoText (read ++ got)
 no_text_joined read got text block h is never more u =
     never more (rest_of text (block ++ more) h.utf8 (subst IsUtf8 (ap (λ (l : List ℕ). l ++ more) (whole_is read got text block h is) ∙ append_assoc text block more) u))
@@ -107,6 +110,7 @@ no_text_joined read got text block h is never more u =
 pub front_whole : (read text : List ℕ) → (h : IsTextFront read text) → h.rest ≡ [] → text ≡ read
 front_whole read text h none = sym (h.joins ∙ ap (λ (l : List ℕ). text ++ l) none ∙ append-nil text)
 
+-- where some of it waits, it isn't text
 pub front_partly : (read text : List ℕ) → (h : IsTextFront read text) → 0 < length h.rest → ¬ (IsUtf8 read)
 front_partly read text h some u =
     h.longest (length read) (omega (arith, ap length h.joins, length-append text h.rest)) (omega arith) (subst IsUtf8 (sym (take_all (length read) read (omega arith))) u)
@@ -179,6 +183,7 @@ end_cut s read sent front rest bytes {T} r before now f whole = record {
   rows = f.rows ∙ ap (λ (b : List ℕ). sent ++ b) (sym whole) ∙ sym (append_assoc sent front rest);
 }
 
+-- the rows at a text's end were refused
 pub end_refused : (T U : Type 0) (e : Error) (s : TextStream) (is_whole : Bool) (before now : Trace) → ((read sent : List ℕ) → IsInStep read s sent → Finishes {T = T} s.skin s.width read sent before (Err e) now) → EndsText {T = U} s is_whole before (Err (refusal_of e)) now
 end_refused T U (writing.IO e) s is_whole before now finishes = λ read sent h.
     let f = finishes read sent h in
@@ -200,12 +205,14 @@ end_unflushed T U V x (Device e) r s is_whole before written now finishes h is =
 end_unflushed T U V x NotUtf8 r s is_whole before written now finishes h is = absurd h
 end_unflushed T U V x Memory r s is_whole before written now finishes h is = absurd h
 
+-- the end of a text went out, and was flushed
 pub ends_whole : {T : Type 0} (x : T) (s : TextStream) (before written now : Trace) → ((read sent : List ℕ) → IsInStep read s sent → Finishes {T = T} s.skin s.width read sent before (Ok x) written) → now ≡ flushed written
     → EndsFlushed s before now
 ends_whole {T} x s before written now finishes flush = record { written = written; whole = end_whole x s before written finishes; went = flush }
 
 -- ---- a block
 
+-- the rows of a block were refused
 pub stops_at_rows : {T : Type 0} (old : TextStream) (block text : List ℕ) (n : ℕ) (new : TextStream) (before : Trace) (cause : Error) (e : SourceError) (now : Trace) → IsTextFront block text → e ≡ refusal_of cause → Steps {T = T} old (take n text) new before (Err cause) now
     → new.skin ≡ old.skin → new.width ≡ old.width → StopsInBlock old block new before e now
 stops_at_rows {T} old block text n new before cause e now front told fed skin width = record {
@@ -226,6 +233,7 @@ stops_at_rows {T} old block text n new before cause e now front told fed skin wi
     steps_refused {T} old taken new before (writing.InsufficientWidth e) now s = absurd s.went
     steps_refused {T} old taken new before writing.Memory now s = record { bytes = s.bytes; went = s.went; keeps = s.keeps }
 
+-- the flush after a block was refused
 pub stops_at_flush : (T U : Type 0) (x : T) (old : TextStream) (block text taken : List ℕ) (new : TextStream) (before between : Trace) (e : SourceError) (now : Trace) → IsTextFront block text → taken ≡ text → Steps {T = T} old taken new before (Ok x) between
     → FlushesOut {T = U} between (Err e) now → new.skin ≡ old.skin → new.width ≡ old.width → StopsInBlock old block new before e now
 stops_at_flush T U x old block text taken new before between (Source e) now front all fed h skin width = absurd h
@@ -257,6 +265,7 @@ pub record SourceSoFar (skin : RowSkin) (width : Option ℕ) (source out : Trace
   pub skin_is : s.skin ≡ skin
   pub width_is : s.width ≡ width
 
+-- nothing was read yet
 pub source_start : (skin : RowSkin) (width : Option ℕ) (source out : Trace) (s : TextStream) (waiting : List ℕ) → waiting ≡ [] → IsInStep [] s [] → IsPrompt s → s.skin ≡ skin → s.width ≡ width → SourceSoFar skin width source out s waiting 0 source out
 source_start skin width source out s waiting none step prompt skin_is width_is = record {
   streamed = record { read = []; handed_out = ahead_none source; text = []; front = record { rest = []; joins = refl; utf8 = IsUtf8-nil; longest = front_none.longest }; bytes = []; flushes = 0; went = sym (after-nil out) };
@@ -308,6 +317,7 @@ source_more skin width source out old new waiting got block left used blocks is_
 
 -- ---- exits
 
+-- the source failed
 pub source_failed : (T : Type 0) (e : IoError) (skin : RowSkin) (width : Option ℕ) (source out : Trace) (s : TextStream) (waiting : List ℕ) (blocks : ℕ) (source_now source_next out_now : Trace) → SourceSoFar skin width source out s waiting blocks source_now out_now
     → source_next ≡ failed source_now → StreamsSource {T = T} skin width source out (Err (Source e)) source_next out_now
 source_failed T e skin width source out s waiting blocks source_now source_next out_now h fault = record {
@@ -367,6 +377,7 @@ stopped_by T writing.Memory skin width source out old new waiting got block text
           (block_rows skin width h.streamed.text (h.streamed.bytes ++ fed.bytes) text taken later old new h.skin_is h.width_is skin_same width_same joins (fed.keeps h.streamed.text h.streamed.bytes h.step));
     })
 
+-- a block was refused
 pub block_stopped : {T : Type 0} (r : Result T SourceError) (e : SourceError) (skin : RowSkin) (width : Option ℕ) (source out : Trace) (old new : TextStream) (waiting got block : List ℕ) (blocks : ℕ) (source_now source_next out_now out_next : Trace)
     → SourceSoFar skin width source out old waiting blocks source_now out_now → source_now ≡ ahead_all got source_next → block ≡ waiting ++ got → StopsInBlock old block new out_now e out_next → IsErrAnd r (λ d. d ≡ e) → StreamsSource skin width source out r source_next out_next
 block_stopped {T} r e skin width source out old new waiting got block blocks source_now source_next out_now out_next h handed is stop refused =
@@ -467,12 +478,15 @@ block_come block buffer others waiting count inside within =
     let more : (waiting + count) - length (take waiting block) ≡ count = omega arith in
     take_past (take waiting block) (buffer ++ others) (waiting + count) (omega arith) ∙ ap (λ n. take waiting block ++ take n (buffer ++ others)) more ∙ ap (λ (l : List ℕ). take waiting block ++ l) (take-append-le count buffer others within)
 
+-- where the count of what waits is 0, nothing waits
 pub none_waits : (waiting : ℕ) (block : List ℕ) → (waiting == 0) ≡ true → length (take waiting block) ≡ 0
 none_waits waiting block is = ap (λ n. length (take n block)) (true_test waiting 0 is)
 
+-- where it isn't 0, something waits
 pub some_wait : (waiting : ℕ) (block : List ℕ) → waiting ≤ length block → (waiting == 0) ≡ false → 0 < length (take waiting block)
 some_wait zero block inside is = let same : (0 == 0) ≡ true = test_true 0 0 refl in absurd (true≢false (sym same ∙ is))
 some_wait (suc n) block inside is = omega (arith, length-take-le (suc n) block inside)
 
+-- where the count of what came isn't 0, something came
 pub some_came : (buffer : List ℕ) (count : ℕ) → count ≤ length buffer → count ≢ 0 → 0 < length (take count buffer)
 some_came buffer count within some = omega (arith, some, length-take-le count buffer within)

@@ -138,10 +138,12 @@ never front rest more k u some longest fault whole =
 
 -- ---- where bytes stop being text
 
+-- bytes behind the text that are no error are three at most
 pub short_rest : (bytes text : List ℕ) (n : ℕ) (fault : Option ℕ) → text ≡ take n bytes → IsValidUpTo bytes n → IsErrorLen bytes n fault → is_some fault ≡ false → length bytes ≤ length text + 3
 short_rest bytes text n None is v h none = omega (arith, ap length is, length-take-le n bytes (omega (arith, v.short)))
 short_rest bytes text n (Some k) is v h none = absurd (cc)
 
+-- bytes that are valid up to there have this text as their longest front
 pub text_front : (bytes text : List ℕ) (n : ℕ) → text ≡ take n bytes → IsValidUpTo bytes n → IsTextFront bytes text
 text_front bytes text n is v =
     let size : length text ≡ n = ap length is ∙ length-take-le n bytes (omega (arith, v.short)) in
@@ -152,6 +154,7 @@ text_front bytes text n is v =
       longest = λ m more within. v.longest m (omega arith);
     }
 
+-- where an error follows, no text begins with the bytes
 pub wrong_rest : (bytes more : List ℕ) (n : ℕ) (fault : Option ℕ) → IsValidUpTo bytes n → fault ≡ utf8_error_len (drop n bytes) → is_some fault ≡ true → ¬ (IsUtf8 (bytes ++ more))
 wrong_rest bytes more n None v told is = absurd (cc)
 wrong_rest bytes more n (Some k) v told is =

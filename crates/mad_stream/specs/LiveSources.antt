@@ -6,7 +6,7 @@ use Rattle.mad_live.specs.Papers.{Paper, Reads, blank_line}
 use Rattle.mad_live.specs.LiveRows.{AreBlank, AreLast, Shows}
 use Rattle.mad_rows.specs.declared.row_skin.RowSkin.{RowSkin}
 use Rattle.mad_stream.specs.LiveTexts.{IsLaidOut, FitsRows, without_last}
-use Rattle.mad_stream.specs.PrintedPieces.{growing, printed}
+use Rattle.mad_stream.specs.SteadyPieces.{growing, steadied}
 use Rattle.mad_stream.specs.Sources.{IsReadOut, IsNoText, Streamed}
 use Rattle.mad_stream.specs.declared.source_error.SourceError.{SourceError}
 use Rattle.mad_stream.specs.declared.source_error.SourceError.TheVariants.{Source, Device, NotUtf8, Memory}
@@ -35,9 +35,9 @@ LeadsTo skin width height text bytes Has =
 
 -- ---- how it ends
 
--- Every terminal has all rows of a layout of the text that was read, made printable, from the first on, and the cursor below. They were flushed.
+-- Every terminal has all rows of a layout of the text that was read, made printable and steady, from the first on, and the cursor below. They were flushed.
 pub record ShowsAll (skin : RowSkin) (width : Option ℕ) (height : ℕ) (source out source_now out_now : Trace) (s : Streamed source out source_now out_now) : Type 0 where
-  pub shows : LeadsTo skin width height (printed s.text) s.bytes (λ columns p q. (rows : List ℕ) × IsLaidOut skin width (printed s.text) rows × Shows columns p.above rows q)
+  pub shows : LeadsTo skin width height (steadied s.text) s.bytes (λ columns p q. (rows : List ℕ) × IsLaidOut skin width (steadied s.text) rows × Shows columns p.above rows q)
   pub some : 0 < s.flushes
 
 -- Every terminal showed the text so far, a front of what was read, or nothing yet. Then some bytes more went out.

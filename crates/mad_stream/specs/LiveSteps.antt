@@ -5,11 +5,11 @@ use Rattle.mad_screen.specs.Glyph.{Glyph}
 use Rattle.mad_live.specs.Papers.{Paper, Reads}
 use Rattle.mad_live.specs.LiveRows.{Shows}
 use Rattle.mad_stream.specs.LiveTexts.{IsLaidOut, FitsRows, IsLive, FeedsLive}
-use Rattle.mad_stream.specs.PrintedPieces.{piece_shown, place_after}
+use Rattle.mad_stream.specs.SteadyPieces.{steady_piece, spot_after}
 use Rattle.mad_stream.specs.TextFronts.{IsTextFront, BeginNoText}
 use Rattle.mad_stream.specs.declared.live_sources.Shown.{Shown}
 use Rattle.mad_stream.specs.declared.live_text.LiveText.{LiveText}
-use Rattle.mad_stream.specs.declared.printed.Place.{Place}
+use Rattle.mad_stream.specs.declared.steadied.Spot.{Spot}
 use Rattle.mad_stream.specs.declared.source_error.SourceError.{SourceError}
 use Rattle.mad_stream.specs.declared.source_error.SourceError.TheVariants.{Device, Memory}
 
@@ -28,14 +28,14 @@ pub record ShowsPiece (old : LiveText) (piece : List ℕ) (new : LiveText) (befo
   pub height : new.rows.height ≡ old.rows.height
 
 -- What is to be shown of the text at the front of a block was fed, and flushed. At most three bytes come after that text, or bytes that are no text.
-pub record ShowsBlock (old : LiveText) (place : Place) (block : List ℕ) (shown : Shown) (new : LiveText) (before now : Trace) : Type 0 where
+pub record ShowsBlock (old : LiveText) (spot : Spot) (block : List ℕ) (shown : Shown) (new : LiveText) (before now : Trace) : Type 0 where
   pub within : shown.used ≤ length block
   pub front : IsTextFront block (take shown.used block)
   pub short : shown.is_wrong ≡ false → length block ≤ shown.used + 3
   pub wrong : shown.is_wrong ≡ true → BeginNoText block
-  pub place_is : shown.place ≡ place_after place (chars (take shown.used block))
+  pub spot_is : shown.spot ≡ spot_after spot (chars (take shown.used block))
   pub between : Trace
-  pub piece : ShowsPiece old (encode_utf8_all (piece_shown place (chars (take shown.used block)))) new before between
+  pub piece : ShowsPiece old (encode_utf8_all (steady_piece spot (chars (take shown.used block)))) new before between
   pub went : now ≡ flushed between
 
 -- Of a block, the front of which is this text, some bytes went out, and then it stopped.
@@ -47,6 +47,7 @@ pub record StopsInBlock (block : List ℕ) (before : Trace) (e : SourceError) (n
 -- The end of a text leads every terminal to one that has all rows of a layout of it, where this is shown yet of it; and it was flushed.
 pub record EndsShown (live : LiveText) (last : List ℕ) (before now : Trace) : Type 0 where
   pub bytes : List ℕ
+  pub utf8 : IsUtf8 last
   pub went : now ≡ flushed (after before bytes)
   pub shows : (columns height : ℕ) (above : List (List Glyph)) (read done : List ℕ) (p : Paper)
       → IsLive columns height above read done live p → live.rows.height ≤ height → FitsRows columns live.stream.skin live.stream.width read → FitsRows columns live.stream.skin live.stream.width (read ++ last)

@@ -1,6 +1,6 @@
 -- Texts that are made printable piece by piece.
-use Rattle.std.specs.Prelude.{ℕ, ◌==◌, Bool, true, false, List, [], ◌∷◌, ◌++◌, chars, encode_utf8_all, if◌then◌else◌}
-use Rattle.mad_fit.specs.Printable.{printable_text, shown_as}
+use Rattle.std.specs.Prelude.{ℕ, ◌==◌, Bool, true, false, List, [], ◌∷◌, ◌++◌, if◌then◌else◌}
+use Rattle.mad_fit.specs.Printable.{shown_as}
 use Rattle.mad_stream.specs.declared.printed.Place.{Place}
 use Rattle.mad_stream.specs.declared.printed.Place.TheVariants.{LineStart, InLine, AfterReturn}
 
@@ -9,14 +9,6 @@ abbrev pub shown_growing : Bool → List ℕ → List ℕ
 shown_growing begins_line [] = []
 shown_growing begins_line (c ∷ []) = if c == 13 then [] else shown_as begins_line c []
 shown_growing begins_line (c ∷ next ∷ after) = shown_as begins_line c (next ∷ after) ++ shown_growing (c == 10) (next ∷ after)
-
--- the text that is shown of one that may go on
-abbrev pub growing : List ℕ → List ℕ
-growing text = encode_utf8_all (shown_growing true (chars text))
-
--- and of one that is at its end: the printable text for it
-abbrev pub printed : List ℕ → List ℕ
-printed text = encode_utf8_all (printable_text (chars text))
 
 -- ---- pieces
 

@@ -1,4 +1,5 @@
-//! What texts that come in pieces are laid out as, by the rows of the files in `data/`. In a row's text `¦` stands between two pieces.
+//! What texts that come in pieces are laid out as, by the rows of the files in `data/`. In a row's text `¦` stands between two pieces, and `▪` is a
+//! byte order mark.
 //!
 //! A call is `NAME NUMBERS`, of which the first is a width.
 //!
@@ -37,6 +38,7 @@ impl Calls for StreamCalls {
         let (name, words) = call.split_once(' ').unwrap_or((call, ""));
         let (width, words) = words.split_once(' ').unwrap_or((words, ""));
         let (first, second) = words.split_once(' ').unwrap_or((words, ""));
+        let text: String = text.chars().map(meant).collect(alloc)?;
         let asked = Asked {
             alloc,
             skin: if name == "live_styled" {
@@ -46,9 +48,17 @@ impl Calls for StreamCalls {
             },
             width: Some(width.parse().unwrap_or(0)),
             numbers: [first.parse().unwrap_or(0), second.parse().unwrap_or(0)],
-            text,
+            text: text.as_str(),
         };
         answer_asked(name, &asked)
+    }
+}
+
+// The character that a sign means.
+fn meant(sign: char) -> char {
+    match sign {
+        '▪' => '\u{feff}',
+        _ => sign,
     }
 }
 

@@ -1,5 +1,5 @@
 //! A terminal that scrolls. It reads what live texts write: rows, newlines, a carriage return that erases its row, moves up that do, and
-//! styles, which it doesn't show.
+//! styles, which it doesn't show. Autowrap switched on or off is nothing to it.
 
 use std::alloc::{AllocError, Global};
 
@@ -7,8 +7,11 @@ const ERASE_ROW: &str = "\r\x1b[K";
 
 const ERASE_ROW_ABOVE: &str = "\x1b[1A\x1b[K";
 
-// What begins a command that sets a style.
-const STYLE: &str = "\x1b[";
+// What begins a command that sets a style, or switches something.
+const COMMAND: &str = "\x1b[";
+
+// Autowrap off and on, behind that.
+const SWITCHES: [&str; 2] = ["?7l", "?7h"];
 
 /// All rows that it has had, and the cursor's.
 #[derive(Drop)]
@@ -54,11 +57,8 @@ impl Paper {
             if number > 0 {
                 self.erase();
             }
-            for (number, part) in part.split(STYLE).enumerate() {
-                let text = match part.split_once('m') {
-                    Some((_, text)) if number > 0 => text,
-                    _ => part,
-                };
+            for (number, part) in part.split(COMMAND).enumerate() {
+                let text = if number > 0 { after_command(part) } else { part };
                 for c in text.chars() {
                     self.read_character(alloc, c)?;
                 }
@@ -127,4 +127,14 @@ impl Paper {
         }
         Ok(())
     }
+}
+
+// What comes after a command that has begun.
+fn after_command(text: &str) -> &str {
+    for switch in SWITCHES {
+        if let Some(rest) = text.strip_prefix(switch) {
+            return rest;
+        }
+    }
+    text.split_once('m').map_or(text, |(_, rest)| rest)
 }

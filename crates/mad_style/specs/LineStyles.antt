@@ -15,10 +15,11 @@ unmargined style align = record { compound_style = style; align = align; left_ma
 abbrev pub unstyled_line : LineStyle
 unstyled_line = unmargined unstyled Unspecified
 
--- a line with another foreground, and with another background
+-- a line with another foreground
 abbrev pub line_in : Color → LineStyle → LineStyle
 line_in color line = record line { compound_style = foreground_set line.compound_style color }
 
+-- a line with another background
 abbrev pub line_on : Color → LineStyle → LineStyle
 line_on color line = record line { compound_style = background_set line.compound_style color }
 

@@ -22,10 +22,11 @@ styled_char style c = record { compound_style = style; nude_char = c }
 abbrev pub colored_char : Color → ℕ → StyledChar
 colored_char color c = styled_char (text_style (Some color) None no_attributes) c
 
--- a character with another foreground, and with another background
+-- a character with another foreground
 abbrev pub char_in : Color → StyledChar → StyledChar
 char_in color c = styled_char (foreground_set (char_style c) color) (char_alone c)
 
+-- a character with another background
 abbrev pub char_on : Color → StyledChar → StyledChar
 char_on color c = styled_char (background_set (char_style c) color) (char_alone c)
 

@@ -4,6 +4,7 @@ use Rattle.mad_term.specs.declared.attribute.Attribute.{Attribute}
 use Rattle.mad_term.specs.declared.attribute.Attribute.TheVariants.{Reset, Bold, Dim, Italic, Underlined, SlowBlink, RapidBlink, Reverse, Hidden, CrossedOut, Fraktur, NoBold, NormalIntensity, NoItalic, NoUnderline, NoBlink, NoReverse, NoHidden, NotCrossedOut, Framed, Encircled, OverLined, NotFramedOrEncircled, NotOverLined}
 use Rattle.mad_term.specs.Attribute.{attribute_index}
 
+-- the index of an attribute is below 24
 pub attribute_index-lt : (a : Attribute) → attribute_index a < 24
 attribute_index-lt Reset = lit< tt
 attribute_index-lt Bold = lit< tt

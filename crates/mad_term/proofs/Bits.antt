@@ -18,6 +18,7 @@ or_test a b i = rw (bit_at_or a b i) (or_small _ _ (bit_at-lt a i) (bit_at-lt b 
 pub put_same : (n a k : ℕ) → n ≡ bit_or a (2 ^ k) → eqb (bit_at n k) 1 ≡ true
 put_same n a k e = rw (e, bit_at_or a (2 ^ k) k, bit_at-pow_same k) (let h = bit_at-lt a k in let m : max (bit_at a k) 1 ≡ 1 = omega arith in rw m)
 
+-- any other bit is as it was
 pub put_other : (n a k i : ℕ) → n ≡ bit_or a (2 ^ k) → i ≢ k → eqb (bit_at n i) 1 ≡ eqb (bit_at a i) 1
 put_other n a k i e ne = rw (e, bit_at_or a (2 ^ k) i, bit_at-pow_other k i ne) (let m : max (bit_at a i) 0 ≡ bit_at a i = omega arith in rw m)
 
@@ -27,6 +28,7 @@ cut_same n a k low small e =
     let z : bit_at n k ≡ 0 = rw (e, bit_at_and a (2 ^ 32 - 1 - 2 ^ k) k, bit_at_not w32 (2 ^ k) k small low, bit_at-pow_same k) (omega arith) in
     rw z
 
+-- any other bit is as it was
 pub cut_other : (n a k i : ℕ) → i < 32 → 2 ^ k < 2 ^ 32 → n ≡ bit_and a (2 ^ 32 - 1 - 2 ^ k) → i ≢ k → eqb (bit_at n i) 1 ≡ eqb (bit_at a i) 1
 cut_other n a k i low small e ne =
     let h = bit_at-lt a i in

@@ -9,15 +9,17 @@ use Rattle.mad_term.specs.Color.{color_number}
 use Rattle.mad_term.specs.Commands.{sgr_bytes}
 use Rattle.mad_term.specs.Styles.{color_numbers, palette_numbers}
 
--- code 0, and the defaults of foreground and background
+-- the command with code 0
 pub plain : codes "\u{1b}[0m" ≡ sgr_bytes (0 ∷ [])
 unfolding digits
 plain = refl
 
+-- the one for the default foreground
 pub default_foreground : codes "\u{1b}[39m" ≡ sgr_bytes (39 ∷ [])
 unfolding digits
 default_foreground = refl
 
+-- the one for the default background
 pub default_background : codes "\u{1b}[49m" ≡ sgr_bytes (49 ∷ [])
 unfolding digits
 default_background = refl

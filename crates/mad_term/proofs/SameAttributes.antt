@@ -43,6 +43,7 @@ bits_from m n p q h =
 pub no_bits : (s : Attributes) → ((a : Attribute) → has_attribute s a ≡ false) → attribute_bits s ≡ 0
 no_bits s h = bits_from (attribute_bits s) 0 s.within (lit< tt) (λ a. h a ∙ sym (ap (λ b. eqb b 1) (bit_at-zero (attribute_index a))))
 
+-- the word 0 is a set without attributes
 pub no_attribute : (s : Attributes) → attribute_bits s ≡ 0 → (a : Attribute) → has_attribute s a ≡ false
 no_attribute s e a = ap (λ n. eqb (bit_at n (attribute_index a)) 1) e ∙ ap (λ b. eqb b 1) (bit_at-zero (attribute_index a))
 

@@ -11,10 +11,12 @@ grown_none : (o : Option (List ℕ)) → option_map (λ s. s ++ []) o ≡ o
 grown_none None = refl
 grown_none (Some s) = ap Some (append-nil s)
 
+-- one text after another went out as both joined
 pub after-append : (t : Trace) (a b : List ℕ) → after (after t a) b ≡ after t (a ++ b)
 unfolding after
 after-append t a b = ap (λ (o : Option (List ℕ)). let r : Trace = record { bytes = o; faults = t.faults; flushes = t.flushes } in r) (grown t.bytes a b)
 
+-- after no bytes all is as it was
 pub after-nil : (t : Trace) → after t [] ≡ t
 unfolding after
 after-nil t = ap (λ (o : Option (List ℕ)). let r : Trace = record { bytes = o; faults = t.faults; flushes = t.flushes } in r) (grown_none t.bytes)
@@ -75,6 +77,7 @@ pub took_more : (old mid new : Trace) (text : List ℕ) (n k : ℕ) → mid ≡ 
 took_more old mid new text n k p q =
     took_both old mid new (take n text) (take k (drop n text)) p q ∙ ap (after old) (sym (take-add n k text))
 
+-- where no bytes went out, all is as it was
 pub took_none : (t : Trace) → t ≡ after t []
 took_none t = sym (after-nil t)
 
@@ -85,6 +88,7 @@ took_with_at : (o : Option (List ℕ)) (text : List ℕ) (P : List ℕ → Type 
 took_with_at None text P h = tt
 took_with_at (Some b) text P h = (text, refl, h)
 
+-- a text that went out is what the device took, and has what is known of it
 pub took_with : (old new : Trace) (text : List ℕ) (P : List ℕ → Type 0) → new ≡ after old text → P text → TookWith old new P
 unfolding after
 took_with old new text P e h =

@@ -43,6 +43,7 @@ before_equal requests ws i j (t ∷ ts) widths same lower =
           ]
     ]
 
+-- of two columns of equal width, what is requested before the left one and by it is requested before the right one too
 pub requested_equal : (requests ws : List ℕ) (i j : ℕ) (ts : List Turn) → AreTurns ws ts → get_or ws i 0 ≡ get_or ws j 0 → i < j → i < length ws → requested_before requests (turns_from 0 ws) (turn_at ws i) + get_or requests i 0 ≤ requested_before requests (turns_from 0 ws) (turn_at ws j)
 requested_equal requests ws i j ts h same lower within =
     let once : times i ts ≡ 1 = turns_once ws ts i h within in
@@ -73,6 +74,7 @@ request_even v w l r s e pos ordered least =
     let m : (v - 3) * r / s ≤ (w - 3) * r / s = div_le ((v - 3) * r) ((w - 3) * r) s pos (mul-le-mul_right r (omega (arith, ordered))) in
     omega (arith, m, second_request_is v l r s e pos, second_request_is w l r s e pos, ordered, least, shares (v - 3) l r s e pos, shares (w - 3) l r s e pos)
 
+-- after the first step the right one of two columns with the same needs isn't narrower
 pub first_even : (excess : ℕ) (ns : List Needs) (ts : List Turn) → AreTurns (natural_widths ns) ts → AreEven ns (narrowed (natural_widths ns) (grants (natural_widths ns) (first_requests excess ns) excess))
 unfolding first_requests
 first_even excess ns ts h i j d lower within same =
@@ -83,6 +85,7 @@ first_even excess ns ts h i j d lower within same =
     let requests : get_or (map f ns) i 0 ≡ get_or (map f ns) j 0 = get_or-map f ns i d 0 within' ∙ ap f same ∙ sym (get_or-map f ns j d 0 within) in
     step_even order order (map f ns) excess i j ts h widths lower (subst (λ n. j < n) (sym (length-naturals ns)) within) (omega (arith, widths)) (omega (arith, widths, requests))
 
+-- the second step leaves the right one of two such columns no narrower, where it was so
 pub second_even : (left r : ℕ) (ns : List Needs) (ts : List Turn) (ws : List ℕ) → AreTurns (natural_widths ns) ts → left + r ≡ above_three ws → length ws ≡ length ns → AreWide ws → AreEven ns ws
     → AreEven ns (narrowed ws (grants (natural_widths ns) (second_requests left ws) left))
 unfolding second_requests

@@ -5,10 +5,12 @@ use Rattle.mad_widths.specs.Turns.{Turn, turns_from, granted_at, requested_befor
 use Rattle.mad_widths.proofs.Granted.{granted, left_after, times, requested, requested_in_front, granted_at_turn, left_is, length-granted, requested-granted, HaveColumns}
 use Rattle.mad_widths.proofs.TurnLemmas.{turn_at, front_is, before_permuted, requested_permuted, length-turns_from, get_or-turns_from, requested_all, turns_apart, turns_once, turns_widths, turns_columns, turns_fall}
 
+-- each column has a grant
 pub length-grants : (ws requests : List ℕ) (excess : ℕ) → length (grants ws requests excess) ≡ length ws
 unfolding grants
 length-grants ws requests excess = length-map (turns_from 0 ws) (granted_at requests excess (turns_from 0 ws)) ∙ length-turns_from 0 ws
 
+-- a column's grant is what it gives up at its turn
 pub get_or-grants : (ws requests : List ℕ) (excess i : ℕ) → i < length ws → get_or (grants ws requests excess) i 0 ≡ granted_at requests excess (turns_from 0 ws) (turn_at ws i)
 unfolding grants
 get_or-grants ws requests excess i l =
@@ -20,6 +22,7 @@ get_or-grants ws requests excess i l =
     ∙ ap G (get_or-turns_from 0 ws i d l)
     ∙ ap (λ p. G (record { width = get_or ws i 0; column = p })) e
 
+-- requests that are cut down turn by turn are the grants
 pub grants_are : (ws requests : List ℕ) (left : ℕ) (ts : List Turn) → AreTurns ws ts → length requests ≡ length ws → granted requests left ts ≡ grants ws requests left
 grants_are ws requests left ts h e =
     ext_get_or 0 (granted requests left ts) (grants ws requests left) (length-granted requests left ts ∙ e ∙ sym (length-grants ws requests left)) (λ i l.
@@ -35,6 +38,7 @@ grants_are ws requests left ts h e =
 requested_whole : (ws xs : List ℕ) (ts : List Turn) → AreTurns ws ts → length xs ≡ length ws → requested xs ts ≡ sum xs
 requested_whole ws xs ts h e = requested_permuted xs (turns_from 0 ws) ts h.all ∙ requested_all xs 0 ws (omega (arith, e))
 
+-- after all turns what the requests don't take of the excess is left
 pub left_over : (ws requests : List ℕ) (left : ℕ) (ts : List Turn) → AreTurns ws ts → length requests ≡ length ws → left_after requests left ts ≡ left - sum requests
 left_over ws requests left ts h e = left_is requests left ts (turns_apart ws ts h) ∙ ap (λ n. left - n) (requested_whole ws requests ts h e)
 

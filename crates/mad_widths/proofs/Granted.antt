@@ -9,6 +9,7 @@ abbrev pub granted : List ℕ → ℕ → List Turn → List ℕ
 granted requests left [] = requests
 granted requests left (t ∷ ts) = granted (set requests t.column (min (get_or requests t.column 0) left)) (left - min (get_or requests t.column 0) left) ts
 
+-- what is left of the excess after these turns
 abbrev pub left_after : List ℕ → ℕ → List Turn → ℕ
 left_after requests left [] = left
 left_after requests left (t ∷ ts) = left_after (set requests t.column (min (get_or requests t.column 0) left)) (left - min (get_or requests t.column 0) left) ts
@@ -32,9 +33,11 @@ requested_in_front requests i (t ∷ ts) = cond (eqb t.column i) 0 (get_or reque
 abbrev pub AreApart : List Turn → Type 0
 AreApart ts = (i : ℕ) → times i ts ≤ 1
 
+-- a choice whose test holds is the first value
 pub cond_yes : (b : Bool) (x y : ℕ) → b ≡ true → cond b x y ≡ x
 cond_yes b x y e = cond-true b x y e
 
+-- a choice whose test fails is the second value
 pub cond_no : (b : Bool) (x y : ℕ) → b ≡ false → cond b x y ≡ y
 cond_no b x y e = cond-false b x y e
 
@@ -44,15 +47,18 @@ times_here i t ts e = ap (λ n. n + times i ts) (cond_yes (eqb t.column i) 1 0 (
 times_there : (i : ℕ) (t : Turn) (ts : List Turn) → t.column ≢ i → times i (t ∷ ts) ≡ times i ts
 times_there i t ts ne = let e : cond (eqb t.column i) 1 0 ≡ 0 = cond_no (eqb t.column i) 1 0 (ne_eqb t.column i ne) in omega (arith, e)
 
+-- where no column has two turns, none has two after the first turn
 pub apart_tail : (t : Turn) (ts : List Turn) → AreApart (t ∷ ts) → AreApart ts
 apart_tail t ts h i = omega (arith, h i)
 
+-- a column that had its turn has no other
 pub not_again : (t : Turn) (ts : List Turn) → AreApart (t ∷ ts) → times t.column ts ≡ 0
 not_again t ts h = omega (arith, h t.column, times_here t.column t ts refl)
 
 none_there : (i : ℕ) (t : Turn) (ts : List Turn) → times i (t ∷ ts) ≡ 0 → (t.column ≢ i) × (times i ts ≡ 0)
 none_there i t ts h = ((λ e. absurd (omega (arith, times_here i t ts e, h))), omega (arith, h))
 
+-- as many requests are left as there were
 pub length-granted : (requests : List ℕ) (left : ℕ) (ts : List Turn) → length (granted requests left ts) ≡ length requests
 length-granted requests left [] = refl
 length-granted requests left (t ∷ ts) = length-granted (set requests t.column (min (get_or requests t.column 0) left)) (left - min (get_or requests t.column 0) left) ts ∙ length-set requests t.column (min (get_or requests t.column 0) left)
@@ -72,6 +78,7 @@ requested-set requests p v (t ∷ ts) h =
     let n = none_there p t ts h in
     omega (arith, get_or-set_other requests p t.column v 0 n.0, requested-set requests p v ts n.1)
 
+-- a request of a column without a turn changes nothing of what is requested in front of a turn
 pub front-set : (requests : List ℕ) (p v i : ℕ) (ts : List Turn) → times p ts ≡ 0 → requested_in_front (set requests p v) i ts ≡ requested_in_front requests i ts
 front-set requests p v i [] h = refl
 front-set requests p v i (t ∷ ts) h =
@@ -103,6 +110,7 @@ granted_at_turn requests left (t ∷ ts) i apart once within =
           ∙ omega (arith, kept, frontkept, front)
     ]
 
+-- what the requests of the turns don't take of the excess is left
 pub left_is : (requests : List ℕ) (left : ℕ) (ts : List Turn) → AreApart ts → left_after requests left ts ≡ left - requested requests ts
 left_is requests left [] apart = omega arith
 left_is requests left (t ∷ ts) apart =

@@ -45,6 +45,7 @@ eqb_sym a b =
 sorted_test : (a b c d : ℕ) → is_lt (ordering_then (nat_cmp b a) (nat_cmp c d)) ≡ (ltb b a || (eqb a b && ltb c d))
 sorted_test a b c d = bools (ltb b a) (eqb b a) (ltb c d) (eqb c d) ∙ ap (λ y. ltb b a || (y && ltb c d)) (eqb_sym b a)
 
+-- turns that the program has sorted are those of the columns, in order
 pub sorted_turns : (ws : List ℕ) (ts us : List (Reverse ℕ × ℕ)) → map turn_of ts ≡ turns_from 0 ws → IsPermutation ts us
     → ((k : ℕ) (d : Reverse ℕ × ℕ) → 0 ≤ k → k + 1 < length us → is_lt (ordering_then (nat_cmp (get_or us k d).0.0 (get_or us (k + 1) d).0.0) (nat_cmp (get_or us (k + 1) d).1 (get_or us k d).1)) ≡ false)
     → AreTurns ws (map turn_of us)
@@ -64,6 +65,7 @@ pub record IsGiven (ws cs : List ℕ) (i : ℕ) (now : List ℕ) : Type 0 where
   pub done : (k : ℕ) → k < i → get_or now k 0 ≡ get_or ws k 0 - get_or cs k 0
   pub rest : (k : ℕ) → i ≤ k → get_or now k 0 ≡ get_or ws k 0
 
+-- one width more has given up its own
 pub given_more : (ws cs : List ℕ) (i : ℕ) (now after : List ℕ) (v : ℕ) → i < length now → IsGiven ws cs i now → after ≡ set now i v → v ≡ get_or ws i 0 - get_or cs i 0 → IsGiven ws cs (i + 1) after
 given_more ws cs i now after v l h e f = record {
   done = λ k b. ap (λ xs. get_or xs k 0) e ∙ elim (cases_eq k i) as (λ _. get_or (set now i v) k 0 ≡ get_or ws k 0 - get_or cs k 0) [
@@ -73,9 +75,11 @@ given_more ws cs i now after v l h e f = record {
   rest = λ k b. ap (λ xs. get_or xs k 0) e ∙ get_or-set_other now i k v 0 (λ same. absurd (omega (arith, same, b))) ∙ h.rest k (omega (arith, b));
 }
 
+-- after the last width all are narrowed
 pub given_all : (ws cs : List ℕ) (i : ℕ) (now : List ℕ) → length now ≡ length ws → length ws ≤ i → IsGiven ws cs i now → now ≡ narrowed ws cs
 given_all ws cs i now e l h = ext_get_or 0 now (narrowed ws cs) (e ∙ sym (length-narrowed ws cs)) (λ k b. h.done k (omega (arith, b, e, l)) ∙ sym (get_or-narrowed ws cs k))
 
+-- to map both functions at once is to map the one and then the other
 pub map_twice : {X Y : Type 0} (f : X → Y) (g : Y → ℕ) (xs : List X) → map (λ x. g (f x)) xs ≡ map g (map f xs)
 map_twice f g [] = refl
 map_twice f g (x ∷ xs) = ap (λ l. g (f x) ∷ l) (map_twice f g xs)

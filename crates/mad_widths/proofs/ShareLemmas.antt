@@ -14,15 +14,18 @@ use Rattle.mad_widths.proofs.GrantLemmas.{length-grants, get_or-grants, grants-l
 
 -- ---- lists
 
+-- lists of the same length are related where their elements at each place are
 pub all_zip_from : (R : ℕ → ℕ → Type 0) (xs ys : List ℕ) → length xs ≡ length ys → ((i : ℕ) → i < length xs → R (get_or xs i 0) (get_or ys i 0)) → AllZip R xs ys
 all_zip_from R [] [] e h = tt
 all_zip_from R (x ∷ xs) (y ∷ ys) e h = (h zero (omega arith), all_zip_from R xs ys (omega (arith, e)) (λ i l. h (suc i) (omega (arith, l))))
 all_zip_from R _ _ e h = absurd (omega (arith, e))
 
+-- as many narrowed widths come out as there were widths
 pub length-narrowed : (ws cs : List ℕ) → length (narrowed ws cs) ≡ length ws
 length-narrowed (w ∷ ws) (c ∷ cs) = ap suc (length-narrowed ws cs)
 length-narrowed _ _ = refl
 
+-- a narrowed width is the width less what its column gives up
 pub get_or-narrowed : (ws cs : List ℕ) (i : ℕ) → get_or (narrowed ws cs) i 0 ≡ get_or ws i 0 - get_or cs i 0
 get_or-narrowed (w ∷ ws) (c ∷ cs) zero = refl
 get_or-narrowed (w ∷ ws) (c ∷ cs) (suc i) = get_or-narrowed ws cs i
@@ -34,6 +37,7 @@ sum_zip (w ∷ ws) (c ∷ cs) h =
     omega (arith, h.0, sum_zip ws cs h.1, sum_by-cons (λ (x : ℕ). x) (w - c) (narrowed ws cs), sum_by-cons (λ (x : ℕ). x) c cs, sum_by-cons (λ (x : ℕ). x) w ws)
 sum_zip _ _ h = absurd h
 
+-- narrowed widths and what is given up are together the widths before, where no column gives up more than it has
 pub sum-narrowed : (ws cs : List ℕ) → length cs ≡ length ws → ((i : ℕ) → i < length ws → get_or cs i 0 ≤ get_or ws i 0) → sum (narrowed ws cs) + sum cs ≡ sum ws
 sum-narrowed ws cs e h = sum_zip ws cs (all_zip_from (λ c w. c ≤ w) cs ws e (λ i l. h i (subst (λ n. i < n) e l)))
 
@@ -47,15 +51,18 @@ LeaveThree requests ws = (i : ℕ) → i < length ws → get_or requests i 0 + 3
 
 -- ---- a step: requests that leave three columns each, cut down in turn, are taken off
 
+-- A step leaves widths of three at least, none of them wider than before. Their sum is less by the requests, but by the excess at most.
 pub record IsStep (order ws requests : List ℕ) (excess : ℕ) (after : List ℕ) : Type 0 where
   pub length_is : length after ≡ length ws
   pub wide : AreWide after
   pub narrower : (i : ℕ) → i < length ws → get_or after i 0 ≤ get_or ws i 0
   pub sum_is : sum after + min (sum requests) excess ≡ sum ws
 
+-- what is given up leaves three at least, where the requests do
 pub grants_fit : (order ws requests : List ℕ) (excess : ℕ) → length order ≡ length ws → LeaveThree requests ws → (i : ℕ) → i < length ws → get_or (grants order requests excess) i 0 + 3 ≤ get_or ws i 0
 grants_fit order ws requests excess e leave i l = omega (arith, grants-le order requests excess i (subst (λ n. i < n) (sym e) l), leave i l)
 
+-- widths that are narrowed by the grants have made a step
 pub step : (order ws requests : List ℕ) (excess : ℕ) (ts : List Turn) → AreTurns order ts → length order ≡ length ws → length requests ≡ length ws → LeaveThree requests ws
     → IsStep order ws requests excess (narrowed ws (grants order requests excess))
 step order ws requests excess ts turns e f leave =
@@ -70,9 +77,11 @@ step order ws requests excess ts turns e f leave =
 
 -- ---- the first step's requests
 
+-- each column has a natural width
 pub length-naturals : (ns : List Needs) → length (natural_widths ns) ≡ length ns
 length-naturals ns = length-map ns (λ n. n.natural)
 
+-- a column's natural width is that of its needs
 pub get_or-naturals : (ns : List Needs) (i : ℕ) (d : Needs) → i < length ns → get_or (natural_widths ns) i 0 ≡ (get_or ns i d).natural
 get_or-naturals ns i d l = get_or-map (λ n. n.natural) ns i d 0 l
 
@@ -83,10 +92,12 @@ first_request_leaves spares goal n h =
     (λ t. let wide : 4 < n.natural = ltb-true 4 n.natural (and_parts (ltb 4 n.natural) (ltb 0 (over_average n)) (and_parts (ltb 0 goal) (ltb 4 n.natural && ltb 0 (over_average n)) t).1).0 in omega (arith, wide))
     (λ _. omega (arith, h))
 
+-- each column has a request in the first step
 pub length-first_requests : (excess : ℕ) (ns : List Needs) → length (first_requests excess ns) ≡ length ns
 unfolding first_requests
 length-first_requests excess ns = length-map ns (first_request (sum_by spare ns) (min (sum_by spare ns) excess))
 
+-- the requests of the first step leave three at least
 pub first_leave : (excess : ℕ) (ns : List Needs) → All (λ n. 3 ≤ n.natural) ns → LeaveThree (first_requests excess ns) (natural_widths ns)
 unfolding first_requests
 first_leave excess ns h i l =
@@ -98,10 +109,12 @@ first_leave excess ns h i l =
 
 -- ---- the second step's requests
 
+-- each column has a request in the second step
 pub length-second_requests : (excess : ℕ) (ws : List ℕ) → length (second_requests excess ws) ≡ length ws
 unfolding second_requests
 length-second_requests excess ws = length-map ws (second_request excess (above_three ws))
 
+-- the requests of the second step leave three at least
 pub second_leave : (excess : ℕ) (ws : List ℕ) → AreWide ws → LeaveThree (second_requests excess ws) ws
 unfolding second_requests
 second_leave excess ws h i l = omega (arith, get_or-map (second_request excess (above_three ws)) ws i 0 0 l, h i l)
@@ -166,6 +179,7 @@ above_all : (ws : List ℕ) → AllByRecursion (λ w. 3 ≤ w) ws → above_thre
 above_all [] h = refl
 above_all (w ∷ ws) h = omega (arith, h.0, above_all ws h.1, sum_by-cons (λ (w : ℕ). w - 3) w ws, sum_by-cons (λ (x : ℕ). x) w ws)
 
+-- the sum of widths of three at least is three for each, and what they are above it
 pub above_is : (ws : List ℕ) → AreWide ws → above_three ws + 3 * length ws ≡ sum ws
 above_is ws h = above_all ws (recursion_from_All (λ w. 3 ≤ w) ws (All-from_get_or (λ w. 3 ≤ w) ws 0 h))
 

@@ -46,6 +46,7 @@ columns_are available naturals ws reduced wide_enough wide h =
           ]
     ]
 
+-- what fits the needs of the columns fits the table, where it has room for three in each column
 pub table_fit : (width : ℕ) (cs : List SeenColumn) (cells : List (List ℕ)) (fitted : TblFitResult) → 4 * length cs + 1 ≤ width → AllZip ColumnHasSeen cs cells → IsFit (width - 1 - length cs) (map needs_in cs) fitted
     → IsTableFit width cells fitted
 table_fit width cs cells fitted wide_enough seen h =

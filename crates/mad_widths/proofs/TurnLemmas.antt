@@ -12,6 +12,7 @@ use Rattle.mad_widths.proofs.Granted.{cond_yes, cond_no, times, requested, reque
 
 -- ---- the order
 
+-- a turn that doesn't come before another isn't wider, and where it is as wide it isn't further left
 pub not_before : (u t : Turn) → goes_before u t ≡ false → (u.width ≤ t.width) × (u.width ≡ t.width → t.column ≤ u.column)
 not_before u t h =
     let parts = or_parts (ltb t.width u.width) (eqb u.width t.width && ltb u.column t.column) h in (
@@ -22,6 +23,7 @@ not_before u t h =
       ],
     )
 
+-- a turn that isn't wider, and where it is as wide isn't further left, doesn't come before
 pub not_before_from : (u t : Turn) → u.width ≤ t.width → (u.width ≡ t.width → t.column ≤ u.column) → goes_before u t ≡ false
 not_before_from u t w p =
     or_from (ltb t.width u.width) (eqb u.width t.width && ltb u.column t.column) (le-ltb t.width u.width w)
@@ -30,6 +32,7 @@ not_before_from u t w p =
       | inr ne ↦ and_left (eqb u.width t.width) (ltb u.column t.column) (ne_eqb u.width t.width ne)
     ])
 
+-- a turn that doesn't come before a second, which doesn't come before a third, doesn't come before the third
 pub not_before_trans : (v u t : Turn) → goes_before v u ≡ false → goes_before u t ≡ false → goes_before v t ≡ false
 not_before_trans v u t h k =
     let a = not_before v u h in
@@ -54,6 +57,7 @@ abbrev pub Falls : List Turn → Type 0
 Falls [] = Unit {0}
 Falls (t ∷ ts) = AllByRecursion (λ u. goes_before u t ≡ false) ts × Falls ts
 
+-- turns that don't come before one don't come before any that this one doesn't come before
 pub all_not_before : (u t : Turn) (ts : List Turn) → AllByRecursion (λ v. goes_before v u ≡ false) ts → goes_before u t ≡ false → AllByRecursion (λ v. goes_before v t ≡ false) ts
 all_not_before u t [] h k = tt
 all_not_before u t (v ∷ ts) h k = (not_before_trans v u t h.0 k, all_not_before u t ts h.1 k)
@@ -68,6 +72,7 @@ falls (t ∷ u ∷ ts) h =
 
 -- ---- what comes before a turn
 
+-- what those of the turns request that come before x
 abbrev pub before : List ℕ → Turn → List Turn → ℕ
 before requests x [] = 0
 before requests x (t ∷ ts) = cond (goes_before t x) (get_or requests t.column 0) 0 + before requests x ts
@@ -80,6 +85,7 @@ before_none requests x (t ∷ ts) h = omega (arith, cond_no (goes_before t x) (g
 abbrev pub HaveWidths : List ℕ → List Turn → Type 0
 HaveWidths ws ts = AllByRecursion (λ t. t.width ≡ get_or ws t.column 0) ts
 
+-- the turn of column i
 abbrev pub turn_at : List ℕ → ℕ → Turn
 turn_at ws i = record { width = get_or ws i 0; column = i }
 
@@ -93,6 +99,7 @@ found P ws i (t ∷ ts) once widths all =
           found P ws i ts (omega (arith, none, once)) widths.1 all.1
     ]
 
+-- where turns are in order, those in front of a column's turn are those that come before it, and request as much
 pub front_is : (requests ws : List ℕ) (i : ℕ) (ts : List Turn) → Falls ts → times i ts ≡ 1 → HaveWidths ws ts → requested_in_front requests i ts ≡ before requests (turn_at ws i) ts
 front_is requests ws i [] fall once widths = refl
 front_is requests ws i (t ∷ ts) fall once widths =
@@ -128,18 +135,22 @@ before_sum requests x (t ∷ ts) = omega (arith, before_sum requests x ts, sum_b
 times_permuted : (i : ℕ) (ts us : List Turn) → IsPermutation ts us → times i us ≡ times i ts
 times_permuted i ts us h = times_sum i us ∙ sum_by-IsPermutation (λ t. cond (eqb t.column i) 1 0) ts us h ∙ sym (times_sum i ts)
 
+-- turns request the same in any order
 pub requested_permuted : (requests : List ℕ) (ts us : List Turn) → IsPermutation ts us → requested requests us ≡ requested requests ts
 requested_permuted requests ts us h = requested_sum requests us ∙ sum_by-IsPermutation (λ t. get_or requests t.column 0) ts us h ∙ sym (requested_sum requests ts)
 
+-- as much is requested before a turn in any order
 pub before_permuted : (requests : List ℕ) (x : Turn) (ts us : List Turn) → IsPermutation ts us → before requests x us ≡ requested_before requests ts x
 before_permuted requests x ts us h = before_sum requests x us ∙ sum_by-IsPermutation (λ t. cond (goes_before t x) (get_or requests t.column 0) 0) ts us h
 
 -- ---- the turns of all columns
 
+-- each column has a turn
 pub length-turns_from : (p : ℕ) (ws : List ℕ) → length (turns_from p ws) ≡ length ws
 length-turns_from p [] = refl
 length-turns_from p (w ∷ ws) = ap suc (length-turns_from (p + 1) ws)
 
+-- the turn at a place is that of the column there
 pub get_or-turns_from : (p : ℕ) (ws : List ℕ) (k : ℕ) (d : Turn) → k < length ws → get_or (turns_from p ws) k d ≡ record { width = get_or ws k 0; column = p + k }
 get_or-turns_from p [] k d l = absurd (omega (arith, l))
 get_or-turns_from p (w ∷ ws) zero d l =
@@ -173,6 +184,7 @@ times_once i p (w ∷ ws) a b =
       | inr ne ↦ omega (arith, cond_no (eqb p i) 1 0 (ne_eqb p i ne), times_once i (p + 1) ws (omega (arith, a, ne)) (omega (arith, b)))
     ]
 
+-- the turns of the columns from one on request what these do
 pub requested_all : (xs : List ℕ) (p : ℕ) (ws : List ℕ) → p + length ws ≡ length xs → requested xs (turns_from p ws) ≡ sum (drop p xs)
 requested_all xs p [] e = let none : drop p xs ≡ [] = drop_of_length-le xs (omega (arith, e)) in sym (ap sum none)
 requested_all xs p (w ∷ ws) e =
@@ -199,20 +211,25 @@ all_columns ws = All-from_get_or (λ t. t.column < length ws) (turns_from 0 ws) 
 pub turns_apart : (ws : List ℕ) (ts : List Turn) → AreTurns ws ts → AreApart ts
 turns_apart ws ts h i = omega (arith, times_permuted i (turns_from 0 ws) ts h.all, times_most i 0 ws)
 
+-- each column has its turn once
 pub turns_once : (ws : List ℕ) (ts : List Turn) (i : ℕ) → AreTurns ws ts → i < length ws → times i ts ≡ 1
 turns_once ws ts i h l = times_permuted i (turns_from 0 ws) ts h.all ∙ times_once i 0 ws (omega arith) (omega (arith, l))
 
+-- each turn has its column's width
 pub turns_widths : (ws : List ℕ) (ts : List Turn) → AreTurns ws ts → HaveWidths ws ts
 turns_widths ws ts h = recursion_from_All (λ t. t.width ≡ get_or ws t.column 0) ts (All-permutation (λ t. t.width ≡ get_or ws t.column 0) (turns_from 0 ws) ts h.all (all_widths ws))
 
+-- each turn has a column of the table
 pub turns_columns : (ws : List ℕ) (ts : List Turn) → AreTurns ws ts → HaveColumns (length ws) ts
 turns_columns ws ts h = recursion_from_All (λ t. t.column < length ws) ts (All-permutation (λ t. t.column < length ws) (turns_from 0 ws) ts h.all (all_columns ws))
 
+-- no turn comes before one in front of it
 pub turns_fall : (ws : List ℕ) (ts : List Turn) → AreTurns ws ts → Falls ts
 turns_fall ws ts h = falls ts (λ k d l.
     let e : k + 1 ≡ suc k = omega arith in
     subst (λ n. goes_before (get_or ts n d) (get_or ts k d) ≡ false) e (h.ordered k d (omega (arith, l))))
 
+-- the turns have columns of the table as the program sorts them too
 pub turns_within : (ws : List ℕ) (us : List (Reverse ℕ × ℕ)) (n : ℕ) → AreTurns ws (map turn_of us) → length ws ≡ n → All (λ t. t.1 < n) us
 turns_within ws us n h e = All-from_get_or (λ t. t.1 < n) us (record { 0 = 0 }, 0) (λ i l.
     let d : Reverse ℕ × ℕ = (record { 0 = 0 }, 0) in

@@ -33,6 +33,7 @@ pub record IsBetween (available left : ℕ) (columns : List SeenColumn) (ws : Li
   pub narrower : (i : ℕ) → i < length ws → get_or ws i 0 ≤ get_or (natural_widths (map needs_in columns)) i 0
   pub even : AreEven (map needs_in columns) ws
 
+-- what the first step leaves is what the second one starts from
 pub between : (columns : List SeenColumn) (available left : ℕ) (ts : List Turn) (ws : List ℕ) → IsHalfway available left (map needs_in columns) ws → AreTurns (natural_widths (map needs_in columns)) ts → 3 * length columns ≤ available → IsBetween available left columns ws
 unfolding after_first
 between columns available left ts ws h turns wide_enough =
@@ -49,6 +50,7 @@ between columns available left ts ws h turns wide_enough =
       even = subst (AreEven ns) (sym h.is) (first_even excess ns ts turns);
     }
 
+-- the second step leaves widths whose sum is exactly what is available
 pub whole : (columns : List SeenColumn) (available left : ℕ) (ts : List Turn) (ws after : List ℕ) → IsHalfway available left (map needs_in columns) ws → AreTurns (natural_widths (map needs_in columns)) ts → IsBetween available left columns ws
     → after ≡ narrowed ws (grants (natural_widths (map needs_in columns)) (second_requests left ws) left) → AreReduced available (map needs_in columns) after
 unfolding after_second
@@ -71,6 +73,7 @@ whole columns available left ts ws after h turns b e =
 
 -- ---- the three cases
 
+-- natural widths that fit together are the fit
 pub fit_whole : (available : ℕ) (ns : List Needs) (fitted : TblFitResult) → sum (natural_widths ns) ≤ available → fitted.col_widths.items ≡ natural_widths ns → fitted.reduced ≡ false → IsFit available ns fitted
 unfolding column_widths
 fit_whole available ns fitted l e r = record {
@@ -83,6 +86,7 @@ fit_whole available ns fitted l e r = record {
       subst (λ v. get_or v i 0 ≤ get_or v j 0) (sym e) (omega (arith, widths));
 }
 
+-- a single column that needs more has all that is available
 pub fit_single : (available : ℕ) (ns : List Needs) (fitted : TblFitResult) → available < sum (natural_widths ns) → length ns ≡ 1 → fitted.col_widths.items ≡ available ∷ [] → fitted.reduced ≡ false → IsFit available ns fitted
 unfolding column_widths
 fit_single available ns fitted m one e r = record {
@@ -93,6 +97,7 @@ fit_single available ns fitted m one e r = record {
   even = λ i j d lower within same. absurd (omega (arith, lower, within, one));
 }
 
+-- several columns that need more have what both steps leave
 pub fit_shared : (available : ℕ) (ns : List Needs) (fitted : TblFitResult) → available < sum (natural_widths ns) → length ns ≢ 1 → AreReduced available ns fitted.col_widths.items → fitted.reduced ≡ true → IsFit available ns fitted
 unfolding column_widths
 fit_shared available ns fitted m ne h r = record {

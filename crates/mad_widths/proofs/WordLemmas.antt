@@ -33,6 +33,7 @@ pub record AreCounted (ws least : List ℕ) : Type 0 where
   pub each : (k : ℕ) → k < length ws → get_or (counted_from ws least) k 0 ≡ (get_or ws k 0 - get_or least k 0) + 3
   pub above : above_three (counted_from ws least) + sum least ≡ sum ws
 
+-- raised widths can be counted so
 pub counted : (ws least : List ℕ) → AreRaised ws least → AreCounted ws least
 counted ws least h =
     let f : ℕ → ℕ → ℕ = λ w l. (w - l) + 3 in
@@ -54,6 +55,7 @@ counted ws least h =
 abbrev pub word_requests : ℕ → List ℕ → List ℕ → List ℕ
 word_requests available ws least = second_requests (sum ws - available) (counted_from ws least)
 
+-- each request leaves a column its least width
 pub word_leave : (ws least : List ℕ) (available k : ℕ) → AreRaised ws least → k < length ws → get_or (word_requests available ws least) k 0 + get_or least k 0 ≤ get_or ws k 0
 word_leave ws least available k h b =
     let c = counted ws least h in
@@ -103,6 +105,7 @@ pub record AreLeast (naturals least : List ℕ) : Type 0 where
   pub three : (k : ℕ) → k < length naturals → 3 ≤ get_or least k 0
   pub most : (k : ℕ) → k < length naturals → get_or least k 0 ≤ get_or naturals k 0
 
+-- least widths are three at least, and natural at most
 pub least_are : (naturals words : List ℕ) → AreWide naturals → AreWide words → AreLeast naturals (least_widths naturals words)
 least_are naturals words wide word_wide = record {
   count = length-each_with min naturals words;
@@ -116,6 +119,7 @@ least_are naturals words wide word_wide = record {
   ];
 }
 
+-- raised widths are least widths at least
 pub raised_are : (naturals ws least : List ℕ) → length ws ≡ length naturals → AreLeast naturals least → AreRaised (raised ws least) least
 raised_are naturals ws least e h =
     let len : length (raised ws least) ≡ length ws = length-each_with max ws least in
@@ -225,6 +229,7 @@ word_fits available ns least after fitted made h fits fit g r e =
 
 -- ---- as the program makes them
 
+-- the natural widths of columns that have seen cells are three at least
 pub naturals_three : (cs : List SeenColumn) → AreWide (natural_widths (map needs_in cs))
 naturals_three cs i l =
     let d : Needs = record { natural = 0; average = 0 } in

@@ -7,10 +7,12 @@ use Rattle.mad_widths.specs.ColumnWidths.{first_requests, second_requests, after
 use Rattle.mad_widths.specs.WordWidths.{word_widths}
 use Rattle.mad_widths.specs.WorkedWidths.{AreWorkedWidths, RefusedWidths}
 
+-- the worked tables have these widths
 pub worked : AreWorkedWidths
 unfolding word_widths column_widths after_second after_first second_requests first_requests grants
 worked = record { natural = refl; single = refl; reduced = refl; uneven = refl; parted = refl; whole = refl; too_narrow = refl; three = refl }
 
+-- no fit has the refused widths
 pub none : RefusedWidths
 none = record {
   other_sum = λ available naturals widths reduced more several other h. other (h.shared more several).0;

@@ -11,6 +11,7 @@ use Rattle.mad_fit.specs.declared.tokens.Token.{Token}
 use Rattle.mad_wrap.specs.declared.room.Room.{Room}
 use Rattle.mad_wrap.specs.Breaks.{LineAndGap, lines_and_gaps, total_width, FitsFrom, FittingBreak, EndsWithLine}
 
+-- joined tokens take as many columns as both together
 pub total_width-append : (xs ys : List Token) → total_width (xs ++ ys) ≡ total_width xs + total_width ys
 total_width-append [] ys = omega arith
 total_width-append (x ∷ xs) ys = omega (arith, total_width-append xs ys)
@@ -19,6 +20,7 @@ total_width-append (x ∷ xs) ys = omega (arith, total_width-append xs ys)
 abbrev pub Ends : List Token → List Token → List Token → Token → List Token → Type 0
 Ends xs r before t after = ((more : List Token) × (before ≡ xs ++ more) × (r ≡ more ++ t ∷ after)) ⊎ ((zs : List Token) × (xs ≡ before ++ t ∷ zs))
 
+-- two fronts of one list, the second before a token of it, end so
 pub ends : (xs r before : List Token) (t : Token) (after : List Token) → xs ++ r ≡ before ++ t ∷ after → Ends xs r before t after
 ends [] r before t after e = inl (before, refl, e)
 ends (x ∷ xs) r [] t after e = inr (xs, let same : x ≡ t = cc in ap (λ y. y ∷ xs) same)
@@ -28,6 +30,7 @@ ends (x ∷ xs) r (b ∷ before) t after e =
     elim (ends xs r before t after tail) as (λ _. Ends (x ∷ xs) r (b ∷ before) t after)
     [ inl (more, f, g) ↦ inl (more, ap (λ y. y ∷ before) (sym head) ∙ ap (λ l. x ∷ l) f, g) | inr (zs, f) ↦ inr (zs, ap (λ y. y ∷ xs) head ∙ ap (λ l. b ∷ l) f) ]
 
+-- what holds of each token holds of one among them
 pub all_at : (P : Token → Type 0) (xs zs : List Token) (t : Token) → AllByRecursion P (xs ++ t ∷ zs) → P t
 all_at P [] zs t h = h.0
 all_at P (x ∷ xs) zs t h = all_at P xs zs t h.1
@@ -95,6 +98,7 @@ no_starts : (r : Room) (ns : List ℕ) (s indent : ℕ) → are_starts_from inde
 no_starts r [] s indent b = refl
 no_starts r (n ∷ ns) s indent b = let parts = and_parts (nat_lt s n) _ b in let inside = and_parts (nat_lt n 0) _ parts.1 in absurd (omega (arith, ltb-true n 0 inside.0))
 
+-- starts that pass the checker are no more than the lines of a fitting break
 pub bound : (r : Room) (ts : List Token) (starts : List ℕ) → are_starts r ts starts ≡ true → (ps : List (LineAndGap Token)) → FittingBreak r ts ps → length starts ≤ length ps
 bound r ts [] b ps h = absurd (cc)
 bound r [] (s ∷ ns) b ps h =

@@ -14,6 +14,7 @@ use Rattle.mad_wrap.proofs.PlacingLemmas.{left_of-some, total_width-push}
 
 -- ---- what is left of a line
 
+-- nothing is left of a width that is less than what is used of it
 pub left_of-none : (width used : ℕ) → width < used → left_of width used ≡ None
 left_of-none width used h = grind (arith, nat_tests)
 
@@ -21,6 +22,7 @@ left_rest : (width used n : ℕ) → used ≤ width → (width < used + n) ⊎ (
 left_rest width used n some (inl over) = left_of-none (width - used) n (omega arith) ∙ sym (left_of-none width (used + n) over)
 left_rest width used n some (inr fits) = left_of-some (width - used) n (omega arith) ∙ ap Some (omega arith) ∙ sym (left_of-some width (used + n) fits)
 
+-- what is left after some columns and then others is what is left after both together
 pub left_more : (width used n : ℕ) → left_after (left_of width used) n ≡ left_of width (used + n)
 left_more width used n = elim (cases_lt width used) as (λ _. left_after (left_of width used) n ≡ left_of width (used + n)) [
   | inl none ↦ ap (λ l. left_after l n) (left_of-none width used none) ∙ sym (left_of-none width (used + n) (omega arith))
@@ -51,6 +53,7 @@ pub record Checked (r : Room) (later : List ℕ) (begun : Bool) (done : List Tok
   pub ahead : (n : ℕ) (ns : List ℕ) → others ≡ n ∷ ns → (n ≤ start) ⊎ (length done ≤ n)
   pub exact : (more : List Token) → begun && are_starts_from r.first r (done ++ more) 0 later ≡ holds && are_starts_from indent r (done ++ more) start others
 
+-- before the first token all later starts are still to be met
 pub check_begins : (r : Room) (later : List ℕ) (begun : Bool) → Checked r later begun [] begun later 0 0 (left_of r.width r.first)
 check_begins r later begun = record {
   indent = r.first;
@@ -173,6 +176,7 @@ none_met r indent start done (n ∷ ns) ahead =
           ap (λ b. nat_lt start n && (b && (nat_lt r.width (indent + total_width (slice_range done start (n + 1))) && (((length ns == 0) || not (is_blank_token (slice_get done n))) && are_starts_from r.other r done n ns)))) off ∙ and_false (nat_lt start n) ∙ sym none
     ]
 
+-- after the last token the starts are right where all were so far, and none is still to be met
 pub check_ends : (r : Room) (later : List ℕ) (begun : Bool) (done : List Token) (holds : Bool) (others : List ℕ) (start number : ℕ) (left : Option ℕ) → Checked r later begun done holds others start number left
     → holds && (length others == 0) ≡ begun && are_starts_from r.first r done 0 later
 check_ends r later begun done holds others start number left h =

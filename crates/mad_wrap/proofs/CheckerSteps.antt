@@ -11,6 +11,7 @@ use Rattle.mad_wrap.specs.Breaks.{total_width}
 use Rattle.mad_wrap.specs.declared.room.Room.{Room}
 use Rattle.mad_wrap.proofs.BoundLemmas.{total_width-append}
 
+-- the test of a start passes for the last one, whatever its token
 pub none_left : (n : ℕ) (b : Bool) → n ≡ 0 → (n == 0) || b ≡ true
 none_left n b h = grind (arith, nat_tests)
 
@@ -30,6 +31,7 @@ slice_at pre mid rest t =
     let count : length pre + length mid + 1 - length pre ≡ length mid + 1 = omega arith in
     ap (λ n. take n (drop (length pre) (pre ++ (mid ++ t ∷ rest)))) count ∙ ap (take (length mid + 1)) (drop-append_seam pre (mid ++ t ∷ rest)) ∙ take-append-add mid (t ∷ rest) 1
 
+-- the token after two lists has their length as its number
 pub token_at : (pre mid rest : List Token) (t : Token) → slice_get (pre ++ (mid ++ t ∷ rest)) (length pre + length mid) ≡ Some t
 token_at pre mid rest t =
     let ts = pre ++ (mid ++ t ∷ rest) in

@@ -75,6 +75,7 @@ close_from i r p (q ∷ qs) fits room =
       count = omega (arith, more.count);
     }
 
+-- a break that fits has a closed one, where each of its tokens fits on later lines
 pub closed : (i : ℕ) (r : Room) (ps : List (LineAndGap Token)) → 0 < length ps → FitsFrom i r ps → AllByRecursion (λ t. r.other + t.width ≤ r.width) (lines_and_gaps ps) → ClosedBreak i r ps
 closed i r [] some fits room = absurd (omega arith)
 closed i r (p ∷ ps) some fits room = close_from i r p ps fits room
@@ -94,5 +95,6 @@ length-dropped_from n [] = refl
 length-dropped_from n (p ∷ []) = length-dropped_after n p (length p.gap == 0)
 length-dropped_from n (p ∷ q ∷ ps) = length-dropped_from (n + (length p.line + length p.gap)) (q ∷ ps)
 
+-- there is a start for each line, and one for the blanks that are dropped after the last
 pub length-starts : (ps : List (LineAndGap Token)) → length (starts_from 0 ps ++ dropped_from 0 ps) ≡ length ps + dropped_at_end ps
 length-starts ps = omega (arith, length-append (starts_from 0 ps) (dropped_from 0 ps), length-starts_from 0 ps, length-dropped_from 0 ps)

@@ -36,10 +36,12 @@ pub record IsCut (r : Room) (ps : List Compound) (front back : Compound) : Type 
   pub none_empty : NoneEmpty ps → (0 < length front.src.now) × (0 < length back.src.now)
   pub two : drops_middle r ps ≡ false → ps ≡ front ∷ back ∷ []
 
+-- what was made by a test is what it makes, and passed it
 pub made_by : {A : Type 0} (b : Bool) (x y : A) → (if b then Some x else None) ≡ Some y → (b ≡ true) × (x ≡ y)
 made_by true x y e = (refl, cc)
 made_by false x y e = absurd (cc)
 
+-- whitespace is white with any flags
 pub white_flagged : (f : Flags) (cs : List ℕ) → list_all is_whitespace cs ≡ true → AllWhite (flagged f cs)
 white_flagged f [] h = tt
 white_flagged f (c ∷ cs) h = let parts = and_parts (is_whitespace c) (list_all is_whitespace cs) h in (parts.0, white_flagged f cs parts.1)
@@ -75,6 +77,7 @@ cut_of_three r a m b test =
       two = λ e. absurd (let on : drops_middle r (a ∷ m ∷ b ∷ []) ≡ true = ap (λ (t : Bool). is_some {T = Compound × Compound} (if t then Some (a, b) else None)) test in cc);
     }
 
+-- a clean cut makes two compounds that fit on a line each, with whitespace or nothing between them
 pub cut_is : (r : Room) (ps : List Compound) (front back : Compound) → clean_cut r ps ≡ Some (front, back) → IsCut r ps front back
 cut_is r (a ∷ b ∷ []) front back e =
     let made = made_by (both_fit r a b) (a, b) (front, back) e in
@@ -133,6 +136,7 @@ cut_runs front back first second h g front' back' cut is is' =
     let backs : back ≡ back' = ap (λ (q : Option (Compound × Compound)). (unwrap_or q (front, back)).1) e in
     ap (λ rs. rs ∷ runs_of second ∷ []) (h ∙ ap (λ p. run_of p ∷ []) fronts) ∙ ap (λ rs. (run_of front' ∷ []) ∷ rs ∷ []) (g ∙ ap (λ p. run_of p ∷ []) backs)
 
+-- two lines that hold a compound each have their columns counted right
 pub cut_counted : (front back : Compound) (lines : List WrappedLine) → AreTwoLines front back lines → AreCounted lines
 cut_counted front back lines two =
     subst AreCounted (sym two.lines_are) (
@@ -144,6 +148,7 @@ cut_counted front back lines two =
 pub cut_tokenized : (r : Room) (ps : List Compound) → AreTexts ps → AreTokenized r ps
 cut_tokenized r ps texts = let all = tokens_of_all (token_limit r) ps texts in one_list r ps all.0 all.1
 
+-- the two lines of a clean cut are a wrap of compounds that are too wide for one line
 pub cut_wrap : (r : Room) (ps : List Compound) (front back : Compound) (lines : List WrappedLine) → r.width < r.first + width_of (flagged_text ps) → clean_cut r ps ≡ Some (front, back) → AreTexts ps
     → AreTwoLines front back lines → IsWrap r ps (compounds_of lines)
 cut_wrap r ps front back lines wide is texts_are two =

@@ -39,6 +39,7 @@ ends_from max start p (o ∷ own) (x ∷ xs) others more t u from e =
     let tail : own ++ others ≡ xs ++ t ∷ u ∷ more = cc in
     ends_from max o.end_in_compound p own xs others more t u from.1 tail
 
+-- a token ends where its compound does, or is too wide with the next one, if that is alike
 pub ends_of : (max : ℕ) (ps : List Compound) (xs more : List Token) (t u : Token) → AreTokensOf max ps (xs ++ t ∷ u ∷ more) → EndsOrPasses max t u
 ends_of max [] xs more t u h = absurd (omega (arith, ap length h, length-append xs (t ∷ u ∷ more)))
 ends_of max (p ∷ ps) xs more t u (own, others, joins, from, rest) =

@@ -28,6 +28,7 @@ char_at n xs = get_or xs n (record { char = 0; flags = unflagged })
 
 -- ---- texts that aren't kept
 
+-- `aaa bb` isn't wrapped as `aaabb`
 pub glued : (r : Room) (ps : List Compound) (lines : List (List Compound)) → flagged_text ps ≡ flagged unflagged (codes "aaa bb") → map flagged_text lines ≡ flagged unflagged (codes "aaabb") ∷ [] → ¬ (IsWrap r ps lines)
 glued r ps lines text are wrap =
     let kept : Keeps (flagged unflagged (codes "aaa bb")) (flagged unflagged (codes "aaabb") ∷ []) = subst (Keeps (flagged unflagged (codes "aaa bb"))) are (subst (λ t. Keeps t (map flagged_text lines)) text wrap.keeps) in
@@ -41,6 +42,7 @@ no_gap (x ∷ []) rest more e white next =
     let fourth : true ≡ false = ap (λ (xs : List FlaggedChar). (char_at 3 xs).flags.bold) (e ∙ ap (λ (l : List FlaggedChar). flagged unflagged (codes "aa") ++ (x ∷ l)) next) in cc
 no_gap (x ∷ y ∷ gap) rest more e white next = let fourth : false ≡ true = ap (λ (xs : List FlaggedChar). is_whitespace (char_at 3 xs).char) e ∙ white.1.0 in cc
 
+-- `aa` and a bold `bb` after a space aren't wrapped as `aa` and an unflagged `bb`
 pub lost_flags : (r : Room) (ps : List Compound) (lines : List (List Compound)) → flagged_text ps ≡ flagged unflagged (codes "aa ") ++ flagged (record unflagged { bold = true }) (codes "bb")
     → map flagged_text lines ≡ flagged unflagged (codes "aa") ∷ flagged unflagged (codes "bb") ∷ [] → ¬ (IsWrap r ps lines)
 lost_flags r ps lines text are wrap =
@@ -50,6 +52,7 @@ lost_flags r ps lines text are wrap =
 
 -- ---- tokens on lines
 
+-- `aaa bb cc` isn't wrapped at 6 in three lines
 pub token_a_line : (ps : List Compound) (a s b t c : Token) (lines : List (List Compound)) → IsWord 3 a → IsSpace 1 s → IsWord 2 b → IsSpace 1 t → IsWord 2 c → AreTokensIn (lines_of 6) ps (a ∷ s ∷ b ∷ t ∷ c ∷ [])
     → length lines ≡ 3 → ¬ (IsWrap (lines_of 6) ps lines)
 token_a_line ps a s b t c lines ha hs hb ht hc tokens three wrap =
@@ -60,6 +63,7 @@ token_a_line ps a s b t c lines ha hs hb ht hc tokens three wrap =
     } in
     omega (arith, three, (wrap.least (a ∷ s ∷ b ∷ t ∷ c ∷ []) tokens).least breaks fitting)
 
+-- `aaa` and three spaces aren't wrapped at 3 in two lines
 pub trailing_blanks : (p : Compound) (a s : Token) (lines : List (List Compound)) → IsWord 3 a → IsSpace 3 s → AreTokensIn (lines_of 3) (p ∷ []) (a ∷ s ∷ []) → length lines ≡ 2 → ¬ (IsWrap (lines_of 3) (p ∷ []) lines)
 trailing_blanks p a s lines ha hs tokens two wrap =
     let breaks : List (LineAndGap Token) = record { line = a ∷ []; gap = s ∷ [] } ∷ [] in
@@ -78,6 +82,7 @@ cut_fit a s c ha hs hc = record {
   within = (λ _. omega (arith, ha.width, hs.width), (λ l. absurd (omega arith), tt));
 }
 
+-- `ab cccc` isn't wrapped at 5 with a first line of five columns
 pub cut_at_the_width : (p : Compound) (a s c : Token) (front : List Compound) (others : List (List Compound)) → IsWord 2 a → IsSpace 1 s → IsWord 4 c → AreTokensIn (lines_of 5) (p ∷ []) (a ∷ s ∷ c ∷ [])
     → width_of (flagged_text front) ≡ 5 → ¬ (IsWrap (lines_of 5) (p ∷ []) (front ∷ others))
 unfolding cut_breaks
@@ -105,10 +110,12 @@ two_fit a s b t c ha hs hb ht hc = record {
   within = (λ _. omega (arith, ha.width, hs.width, hb.width), (λ l. absurd (omega arith), tt));
 }
 
+-- the start 0 alone isn't that of `aaa bb cc` at 6
 pub one_start : (p : Compound) (a s b t c : Token) → IsWord 3 a → IsSpace 1 s → IsWord 2 b → IsSpace 1 t → IsWord 2 c → AreTokensIn (lines_of 6) (p ∷ []) (a ∷ s ∷ b ∷ t ∷ c ∷ []) → ¬ (AreStartsOf (lines_of 6) (p ∷ []) (0 ∷ []))
 unfolding two_breaks
 one_start p a s b t c ha hs hb ht hc tokens h =
     omega (arith, ap length (h.lines refl (a ∷ s ∷ b ∷ t ∷ c ∷ []) tokens (two_breaks a s b t c) (two_fit a s b t c ha hs hb ht hc)))
 
+-- the starts 0 and 2 of `aaa bb cc` at 6 don't pass the checker
 pub early_start : (a s b t c : Token) → IsWord 3 a → IsSpace 1 s → IsWord 2 b → IsSpace 1 t → IsWord 2 c → are_starts (lines_of 6) (a ∷ s ∷ b ∷ t ∷ c ∷ []) (0 ∷ 2 ∷ []) ≡ false
 early_start a s b t c ha hs hb ht hc = grind (arith, nat_tests, ha.width, hs.width, hb.width)

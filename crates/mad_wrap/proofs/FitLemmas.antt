@@ -19,6 +19,7 @@ pub record LinesSoFar (r : Room) (ts : List Token) (lines : List WrappedLine) (l
   pub room : s.room ≡ r
   pub placed : Progress r ts lines line s.room_left s.ended
 
+-- a token that is put on the line is the last on it
 pub line_takes : (r : Room) (ts : List Token) (t : Token) (lines : List WrappedLine) (line new : WrappedLine) (s s' : FirstFit) → LinesSoFar r ts lines line s → Puts s t OnLine s' → AddsToken line t new
     → LinesSoFar r (ts ++ t ∷ []) lines new s'
 line_takes r ts t lines line new s s' h put adds =
@@ -26,11 +27,13 @@ line_takes r ts t lines line new s s' h put adds =
     let placed = progress_fits r ts t lines line new s.room_left open_line put.1 adds in
     subst (LinesSoFar r (ts ++ t ∷ []) lines new) (sym put.2) (record { room = h.room; placed = subst (Progress r (ts ++ t ∷ []) lines new (taken s.room_left t.width)) (sym put.0) placed })
 
+-- a token that is put in the gap leaves the lines as they are
 pub line_ends : (r : Room) (ts : List Token) (t : Token) (lines : List WrappedLine) (line : WrappedLine) (s s' : FirstFit) → LinesSoFar r ts lines line s → Puts s t InGap s'
     → LinesSoFar r (ts ++ t ∷ []) lines line s'
 line_ends r ts t lines line s s' h put =
     subst (LinesSoFar r (ts ++ t ∷ []) lines line) (sym put.2) (record { room = h.room; placed = progress_ends r ts t lines line s.room_left s.ended h.placed put.0 put.1 })
 
+-- a token that is put on the next line begins it
 pub line_begins : (r : Room) (ts : List Token) (t : Token) (lines new_lines : List WrappedLine) (line begun new : WrappedLine) (s s' : FirstFit) → LinesSoFar r ts lines line s → Puts s t OnNext s'
     → new_lines ≡ lines ++ line ∷ [] → IsBegun begun → AddsToken begun t new → LinesSoFar r (ts ++ t ∷ []) new_lines new s'
 line_begins r ts t lines new_lines line begun new s s' h put pushed begins adds =
@@ -50,6 +53,7 @@ pub record StartsUpTo (r : Room) (ts : List Token) (dropped : Option ℕ) (start
 number_more : (ts : List Token) (t : Token) (i next : ℕ) → i ≡ length ts → next ≡ i + 1 → next ≡ length (ts ++ t ∷ [])
 number_more ts t i next is more = omega (arith, is, more, length-append ts (t ∷ []))
 
+-- a token that is put on the line is no start
 pub start_stays : (r : Room) (ts : List Token) (t : Token) (dropped : Option ℕ) (starts : List ℕ) (i next : ℕ) (s s' : FirstFit) → StartsUpTo r ts dropped starts i s → Puts s t OnLine s' → next ≡ i + 1
     → StartsUpTo r (ts ++ t ∷ []) dropped starts next s'
 start_stays r ts t dropped starts i next s s' h put more =
@@ -64,6 +68,7 @@ ended_now : (dropped : Option ℕ) (i : ℕ) → true ≡ is_some (option_or dro
 ended_now None i = refl
 ended_now (Some n) i = refl
 
+-- a token that is put in the gap is no start, but the first dropped one, where none was dropped before it
 pub start_drops : (r : Room) (ts : List Token) (t : Token) (dropped new_dropped : Option ℕ) (starts : List ℕ) (i next : ℕ) (s s' : FirstFit) → StartsUpTo r ts dropped starts i s → Puts s t InGap s' → next ≡ i + 1
     → new_dropped ≡ option_or dropped (Some i) → StartsUpTo r (ts ++ t ∷ []) new_dropped starts next s'
 start_drops r ts t dropped new_dropped starts i next s s' h put more new =
@@ -74,6 +79,7 @@ start_drops r ts t dropped new_dropped starts i next s s' h put more new =
       number = number_more ts t i next h.number more;
     })
 
+-- a token that is put on the next line is a start, unless it is the first token
 pub start_begins : (r : Room) (ts : List Token) (t : Token) (dropped : Option ℕ) (starts new_starts : List ℕ) (i next : ℕ) (s s' : FirstFit) → StartsUpTo r ts dropped starts i s → Puts s t OnNext s' → next ≡ i + 1
     → (0 < i → new_starts ≡ starts ++ i ∷ []) × (i ≡ 0 → new_starts ≡ starts) → StartsUpTo r (ts ++ t ∷ []) None new_starts next s'
 start_begins r ts t dropped starts new_starts i next s s' h put more pushed =

@@ -26,6 +26,7 @@ use Rattle.mad_wrap.proofs.WrapLemmas.{room_for_tokens, total_is}
 same_runs : (r : Room) (ts : List Token) (xs ys : List (List Run)) → AreFirstFit r ts xs → AreFirstFit r ts ys → xs ≡ ys
 same_runs r ts xs ys h g = sym h.runs_are ∙ ap (map (λ (p : LineAndGap Token). map token_run p.line)) (one_first_fit r ts h.breaks g.breaks h.first_fit g.first_fit) ∙ g.runs_are
 
+-- compounds have one wrap
 pub one_wrap : (r : Room) (ps : List Compound) (lines others : List (List Compound)) → IsWrap r ps lines → IsWrap r ps others → map runs_of lines ≡ map runs_of others
 one_wrap r ps lines others h g =
     let by : (cut : Option (Compound × Compound)) → clean_cut r ps ≡ cut → map runs_of lines ≡ map runs_of others =
@@ -71,6 +72,7 @@ two_starts : (r : Room) (ps : List Compound) (ts : List Token) (starts : List �
 two_starts r ps ts starts tokens wide room (inl (fits, are)) = absurd (omega (arith, fits, wide, total_is r ps ts tokens))
 two_starts r ps ts starts tokens wide room (inr (i, past, is, none)) = ap length (is (some_past r ts i past (room_for_tokens r ps ts tokens room)))
 
+-- the starts of compounds that are too wide count the lines of their wrap, where each character has room
 pub starts_count : (r : Room) (ps : List Compound) (lines : List (List Compound)) (starts : List ℕ) → r.width < r.first + width_of (flagged_text ps) → HasRoom r (flagged_text ps) → IsWrap r ps lines → AreStartsOf r ps starts
     → CountLines r ps lines starts
 starts_count r ps lines starts wide room wrap h = record {

@@ -40,6 +40,7 @@ least_from i r extra (p ∷ p' ∷ ps) (q ∷ qs) some (b, forced) fits e =
       ]
     ]
 
+-- first fit makes no more lines than a trimming break
 pub least : (r : Room) (ts : List Token) (ps qs : List (LineAndGap Token)) → IsFirstFit r ts ps → TrimmingBreak r ts qs → length ps ≤ length qs
 least r ts ps qs h b = least_from r.first r [] ps qs b.some_line h.forced b.fits (b.covers ∙ sym h.placing.covers)
 
@@ -75,6 +76,7 @@ all_fit r (p ∷ ps) indent room gaps within = (
 pub room_of_break : (r : Room) (ts : List Token) (ps : List (LineAndGap Token)) → IsFirstFit r ts ps → TokensHaveRoom r ts → AllByRecursion (λ t. most_indent r + t.width ≤ r.width) (lines_and_gaps ps)
 room_of_break r ts ps h room = subst (AllByRecursion (λ t. most_indent r + t.width ≤ r.width)) (sym h.placing.covers) room.each
 
+-- with room for each token, each line of the first fit fits
 pub fits_with_room : (r : Room) (ts : List Token) (ps : List (LineAndGap Token)) → IsFirstFit r ts ps → TokensHaveRoom r ts → FitsFrom r.first r ps
 fits_with_room r ts ps h room = all_fit r ps room.indent (room_of_break r ts ps h room) h.placing.gaps h.within
 
@@ -95,6 +97,7 @@ others_some : (i : ℕ) (r : Room) (p : LineAndGap Token) (ps : List (LineAndGap
 others_some i r p [] forced = tt
 others_some i r p (q ∷ qs) forced = (omega (arith, ap length forced.0.begins), others_some r.other r q qs forced.1)
 
+-- with room for each token, each line of the first fit has one
 pub some_with_room : (r : Room) (ts : List Token) (ps : List (LineAndGap Token)) → IsFirstFit r ts ps → TokensHaveRoom r ts → 0 < length ts → SomeOnEach ps
 some_with_room r ts [] h room some = tt
 some_with_room r ts (p ∷ ps) h room some = (

@@ -18,6 +18,7 @@ use Rattle.mad_wrap.proofs.LeastLemmas.{TokensHaveRoom, first_some}
 abbrev others_of : ℕ → LineAndGap Token → List (LineAndGap Token) → List ℕ
 others_of n p ps = starts_from (n + (length p.line + length p.gap)) ps ++ dropped_from n (p ∷ ps)
 
+-- where a gap comes after a last line, its first token is dropped
 pub dropped_some : (n : ℕ) (p : LineAndGap Token) → 0 < length p.gap → dropped_after n p ≡ (n + length p.line) ∷ []
 dropped_some n p some = let e : (length p.gap == 0) ≡ false = grind (arith, nat_tests) in ap (λ b. if b then [] else (n + length p.line) ∷ []) e
 
@@ -83,6 +84,7 @@ each_with_room r [] (g ∷ gs) ps gaps forced room = absurd (omega (arith, first
 each_with_room r [] [] (q ∷ qs) gaps forced room =
     absurd (omega (arith, first_some r [] [] (q ∷ qs) gaps forced room (omega (arith, ap length forced.0.begins, length-append q.line (q.gap ++ lines_and_gaps qs)))))
 
+-- with room for each token, each line has a start of its own
 pub starts_each : (r : Room) (ts : List Token) (ps : List (LineAndGap Token)) → IsFirstFit r ts ps → TokensHaveRoom r ts → starts_of ps ≡ starts_from 0 ps ++ dropped_from 0 ps
 starts_each r ts [] h room = absurd (omega (arith, h.placing.some_line))
 starts_each r ts (p ∷ ps) h room = each_with_room r p.line p.gap ps h.placing.gaps h.forced (subst (AllByRecursion (λ t. most_indent r + t.width ≤ r.width)) (sym h.placing.covers) room.each)
@@ -115,6 +117,7 @@ pass_all r ts [] (g ∷ gs) [] e gaps forced = ap (λ (l : List ℕ). are_starts
 pass_all r ts [] [] (q ∷ qs) e gaps forced = second_at_first r ts q qs e gaps.2 forced.0 forced.1
 pass_all r ts [] (g ∷ gs) (q ∷ qs) e gaps forced = second_passes r ts (record { line = []; gap = g ∷ gs }) q qs e (omega arith) gaps forced
 
+-- the starts of a first fit pass the checker
 pub starts_pass : (r : Room) (ts : List Token) (ps : List (LineAndGap Token)) → IsFirstFit r ts ps → are_starts r ts (starts_of ps) ≡ true
 starts_pass r ts [] h = absurd (omega (arith, h.placing.some_line))
 starts_pass r ts (p ∷ ps) h = pass_all r ts p.line p.gap ps (sym h.placing.covers) h.placing.gaps h.forced

@@ -17,11 +17,13 @@ use Rattle.mad_wrap.proofs.PlacingLemmas.{left_of-some, total_width-push}
 abbrev pub IsPast : Room → List Token → Option ℕ → Type 0
 IsPast r ts past = MatchOption past (r.first ≤ r.width → r.first + total_width ts ≤ r.width) (IsFirstPast r ts)
 
+-- the tokens so far: their number, what they leave of the first line, and the first of them that passes it
 pub record PastSoFar (r : Room) (ts : List Token) (left past : Option ℕ) (number : ℕ) : Type 0 where
   pub number_is : number ≡ length ts
   pub left_is : left ≡ left_of r.width (r.first + total_width ts)
   pub past_is : IsPast r ts past
 
+-- before the first token none has passed the first line
 pub past_begins : (r : Room) → PastSoFar r [] (left_of r.width r.first) None 0
 past_begins r = record { number_is = refl; left_is = ap (left_of r.width) (omega arith); past_is = λ h. omega arith }
 
@@ -50,6 +52,7 @@ past_or : (r : Room) (ts : List Token) (t : Token) (past : Option ℕ) → IsPas
 past_or r ts t (Some i) h = past_stays r ts t i h
 past_or r ts t None h = here_by r ts t h (cases_lt r.width (r.first + total_width (ts ++ t ∷ [])))
 
+-- one token more is there, and may be the first that passes
 pub past_more : (r : Room) (ts : List Token) (t : Token) (left new_left past new_past : Option ℕ) (number new_number : ℕ) → PastSoFar r ts left past number → new_number ≡ number + 1 → new_left ≡ left_after left t.width → new_past ≡ option_or past (past_here new_left number)
     → PastSoFar r (ts ++ t ∷ []) new_left new_past new_number
 past_more r ts t left new_left past new_past number new_number h counted after new =

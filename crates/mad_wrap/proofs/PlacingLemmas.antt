@@ -50,10 +50,12 @@ pub record Progress (r : Room) (ts : List Token) (lines : List WrappedLine) (lin
 
 -- ---- lists that grow at their end
 
+-- one token more at the end adds its columns
 pub total_width-push : (ts : List Token) (t : Token) → total_width (ts ++ t ∷ []) ≡ total_width ts + t.width
 total_width-push [] t = omega arith
 total_width-push (x ∷ ts) t = omega (arith, total_width-push ts t)
 
+-- one line more at the end adds its tokens, and those of its gap
 pub lines_and_gaps-push : {A : Type 0} (ps : List (LineAndGap A)) (p : LineAndGap A) → lines_and_gaps (ps ++ p ∷ []) ≡ lines_and_gaps ps ++ (p.line ++ p.gap)
 lines_and_gaps-push [] p = ap (λ g. p.line ++ g) (append-nil p.gap)
 lines_and_gaps-push (q ∷ ps) p = ap (λ g. q.line ++ (q.gap ++ g)) (lines_and_gaps-push ps p) ∙ ap (λ g. q.line ++ g) (sym (append_assoc q.gap (lines_and_gaps ps) (p.line ++ p.gap))) ∙ sym (append_assoc q.line (q.gap ++ lines_and_gaps ps) (p.line ++ p.gap))
@@ -62,6 +64,7 @@ within_from_other : (r : Room) (ps : List (LineAndGap Token)) (p : LineAndGap To
 within_from_other r [] p h l = (l, tt)
 within_from_other r (q ∷ ps) p h l = (h.0, within_from_other r ps p h.1 l)
 
+-- lines keep within the width with one more, where that one does
 pub within_push : (r : Room) (ps : List (LineAndGap Token)) (p : LineAndGap Token) → LinesWithin 0 r.first r ps → (next_placed ps < length p.line → next_indent r ps + total_width p.line ≤ r.width) → LinesWithin 0 r.first r (ps ++ p ∷ [])
 within_push r [] p h l = (l, tt)
 within_push r (q ∷ ps) p h l = (h.0, within_from_other r ps p h.1 l)
@@ -71,20 +74,24 @@ forced_from_other : (r : Room) (ps : List (LineAndGap Token)) (p : LineAndGap To
 forced_from_other r [] p h b l = (b, l, tt)
 forced_from_other r (q ∷ ps) p h b l = (h.0, h.1, forced_from_other r ps p h.2 b l)
 
+-- the gaps of lines are forced with one more, where that one's is
 pub forced_push : (r : Room) (ps : List (LineAndGap Token)) (p : LineAndGap Token) → GapsForced r.first r ps → AllBlank p.gap
     → ((t : Token) (others : List Token) → p.gap ≡ t ∷ others → r.width < next_indent r ps + total_width p.line + t.width) → GapsForced r.first r (ps ++ p ∷ [])
 forced_push r [] p h b l = (b, l, tt)
 forced_push r (q ∷ ps) p h b l = (h.0, h.1, forced_from_other r ps p h.2 b l)
 
+-- lines hold a break with one more, where that one holds its tokens
 pub holds_push : (ps : List (LineAndGap Token)) (ls : List WrappedLine) (p : LineAndGap Token) (l : WrappedLine) → HoldBreak ps ls → HoldsTokens p.line l → HoldBreak (ps ++ p ∷ []) (ls ++ l ∷ [])
 holds_push [] [] p l h g = (g, tt)
 holds_push (q ∷ ps) (m ∷ ls) p l h g = (h.0, holds_push ps ls p l h.1 g)
 holds_push _ _ p l h g = absurd h
 
+-- a line after another has the indent of later lines
 pub next_indent-push : (r : Room) (ps : List (LineAndGap Token)) (p : LineAndGap Token) → next_indent r (ps ++ p ∷ []) ≡ r.other
 next_indent-push r [] p = refl
 next_indent-push r (q ∷ ps) p = refl
 
+-- a line after another has one token at any width
 pub next_placed-push : (ps : List (LineAndGap Token)) (p : LineAndGap Token) → next_placed (ps ++ p ∷ []) ≡ 1
 next_placed-push [] p = refl
 next_placed-push (q ∷ ps) p = refl
@@ -104,6 +111,7 @@ lines_from_other r [] p q h b = (b, tt)
 lines_from_other r (x ∷ []) p q h b = (h.0, (b, tt))
 lines_from_other r (x ∷ y ∷ ps) p q h b = (h.0, lines_from_other r (y ∷ ps) p q h.1 b)
 
+-- each line begins as it must with one more, where that one does
 pub lines_push : (r : Room) (ps : List (LineAndGap Token)) (p q : LineAndGap Token) → LinesForced r.first r (ps ++ p ∷ []) → BeginsAfter (next_indent r ps) r p q → LinesForced r.first r ((ps ++ p ∷ []) ++ q ∷ [])
 lines_push r [] p q h b = (b, tt)
 lines_push r (x ∷ []) p q h b = (h.0, (b, tt))
@@ -152,6 +160,7 @@ passes_by width used n false e h = grind (arith, nat_tests)
 pub passes_width : (width used n : ℕ) → fits_in (left_of width used) n ≡ false → width < used + n
 passes_width width used n h = passes_by width used n (nat_le used width) refl h
 
+-- a gap with one token more at its end begins with one that doesn't fit
 pub forced_more : (r : Room) (ended : Bool) (left : Option ℕ) (used : ℕ) (gap : List Token) (t : Token) → left ≡ left_of r.width used → (ended ≡ false → gap ≡ []) → (ended ≡ true → 0 < length gap)
     → ((u : Token) (others : List Token) → gap ≡ u ∷ others → r.width < used + u.width) → (ended ≡ true) ⊎ (fits_in left t.width ≡ false)
     → (u : Token) (others : List Token) → gap ++ t ∷ [] ≡ u ∷ others → r.width < used + u.width
@@ -162,6 +171,7 @@ forced_more r false left used gap t is none some here (inr h) u others e =
     let same : t ≡ u = cc in
     subst (λ (v : Token). r.width < used + v.width) same (passes_width r.width used t.width (ap (λ l. fits_in l t.width) (sym is) ∙ h))
 
+-- what isn't used of a width is left, where what is used fits
 pub left_of-some : (width used : ℕ) → used ≤ width → left_of width used ≡ Some (width - used)
 left_of-some width used h = let e : nat_le used width ≡ true = grind (arith, nat_tests) in ap (λ b. if b then Some (width - used) else None) e
 
@@ -186,6 +196,7 @@ passes_gap r ended left used (u ∷ gap) t is some here why = omega (arith, here
 passes_gap r ended left used [] t is some here (inl e) = absurd (omega (arith, some e))
 passes_gap r ended left used [] t is some here (inr f) = omega (arith, passes_width r.width used t.width (ap (λ l. fits_in l t.width) (sym is) ∙ f))
 
+-- before the first token there is only the line that is being made, without a token
 unfoldable pub shape_start : (r : Room) → Shape r [] (left_of r.width r.first) false
 shape_start r = record {
   breaks = [];
@@ -203,6 +214,7 @@ shape_start r = record {
   within_here = λ l. absurd (omega arith);
 }
 
+-- a token that fits is on the line
 unfoldable pub shape_fits : (r : Room) (ts : List Token) (t : Token) (left : Option ℕ) → Shape r ts left false → fits_in left t.width ≡ true → Shape r (ts ++ t ∷ []) (taken left t.width) false
 shape_fits r ts t left h fits =
     let used = next_indent r h.breaks + total_width h.tokens in
@@ -226,6 +238,7 @@ shape_fits r ts t left h fits =
       within_here = λ _. omega (arith, within.0, more);
     }
 
+-- a blank token that doesn't fit, or comes after a gap has begun, is in the gap
 unfoldable pub shape_ends : (r : Room) (ts : List Token) (t : Token) (left : Option ℕ) (ended : Bool) → Shape r ts left ended → t.blank ≡ true → (ended ≡ true) ⊎ (fits_in left t.width ≡ false) → Shape r (ts ++ t ∷ []) left true
 shape_ends r ts t left ended h blank why = record {
   breaks = h.breaks;
@@ -243,6 +256,7 @@ shape_ends r ts t left ended h blank why = record {
   within_here = h.within_here;
 }
 
+-- a token that isn't blank, and doesn't fit or comes after a gap, begins a line
 unfoldable pub shape_begins : (r : Room) (ts : List Token) (t : Token) (left : Option ℕ) (ended : Bool) → Shape r ts left ended → t.blank ≡ false → (ended ≡ true) ⊎ (fits_in left t.width ≡ false)
     → Shape r (ts ++ t ∷ []) (left_of r.width (r.other + t.width)) false
 shape_begins r ts t left ended h solid why =
@@ -266,10 +280,12 @@ shape_begins r ts t left ended h solid why =
       within_here = λ l. absurd (omega (arith, l, next_placed-push h.breaks p));
     }
 
+-- before the first token there is only a line without text
 pub progress_start : (r : Room) (l : WrappedLine) → IsBegun l → Progress r [] [] l (left_of r.width r.first) false
 unfolding shape_start
 progress_start r l begun = record { shape = shape_start r; holds = tt; holds_line = holds_none l begun }
 
+-- the line takes a token that fits
 pub progress_fits : (r : Room) (ts : List Token) (t : Token) (lines : List WrappedLine) (line new : WrappedLine) (left : Option ℕ) → Progress r ts lines line left false
     → fits_in left t.width ≡ true → AddsToken line t new → Progress r (ts ++ t ∷ []) lines new (taken left t.width) false
 unfolding shape_fits
@@ -279,11 +295,13 @@ progress_fits r ts t lines line new left h fits adds = record {
   holds_line = holds_more h.shape.tokens t line new h.holds_line adds;
 }
 
+-- a blank token that doesn't fit, or comes after a gap has begun, leaves the lines as they are
 pub progress_ends : (r : Room) (ts : List Token) (t : Token) (lines : List WrappedLine) (line : WrappedLine) (left : Option ℕ) (ended : Bool) → Progress r ts lines line left ended
     → t.blank ≡ true → (ended ≡ true) ⊎ (fits_in left t.width ≡ false) → Progress r (ts ++ t ∷ []) lines line left true
 unfolding shape_ends
 progress_ends r ts t lines line left ended h blank why = record { shape = shape_ends r ts t left ended h.shape blank why; holds = h.holds; holds_line = h.holds_line }
 
+-- the line is whole, and a token that isn't blank begins another
 pub progress_begins : (r : Room) (ts : List Token) (t : Token) (lines new_lines : List WrappedLine) (line begun new : WrappedLine) (left : Option ℕ) (ended : Bool)
     → Progress r ts lines line left ended → t.blank ≡ false → (ended ≡ true) ⊎ (fits_in left t.width ≡ false) → new_lines ≡ lines ++ line ∷ [] → IsBegun begun → AddsToken begun t new
     → Progress r (ts ++ t ∷ []) new_lines new (left_of r.width (r.other + t.width)) false
@@ -311,6 +329,7 @@ whole_fit r ts left ended s =
       within = within_push r s.breaks p s.within s.within_here;
     }
 
+-- after the last token all are on lines, by first fit
 pub placed_all : (r : Room) (ts : List Token) (lines new : List WrappedLine) (line : WrappedLine) (left : Option ℕ) (ended : Bool) → Progress r ts lines line left ended → new ≡ lines ++ line ∷ [] → ArePlacedLines r ts new
 placed_all r ts lines new line left ended h pushed =
     let s = h.shape in

@@ -66,9 +66,11 @@ placed_starts_of r ps ts starts tokens uncut h = record {
   cut = λ on. absurd (let off : is_cut_clean r ps ≡ false = ap is_some uncut in cc);
 }
 
+-- the starts of placed lines pass the checker
 pub placed_passes : (r : Room) (ts : List Token) (starts : List ℕ) → ArePlacedStarts r ts starts → are_starts r ts starts ≡ true
 placed_passes r ts starts h = ap (are_starts r ts) h.starts_are ∙ starts_pass r ts h.breaks h.first_fit
 
+-- with room for each character, the starts of placed lines are the fewest
 pub placed_fewest : (r : Room) (ps : List Compound) (ts : List Token) (starts : List ℕ) → AreTokensIn r ps ts → clean_cut r ps ≡ None → ArePlacedStarts r ts starts → HasRoom r (flagged_text ps) → AreFewest r ps starts
 placed_fewest r ps ts starts tokens uncut h space =
     let room = room_for_tokens r ps ts tokens space in
@@ -170,12 +172,14 @@ some_past r (t ∷ ts) (suc i) h room = omega arith
 total_take-le : (i : ℕ) (ts : List Token) → total_width (take i ts) ≤ total_width ts
 total_take-le i ts = omega (arith, total_width-append (take i ts) (drop i ts), ap total_width (take-append-drop i ts))
 
+-- the starts of a clean cut are those of its compounds
 pub cut_starts_of : (r : Room) (ps : List Compound) (ts : List Token) (starts : List ℕ) → AreTokensIn r ps ts → is_cut_clean r ps ≡ true → AreCutStarts r ts starts → AreStartsOf r ps starts
 cut_starts_of r ps ts starts tokens on h = record {
   lines = λ off. absurd (cc);
   cut = λ _ us others. subst (λ (x : List Token). AreCutStarts r x starts) (all_unique (token_limit r) ps ts us tokens others) h;
 }
 
+-- with room for each character, the starts of a clean cut are the fewest
 pub cut_fewest : (r : Room) (ps : List Compound) (ts : List Token) (starts : List ℕ) → AreTokensIn r ps ts → is_cut_clean r ps ≡ true → AreCutStarts r ts starts → HasRoom r (flagged_text ps) → AreFewest r ps starts
 unfolding TwoLines
 cut_fewest r ps ts starts tokens on (inl (fits, are)) space = record {
@@ -198,6 +202,7 @@ cut_fewest r ps ts starts tokens on (inr (i, past, is, none)) space =
 each_tokens : (r : Room) (ps : List Compound) (ts : List Token) (starts : List ℕ) → AreTokensIn r ps ts → are_starts r ts starts ≡ true → AreChecked r ps starts
 each_tokens r ps ts starts tokens passes us others = subst (λ (x : List Token). are_starts r x starts ≡ true) (all_unique (token_limit r) ps ts us tokens others) passes
 
+-- the checker says yes to the starts of placed lines
 pub placed_checked : (r : Room) (ps : List Compound) (ts : List Token) (starts : List ℕ) → AreTokensIn r ps ts → ArePlacedStarts r ts starts → AreChecked r ps starts
 placed_checked r ps ts starts tokens h = each_tokens r ps ts starts tokens (placed_passes r ts starts h)
 
@@ -208,6 +213,7 @@ cut_passes r ts starts (suc n) past some none =
     let slice : slice_range ts 0 (i + 1) ≡ take (i + 1) ts = ap (λ n. take n ts) (omega arith) in
     ap (are_starts r ts) (some (omega arith)) ∙ step_true r.first 0 i r ts [] (omega arith) past.inside (omega (arith, past.passes, ap total_width slice)) (none_left 0 (not (is_blank_token (slice_get ts i))) refl) refl
 
+-- the checker says yes to the starts of a clean cut
 pub cut_checked : (r : Room) (ps : List Compound) (ts : List Token) (starts : List ℕ) → AreTokensIn r ps ts → AreCutStarts r ts starts → AreChecked r ps starts
 cut_checked r ps ts starts tokens (inl (fits, are)) = each_tokens r ps ts starts tokens (ap (are_starts r ts) are)
 cut_checked r ps ts starts tokens (inr (i, past, some, none)) = each_tokens r ps ts starts tokens (cut_passes r ts starts i past some none)

@@ -21,6 +21,7 @@ use Rattle.mad_wrap.proofs.PlacingLemmas.{left_of-some}
 
 -- ---- the tokens of plain bytes up to a border
 
+-- the bytes from one up to another are these tokens, one at least, and take a column each
 pub record Chunk (max : ℕ) (p : Compound) (at end : ℕ) : Type 0 where
   pub first : Token
   pub is : IsTokenAt max p at first
@@ -134,6 +135,7 @@ full_if : (room : Option ℕ) → fits_in room 0 ≡ false → (left : ℕ) → 
 full_if None e left h = absurd (cc)
 full_if (Some n) e left h = absurd (grind (arith, nat_tests))
 
+-- a line that takes nothing of any width is full here
 pub full_here : (s : FirstFit) (max : ℕ) (bs : List ℕ) (at plain : ℕ) → ((n : ℕ) → IsFullAt s n) → IsFullHere s max bs at plain
 full_here s max bs at plain full = elim (full 0) as (λ _. IsFullHere s max bs at plain) [
   | inl ended ↦ inl ended
@@ -178,6 +180,7 @@ cut_full max at plain p s t width full = elim full as (λ _. IsFullFor s t) [
 
 -- ---- a lone space
 
+-- a space alone that doesn't fit is a span in the gap
 pub lone_space : (max at plain : ℕ) (p : Compound) (s : FirstFit) (span : Span) → IsUtf8 p.src.now → IsCharBoundary p.src.now at → ArePlain p.src.now at plain → plain ≤ length p.src.now → at < plain
     → is_space_at p.src.now at ≡ true → p.code ≡ false → IsFullAt s 1 → (length p.src.now ≤ at + 1) ⊎ ((at + 1 < plain) × (is_space_at p.src.now (at + 1) ≡ false))
     → span ≡ record { put = InGap; end = at + 1; after = record s { ended = true } } → IsSpan max p at s span
@@ -206,9 +209,11 @@ left_if : (width used left : ℕ) (b : Bool) → nat_le used width ≡ b → (if
 left_if width used left true e h = (grind (arith, nat_tests), cc)
 left_if width used left false e h = absurd (cc)
 
+-- where some columns are left of a width, they are those that aren't used, and these fit
 pub left_is : (width used left : ℕ) → left_of width used ≡ Some left → (used ≤ width) × (left ≡ width - used)
 left_is width used left h = left_if width used left (nat_le used width) refl h
 
+-- a token that begins with a graphic character isn't blank
 pub solid_word : (max at plain : ℕ) (p : Compound) (t : Token) → IsTokenAt max p at t → ArePlain p.src.now at plain → at < plain → is_space_at p.src.now at ≡ false → t.blank ≡ false
 solid_word max at plain p t is are before graphic = sym (blank_by max at p t is (are at (omega arith) before)) ∙ ap (λ b. b && not p.code) graphic
 

@@ -20,6 +20,7 @@ pub record Lines (breaks : List (LineAndGap Token)) (tokens gap : List Token) (r
   pub tokens_are : shape.tokens ≡ tokens
   pub gap_is : shape.gap ≡ gap
 
+-- before the first token the first line is open, and has none
 pub lines_start : (r : Room) → Lines [] [] [] r [] (at_first r)
 unfolding shape_start
 lines_start r = record { room = refl; shape = shape_start r; breaks_are = refl; tokens_are = refl; gap_is = refl }
@@ -38,6 +39,7 @@ line_takes b l g r ts t s n h (open_line, fits, after) =
     } in
     subst (Lines b (l ++ t ∷ []) [] r (ts ++ t ∷ [])) (ap (λ e. record s { room_left = taken s.room_left t.width; ended = e }) (sym open_line) ∙ sym after) next
 
+-- a token more comes in the gap
 pub line_ends : (b : List (LineAndGap Token)) (l g : List Token) (r : Room) (ts : List Token) (t : Token) (s n : FirstFit) → Lines b l g r ts s → Puts s t InGap n → Lines b l (g ++ t ∷ []) r (ts ++ t ∷ []) n
 unfolding shape_ends
 line_ends b l g r ts t s n h (blank, full, after) =
@@ -50,6 +52,7 @@ line_ends b l g r ts t s n h (blank, full, after) =
     } in
     subst (Lines b l (g ++ t ∷ []) r (ts ++ t ∷ [])) (sym after) next
 
+-- a token more begins the next line
 pub line_begins : (b : List (LineAndGap Token)) (l g : List Token) (r : Room) (ts : List Token) (t : Token) (s n : FirstFit) → Lines b l g r ts s → Puts s t OnNext n
     → Lines (b ++ record { line = l; gap = g } ∷ []) (t ∷ []) [] r (ts ++ t ∷ []) n
 unfolding shape_begins
@@ -93,6 +96,7 @@ pub in_gap_alone : (own : List Token) (m n : FirstFit) → m.ended ≡ true → 
 in_gap_alone [] m n ended same = (refl, same)
 in_gap_alone (t ∷ own) m n ended (k, put, more) = absurd (false≢true (sym put.0 ∙ ended))
 
+-- a span in the gap is dropped after the open line
 pub span_ends : (own : List Token) (b : List (LineAndGap Token)) (l g : List Token) (r : Room) (ts : List Token) (s n : FirstFit) → Lines b l g r ts s → PutsAlike s own InGap n → Lines b l (g ++ own) r (ts ++ own) n
 span_ends [] b l g r ts s n h puts = absurd puts
 span_ends (t ∷ own) b l g r ts s n h (m, put, more) =

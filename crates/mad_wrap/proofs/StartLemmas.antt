@@ -42,10 +42,12 @@ pub record StartsSoFar (r : Room) (ts : List Token) (left : Option ℕ) (dropped
   pub begun : starts ≡ from_first (starts_from 0 shape.breaks ++ length (lines_and_gaps shape.breaks) ∷ [])
   pub dropped_is : (n : ℕ) → dropped ≡ Some n → n ≡ length (lines_and_gaps shape.breaks) + length shape.tokens
 
+-- before the first token the one start is 0
 pub starts_begin : (r : Room) → StartsSoFar r [] (left_of r.width r.first) None (0 ∷ [])
 unfolding shape_start
 starts_begin r = record { shape = shape_start r; begun = refl; dropped_is = λ n e. absurd (cc) }
 
+-- a token that fits on the line is no start
 pub starts_fit : (r : Room) (ts : List Token) (t : Token) (left new_left : Option ℕ) (dropped : Option ℕ) (ended : Bool) (starts : List ℕ) → StartsSoFar r ts left dropped starts → ended ≡ is_some dropped
     → ended ≡ false → fits_in left t.width ≡ true → taken left t.width ≡ new_left → StartsSoFar r (ts ++ t ∷ []) new_left dropped starts
 unfolding shape_fits
@@ -56,6 +58,7 @@ starts_fit r ts t left new_left None ended starts h is none fits took =
 length_so_far : (r : Room) (ts : List Token) (left : Option ℕ) (ended : Bool) (h : Shape r ts left ended) → length ts ≡ length (lines_and_gaps h.breaks) + (length h.tokens + length h.gap)
 length_so_far r ts left ended h = omega (arith, ap length h.covers, length-append (lines_and_gaps h.breaks) (h.tokens ++ h.gap), length-append h.tokens h.gap)
 
+-- a blank token that doesn't fit, or comes after a gap has begun, is no start yet
 pub starts_end : (r : Room) (ts : List Token) (t : Token) (left : Option ℕ) (dropped new_dropped : Option ℕ) (ended : Bool) (starts : List ℕ) (i : ℕ) → StartsSoFar r ts left dropped starts → ended ≡ is_some dropped → i ≡ length ts
     → t.blank ≡ true → (ended ≡ true) ⊎ (fits_in left t.width ≡ false) → new_dropped ≡ option_or dropped (Some i) → StartsSoFar r (ts ++ t ∷ []) left new_dropped starts
 unfolding shape_ends
@@ -92,6 +95,7 @@ next_start r ts left ended s starts new (suc n) begun place some none =
     let there : 0 < length before = omega (arith, length-append (starts_from 0 s.breaks) (length (lines_and_gaps s.breaks) ∷ [])) in
     some (omega arith) ∙ ap (λ l. l ++ suc n ∷ []) begun ∙ sym (from_first-push before (suc n) (omega arith) there)
 
+-- a token that begins a line is a start, unless it is the first token
 pub starts_next : (r : Room) (ts : List Token) (t : Token) (left new_left : Option ℕ) (dropped : Option ℕ) (ended : Bool) (starts new_starts : List ℕ) (i : ℕ) → StartsSoFar r ts left dropped starts → ended ≡ is_some dropped → i ≡ length ts
     → t.blank ≡ false → (ended ≡ true) ⊎ (fits_in left t.width ≡ false) → (0 < i → new_starts ≡ starts ++ i ∷ []) × (i ≡ 0 → new_starts ≡ starts) → new_left ≡ left_of r.width (r.other + t.width) → StartsSoFar r (ts ++ t ∷ []) new_left None new_starts
 unfolding shape_begins

@@ -48,6 +48,7 @@ same_runs r pieces xs ys h g =
     let same : h.breaks ≡ g.breaks = same_breaks h.breaks g.breaks (one_first_fit r (map as_token pieces) (piece_break h.breaks) (piece_break g.breaks) h.first_fit g.first_fit) (h.covers ∙ sym g.covers) in
     sym h.runs_are ∙ ap (λ bs. map (λ (p : LineAndGap Token). map token_run p.line) (token_break bs)) same ∙ g.runs_are
 
+-- compounds have one wrap with whole words
 pub one_word_wrap : (r : Room) (ps : List Compound) (lines others : List (List Compound)) → IsWordWrap r ps lines → IsWordWrap r ps others → map runs_of lines ≡ map runs_of others
 one_word_wrap r ps lines others h g =
     let ts = h.tokenized.tokens in

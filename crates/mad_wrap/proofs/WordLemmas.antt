@@ -24,12 +24,14 @@ abbrev pub wide_pieces : ℕ → List Token → List Piece
 wide_pieces limit [] = []
 wide_pieces limit (t ∷ ts) = if t.blank then alone t ∷ pieces_after limit [] ts else alone t ∷ wide_pieces limit ts
 
+-- a word that is no wider than the limit is one piece
 pub word_fits : (limit : ℕ) (word : List Token) → total_width word ≤ limit → word_pieces limit word ≡ together word
 word_fits limit word fits = let on : nat_le (total_width word) limit ≡ true = grind (arith, nat_tests) in ap (λ b. if b then together word else map alone word) on
 
 word_wide : (limit : ℕ) (word : List Token) → limit < total_width word → word_pieces limit word ≡ map alone word
 word_wide limit word wide = let off : nat_le (total_width word) limit ≡ false = grind (arith, nat_tests) in ap (λ b. if b then together word else map alone word) off
 
+-- tokens with one more at their end, each alone, are these and then that one
 pub alone_push : (word : List Token) (t : Token) (ps : List Piece) → map alone (word ++ t ∷ []) ++ ps ≡ map alone word ++ (alone t ∷ ps)
 alone_push word t ps = ap (λ l. l ++ ps) (map-append alone word (t ∷ [])) ∙ append_assoc (map alone word) (alone t ∷ []) ps
 
@@ -41,9 +43,11 @@ after_blank limit word ts t e = ap (λ b. if b then word_pieces limit word ++ (a
 pub after_solid : (limit : ℕ) (word ts : List Token) (t : Token) → t.blank ≡ false → pieces_after limit word (t ∷ ts) ≡ pieces_after limit (word ++ t ∷ []) ts
 after_solid limit word ts t e = ap (λ b. if b then word_pieces limit word ++ (alone t ∷ pieces_after limit [] ts) else pieces_after limit (word ++ t ∷ []) ts) e
 
+-- a blank token ends a wider word
 pub wide_blank : (limit : ℕ) (ts : List Token) (t : Token) → t.blank ≡ true → wide_pieces limit (t ∷ ts) ≡ alone t ∷ pieces_after limit [] ts
 wide_blank limit ts t e = ap (λ b. if b then alone t ∷ pieces_after limit [] ts else alone t ∷ wide_pieces limit ts) e
 
+-- a token that isn't blank goes on with a wider word, alone
 pub wide_solid : (limit : ℕ) (ts : List Token) (t : Token) → t.blank ≡ false → wide_pieces limit (t ∷ ts) ≡ alone t ∷ wide_pieces limit ts
 wide_solid limit ts t e = ap (λ b. if b then alone t ∷ pieces_after limit [] ts else alone t ∷ wide_pieces limit ts) e
 
@@ -53,6 +57,7 @@ wide_by limit word ts t true wide e more =
     after_blank limit word ts t e ∙ ap (λ l. l ++ (alone t ∷ pieces_after limit [] ts)) (word_wide limit word wide) ∙ ap (λ l. map alone word ++ l) (sym (wide_blank limit ts t e))
 wide_by limit word ts t false wide e more = after_solid limit word ts t e ∙ more ∙ alone_push word t (wide_pieces limit ts) ∙ ap (λ l. map alone word ++ l) (sym (wide_solid limit ts t e))
 
+-- a word that is wider than the limit is its tokens, each alone, and the pieces of what is left of it
 pub after_wide : (limit : ℕ) (word ts : List Token) → limit < total_width word → pieces_after limit word ts ≡ map alone word ++ wide_pieces limit ts
 after_wide limit word [] wide = word_wide limit word wide ∙ sym (append-nil (map alone word))
 after_wide limit word (t ∷ ts) wide = wide_by limit word ts t t.blank wide refl (after_wide limit (word ++ t ∷ []) ts (omega (arith, wide, total_width-push word t)))
@@ -85,6 +90,7 @@ after_tokens : (limit : ℕ) (word ts : List Token) → pieces_tokens (pieces_af
 after_tokens limit word [] = word_tokens limit word ∙ sym (append-nil word)
 after_tokens limit word (t ∷ ts) = tokens_by limit word ts t t.blank refl (after_tokens limit [] ts) (after_tokens limit (word ++ t ∷ []) ts)
 
+-- the pieces of tokens have these tokens, in order
 pub all_tokens : (limit : ℕ) (ts : List Token) → pieces_tokens (pieces_of limit ts) ≡ ts
 all_tokens limit ts = after_tokens limit [] ts
 
@@ -119,6 +125,7 @@ after_lone limit word [] solid = word_lone word (nat_le (total_width word) limit
 after_lone limit word (t ∷ ts) solid =
     lone_by limit word ts t t.blank solid refl (after_lone limit [] ts tt) (λ e. after_lone limit (word ++ t ∷ []) ts (all_push (λ t. t.blank ≡ false) word t solid e))
 
+-- a blank piece of tokens is one token
 pub pieces_lone : (limit : ℕ) (ts : List Token) → AllByRecursion IsLone (pieces_of limit ts)
 pieces_lone limit ts = after_lone limit [] ts tt
 
@@ -151,31 +158,37 @@ after_room r word [] indent begun room = word_room r word (nat_le (total_width w
 after_room r word (t ∷ ts) indent begun room =
     room_by r word ts t t.blank indent begun room.0 refl (after_room r [] ts indent tt room.1) (after_room r (word ++ t ∷ []) ts indent (all_push (HasPlace r) word t begun room.0) room.1)
 
+-- with room for each token, there is room for each piece
 pub room_for_pieces : (r : Room) (ts : List Token) → TokensHaveRoom r ts → TokensHaveRoom r (map as_token (pieces_of (token_limit r) ts))
 room_for_pieces r ts room = record { indent = room.indent; each = after_room r [] ts room.indent tt room.each }
 
 -- ---- breaks of pieces, and of their tokens
 
+-- pieces take as many columns as their tokens
 pub pieces_width : (ps : List Piece) → total_width (map as_token ps) ≡ total_width (pieces_tokens ps)
 pieces_width [] = refl
 pieces_width (p ∷ ps) = omega (arith, pieces_width ps, total_width-append (piece_tokens p) (pieces_tokens ps))
 
+-- a break of pieces, as one of their tokens, has the tokens of all pieces
 pub token_break_covers : (bs : List (LineAndGap Piece)) → lines_and_gaps (token_break bs) ≡ pieces_tokens (lines_and_gaps bs)
 token_break_covers [] = refl
 token_break_covers (b ∷ bs) =
     ap (λ l. pieces_tokens b.line ++ (pieces_tokens b.gap ++ l)) (token_break_covers bs) ∙ ap (λ l. pieces_tokens b.line ++ l) (sym (flat_map-append piece_tokens b.gap (lines_and_gaps bs)))
     ∙ sym (flat_map-append piece_tokens b.line (b.gap ++ lines_and_gaps bs))
 
+-- a break of pieces, each as one token, has all pieces so
 pub piece_break_covers : (bs : List (LineAndGap Piece)) → lines_and_gaps (piece_break bs) ≡ map as_token (lines_and_gaps bs)
 piece_break_covers [] = refl
 piece_break_covers (b ∷ bs) =
     ap (λ l. map as_token b.line ++ (map as_token b.gap ++ l)) (piece_break_covers bs) ∙ ap (λ l. map as_token b.line ++ l) (sym (map-append as_token b.gap (lines_and_gaps bs)))
     ∙ sym (map-append as_token b.line (b.gap ++ lines_and_gaps bs))
 
+-- a break of pieces has as many lines as one of their tokens
 pub length-token_break : (bs : List (LineAndGap Piece)) → length (token_break bs) ≡ length bs
 length-token_break [] = refl
 length-token_break (b ∷ bs) = omega (arith, length-token_break bs)
 
+-- a break of pieces has as many lines with each as one token
 pub length-piece_break : (bs : List (LineAndGap Piece)) → length (piece_break bs) ≡ length bs
 length-piece_break [] = refl
 length-piece_break (b ∷ bs) = omega (arith, length-piece_break bs)
@@ -208,6 +221,7 @@ gap_forced r used (p ∷ ps) lone blank forced t others e =
     let same : p.first ≡ t = cc in
     omega (arith, passes, one, ap (λ (u : Token). u.width) same)
 
+-- gaps that are forced for pieces are forced for their tokens
 pub token_gaps : (i : ℕ) (r : Room) (bs : List (LineAndGap Piece)) → AllByRecursion IsLone (lines_and_gaps bs) → GapsForced i r (piece_break bs) → GapsForced i r (token_break bs)
 token_gaps i r [] lone gaps = tt
 token_gaps i r (b ∷ bs) lone gaps =
@@ -217,6 +231,7 @@ token_gaps i r (b ∷ bs) lone gaps =
       token_gaps r.other r bs (rest_pieces IsLone b bs lone) gaps.2,
     )
 
+-- lines that fit as pieces fit as their tokens
 pub token_fits : (i : ℕ) (r : Room) (bs : List (LineAndGap Piece)) → AllByRecursion IsLone (lines_and_gaps bs) → FitsFrom i r (piece_break bs) → FitsFrom i r (token_break bs)
 token_fits i r [] lone fits = tt
 token_fits i r (b ∷ bs) lone fits = (
@@ -225,6 +240,7 @@ token_fits i r (b ∷ bs) lone fits = (
   token_fits r.other r bs (rest_pieces IsLone b bs lone) fits.2,
 )
 
+-- lines that fit as tokens fit as the pieces of these
 pub piece_fits : (i : ℕ) (r : Room) (bs : List (LineAndGap Piece)) → FitsFrom i r (token_break bs) → FitsFrom i r (piece_break bs)
 piece_fits i r [] fits = tt
 piece_fits i r (b ∷ bs) fits = (omega (arith, fits.0, pieces_width b.line), blank_back b.gap fits.1, piece_fits r.other r bs fits.2)
@@ -233,6 +249,7 @@ some_of : (ps : List Piece) → 0 < length (map as_token ps) → 0 < length (pie
 some_of [] some = absurd (omega arith)
 some_of (p ∷ ps) some = omega arith
 
+-- where each line has a piece, each has a token
 pub token_some : (bs : List (LineAndGap Piece)) → SomeOnEach (piece_break bs) → SomeOnEach (token_break bs)
 token_some [] some = tt
 token_some (b ∷ bs) some = (some_of b.line some.0, token_some bs some.1)

@@ -24,9 +24,11 @@ use Rattle.mad_wrap.proofs.PlacingLemmas.{Shape, AddsToken, run_is_of, shape_sta
 
 -- ---- a line that takes tokens
 
+-- a line that stays takes no tokens
 pub takes_none : (l : WrappedLine) → l.columns < 2 ^ 64 → TakesTokens l [] l
 takes_none l fits = record { runs_are = sym (append-nil (runs_of l.compounds.items)); columns_are = omega (arith, fits) }
 
+-- a line that has taken tokens takes one more
 pub takes_more : (old line new : WrappedLine) (ts : List Token) (t : Token) → TakesTokens old ts line → AddsToken line t new → TakesTokens old (ts ++ t ∷ []) new
 takes_more old line new ts t h a = record {
   runs_are = ap (map run_of) a.text ∙ map-append run_of line.compounds.items (a.compound ∷ []) ∙ ap (λ l. l ++ run_of a.compound ∷ []) h.runs_are
@@ -35,6 +37,7 @@ takes_more old line new ts t h a = record {
   columns_are = omega (arith, a.columns, h.columns_are, total_width-push ts t);
 }
 
+-- a line with one token more takes this alone
 pub takes_one : (old new : WrappedLine) (t : Token) → AddsToken old t new → TakesTokens old (t ∷ []) new
 takes_one old new t a = record {
   runs_are = ap (map run_of) a.text ∙ map-append run_of old.compounds.items (a.compound ∷ []) ∙ ap (λ x. runs_of old.compounds.items ++ x ∷ []) (run_is_of t a.compound a.bytes a.flags);
@@ -45,6 +48,7 @@ takes_one old new t a = record {
 pub takes_next : (old line new : WrappedLine) (ts : List Token) (i : ℕ) (d : Token) → i < length ts → TakesTokens old (take i ts) line → AddsToken line (get_or ts i d) new → TakesTokens old (take (i + 1) ts) new
 takes_next old line new ts i d inside h a = subst (λ us. TakesTokens old us new) (sym (take_more ts i d inside)) (takes_more old line new (take i ts) (get_or ts i d) h a)
 
+-- each of the tokens is whole characters of its compound
 pub in_compound_at : (ts : List Token) (i : ℕ) (d : Token) → i < length ts → AreInCompounds ts → IsInCompound (get_or ts i d)
 in_compound_at [] i d inside h = absurd (omega arith)
 in_compound_at (t ∷ ts) zero d inside h = h.0
@@ -52,10 +56,12 @@ in_compound_at (t ∷ ts) (suc i) d inside h = in_compound_at ts i d (omega arit
 
 -- ---- pieces that are put one after the other
 
+-- pieces are put, and then others after them
 pub puts_more : (s m n : WordLines) (ps qs : List Piece) → PutsPieces s ps m → PutsPieces m qs n → PutsPieces s (ps ++ qs) n
 puts_more s m n [] qs h g = subst (λ (x : WordLines). PutsPieces x qs n) h g
 puts_more s m n (p ∷ ps) qs h g = (h.0, h.1, puts_more h.0 m n ps qs h.2 g)
 
+-- a piece that is put is put as a list of one
 pub puts_one : (s n : WordLines) (p : Piece) → PutsPiece s p n → PutsPieces s (p ∷ []) n
 puts_one s n p h = (n, h, refl)
 
@@ -73,6 +79,7 @@ together_is x ts width t is made = ap (λ n. record x { width = n }) (sym is) �
 abbrev pub HasLine : WordLines → Token → WordLines → Type 0
 HasLine s t m = (p : Piece) (n : WordLines) → as_token p ≡ t → n.lines.items ≡ m.lines.items → n.fit ≡ m.fit → TakesTokens m.line (piece_tokens p) n.line → PutsPiece s p n
 
+-- a piece that is put on the line has it as it is
 pub line_stays : (s m : WordLines) (t : Token) (fit : FirstFit) → Puts s.fit t OnLine fit → m ≡ record s { fit = fit } → HasLine s t m
 line_stays s m t fit put is p n token lines same takes = (
   OnLine,
@@ -83,6 +90,7 @@ line_stays s m t fit put is p n token lines same takes = (
   ),
 )
 
+-- a piece that is put on the next line has the one that has begun
 pub line_begins : (s b m : WordLines) (t : Token) (fit : FirstFit) → Puts s.fit t OnNext fit → BeginsLine (record s { fit = fit }) b → m ≡ b → HasLine s t m
 line_begins s b m t fit put begun is p n token lines same takes = (
   OnNext,
@@ -293,6 +301,7 @@ whole r ts qs lines new line left ended h is pushed =
       holds = subst (HoldBreak (token_break (h.breaks ++ b ∷ []))) (sym pushed) (subst (λ ps. HoldBreak ps (lines ++ line ∷ [])) (sym tokens) (holds_push (token_break h.breaks) lines q line h.holds h.holds_line));
     }
 
+-- after the last piece all are on lines, by first fit
 pub all_put : (r : Room) (ts : List Token) (start s : WordLines) (qs : List Piece) (new : List WrappedLine) → IsAtFirst r start → PutsPieces start qs s → qs ≡ pieces_of (token_limit r) ts → new ≡ s.lines.items ++ s.line ∷ []
     → AreWordLines r ts new
 all_put r ts start s qs new first puts is pushed = whole r ts qs s.lines.items new s.line s.fit.room_left s.fit.ended (all_more r [] qs start s (none_yet r start first) puts).placed is pushed

@@ -35,6 +35,7 @@ pub record WordsSoFar (r : Room) (ps : List Compound) (ts : List Token) (s : Wor
   pub none_wide : wide ≡ true → word ≡ []
   pub rest : (more : List Token) → AreTokensIn r ps (ts ++ more) → pieces_of (token_limit r) (ts ++ more) ≡ pieces ++ left_pieces (token_limit r) wide word more
 
+-- before the first token no word has begun
 pub words_begin : (r : Room) (ps : List Compound) (s : WordLines) (word : List Token) → IsAtFirst r s → word ≡ [] → WordsSoFar r ps [] s word 0 false
 words_begin r ps s word first none = subst (λ w. WordsSoFar r ps [] s w 0 false) (sym none) (record {
   start = s;
@@ -129,6 +130,7 @@ puts_by r ps ts t s m n word width wide false h e over begun put = record {
       ∙ regroup h.pieces (map alone word) (wide_pieces limit more) t;
 }
 
+-- a word that can't go on with a token is put, and then the token
 pub word_puts : (r : Room) (ps : List Compound) (ts : List Token) (t : Token) (s m n : WordLines) (word new_word : List Token) (width new_width : ℕ) (wide new_wide : Bool) → WordsSoFar r ps ts s word width wide
     → (t.blank ≡ false → wide ≡ false → StopsWord r word width t) → PutsPieces s (if t.blank then together word else map alone word) m → PutsPiece m (alone t) n → new_word ≡ [] → new_width ≡ 0 → new_wide ≡ not t.blank
     → WordsSoFar r ps (ts ++ t ∷ []) n new_word new_width new_wide
@@ -147,10 +149,12 @@ pub record IsPut (s m : WordLines) (ended : Bool) (word new_word : List Token) (
 zero_of : (n : ℕ) → true ≡ (n == 0) → n ≡ 0
 zero_of n e = grind (arith, nat_tests)
 
+-- a list whose length passes the test for 0 is empty
 pub none_of : (n : ℕ) (word : List Token) → true ≡ (n == 0) → n ≡ length word → word ≡ []
 none_of n [] e is = refl
 none_of n (t ∷ word) e is = absurd (omega (arith, is, zero_of n e))
 
+-- an empty word is put as nothing
 pub none_put : (s m : WordLines) (b : Bool) (word new_word : List Token) (width new_width : ℕ) → word ≡ [] → width ≡ total_width word → m ≡ s → new_word ≡ word → new_width ≡ width → IsPut s m b word new_word new_width
 none_put s m true [] new_word width new_width none is stays same_word same = record { puts = stays; none = same_word; zero = same ∙ is }
 none_put s m false [] new_word width new_width none is stays same_word same = record { puts = stays; none = same_word; zero = same ∙ is }
@@ -161,6 +165,7 @@ left_end : (limit : ℕ) (wide : Bool) (word : List Token) → total_width word 
 left_end limit false word fits none = word_fits limit word fits
 left_end limit true word fits none = ap together (sym (none refl))
 
+-- the last word is put, and all pieces are on lines
 pub words_end : (r : Room) (ps : List Compound) (ts : List Token) (s n : WordLines) (word : List Token) (width : ℕ) (wide : Bool) (new : List WrappedLine) → AreTokensIn r ps ts → WordsSoFar r ps ts s word width wide → PutsPieces s (together word) n → new ≡ n.lines.items ++ n.line ∷ []
     → AreWordLines r ts new
 words_end r ps ts s n word width wide new tokens h put pushed =

@@ -63,6 +63,7 @@ words_least r ps ts lines h =
 honest_lines : (r : Room) (ps : List Compound) (ts : List Token) (lines : List WrappedLine) → AreTokensIn r ps ts → (h : AreWordLines r ts lines) → AllByRecursion (IsHonest (token_limit r)) (lines_and_gaps (token_break h.breaks))
 honest_lines r ps ts lines tokens h = subst (AllByRecursion (IsHonest (token_limit r))) (sym (covers_tokens r ts h.breaks h.covers)) (all_honest (token_limit r) ps ts tokens)
 
+-- the columns of the lines of placed words are counted right
 pub words_counted : (r : Room) (ps : List Compound) (ts : List Token) (lines : List WrappedLine) → AreTokensIn r ps ts → AreWordLines r ts lines → AreCounted lines
 words_counted r ps ts lines tokens h = counted_are (token_limit r) (token_break h.breaks) lines h.holds (honest_lines r ps ts lines tokens h)
 

@@ -30,13 +30,16 @@ room_for_tokens r ps ts tokens room = record {
       (subst (AllByRecursion (λ x. most_indent r + char_columns x.char ≤ r.width)) (sym (text_of_all (token_limit r) ps ts tokens)) room.each);
 }
 
+-- there is a token where all are too wide for the first line, and it has room for its indent
 pub some_tokens : (r : Room) (ts : List Token) → r.width < r.first + total_width ts → most_indent r ≤ r.width → 0 < length ts
 some_tokens r [] wide l = absurd (omega arith)
 some_tokens r (t ∷ ts) wide l = omega arith
 
+-- tokens take as many columns as their compounds
 pub total_is : (r : Room) (ps : List Compound) (ts : List Token) → AreTokensIn r ps ts → total_width ts ≡ width_of (flagged_text ps)
 total_is r ps ts tokens = width_is (token_limit r) ts (all_honest (token_limit r) ps ts tokens) ∙ ap width_of (text_of_all (token_limit r) ps ts tokens)
 
+-- there are as many lists of compounds as lines
 pub lengths_of : (lines : List WrappedLine) → length (compounds_of lines) ≡ length lines
 lengths_of [] = refl
 lengths_of (l ∷ ls) = omega (arith, lengths_of ls)

@@ -126,6 +126,7 @@ span_text write max at p s span utf8 bare h =
 
 -- ---- steps of the loops
 
+-- before the first byte of a compound nothing is written
 pub up_to_start : (write : Token → List ℕ) (later : List ℕ) (max : ℕ) (p : Compound) (s : FirstFit) (old : List ℕ) → WritesUpTo write later max p 0 s old s old
 up_to_start write later max p s old = record { own = []; out = []; tokens = λ rest h. h; writes = (refl, refl); bytes = sym (append-nil old) }
 
@@ -152,6 +153,7 @@ pub token_more : (write : Token → List ℕ) (later : List ℕ) (max : ℕ) (p 
 token_more write later max p at s old m n mid new t put h is puts bytes =
     more_tokens write later max p at t.end_in_compound s old m n mid new (t ∷ []) (put_bytes later put (write t)) h (λ rest left. (is, left)) (put, n, [], puts, (refl, refl), sym (append-nil (put_bytes later put (write t)))) bytes
 
+-- before the first compound nothing is written
 pub before_start : (write : Token → List ℕ) (later : List ℕ) (max : ℕ) (ps : List Compound) (s : FirstFit) (old : List ℕ) → WritesBefore write later max ps ps s old s old
 before_start write later max ps s old = record { own = []; out = []; tokens = λ rest h. h; writes = (refl, refl); bytes = sym (append-nil old) }
 

@@ -29,7 +29,7 @@ fn end_len(text: &[u8]) -> usize
 }
 
 /// The first line, without its end, and what comes after it.
-pub(crate) fn cut_line(text: &[u8]) -> (&[u8], &[u8])
+pub fn cut_line(text: &[u8]) -> (&[u8], &[u8])
     requires { 0 < length text.now }
     ensures lines { text_lines text.entry.now ≡ result.0.now ∷ text_lines result.1.now }
     ensures shorter { length result.1.now < length text.entry.now }

@@ -1,14 +1,14 @@
 //! The open brackets, and what a closing one does.
 
-ghost use Rattle.std.specs.Prelude.{◌≡◌, ◌≤◌, ◌++◌, [], ◌∷◌, IfOk, OnOk, length, drop, take, map, slice_index, string_bytes};
+ghost use Rattle.std.specs.Prelude.{◌≡◌, ◌≤◌, ◌++◌, [], ◌∷◌, IfOk, OnOk, length, drop, take, map, slice_index};
 ghost use Rattle.std.specs.List.{All};
 ghost use Rattle.markdown_emphasis.specs.Pairs.{IsWithin};
 ghost use Rattle.markdown_emphasis.specs.Pieces.{moved};
 ghost use Rattle.markdown_brackets.specs.Brackets.{first_open, without_first, is_free, nothing_read, with_bracket, with_run, place_of, run_of, inside_pairs, killed, linked, target_at, closed, finished};
 ghost use Rattle.markdown_brackets.specs.Readings.{reading_of, IsTidy};
 
+use crate::labels::Labels;
 use crate::targets::{Target, target_of};
-use indexmap::IndexSet;
 use markdown_emphasis::{Pair, Run, matches};
 use std::alloc::{AllocError, Global};
 
@@ -223,12 +223,12 @@ impl Brackets {
     pub fn close(
         &mut self,
         alloc: Global,
-        labels: &IndexSet<String>,
+        labels: &Labels,
         text: &[u8],
         after: usize,
     ) -> Result<Option<Link>, AllocError>
         requires { IsTidy self.old }
-        ensures closed { IfOk result (λ link. (record { link = link; reading = reading_of self.new }) ≡ closed (map string_bytes labels.now.keys) text.now after (reading_of self.old)) }
+        ensures closed { IfOk result (λ link. (record { link = link; reading = reading_of self.new }) ≡ closed labels.now text.now after (reading_of self.old)) }
         ensures tidy { OnOk result (IsTidy self.new) }
     {
         let Some(found) = self.pop() else {
@@ -265,12 +265,12 @@ impl Brackets {
 // What makes a link of brackets, that end at these places; nothing where they are the wrong way round.
 fn target_at(
     alloc: Global,
-    labels: &IndexSet<String>,
+    labels: &Labels,
     text: &[u8],
     at: usize,
     after: usize,
 ) -> Result<Option<Target>, AllocError>
-    ensures { IfOk result (λ target. target ≡ target_at (map string_bytes labels.now.keys) text.now at after) }
+    ensures { IfOk result (λ target. target ≡ target_at labels.now text.now at after) }
 {
     if after < at {
         return Ok(None);

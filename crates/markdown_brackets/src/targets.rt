@@ -1,11 +1,10 @@
 //! What follows a closing bracket.
 
-ghost use Rattle.std.specs.Prelude.{◌≡◌, ◌+◌, ◌≤◌, IfOk, IfSome, length, map, string_bytes};
+ghost use Rattle.std.specs.Prelude.{◌≡◌, ◌+◌, ◌≤◌, IfOk, IfSome, length};
 ghost use Rattle.std.specs.Option.{option_copied};
 ghost use Rattle.markdown_brackets.specs.Targets.{closed_paren, target_end, after_target, after_inline, inline_len, label_len, full_label_len, shortcut_len, collapsed_len, defined, reference, target_of};
 
-use crate::labels::label_index;
-use indexmap::IndexSet;
+use crate::labels::{Labels, label_index};
 use markdown_marks::bytes::{first, tail};
 use markdown_marks::definitions::{after_destination, after_label, after_space, title_after};
 use std::alloc::{AllocError, Global};
@@ -133,11 +132,11 @@ fn collapsed_len(rest: &[u8]) -> usize
 // What a label refers to.
 fn defined(
     alloc: Global,
-    labels: &IndexSet<String>,
+    labels: &Labels,
     label: &[u8],
     len: usize,
 ) -> Result<Option<Target>, AllocError>
-    ensures { IfOk result (λ target. target ≡ defined (map string_bytes labels.now.keys) label.now len) }
+    ensures { IfOk result (λ target. target ≡ defined labels.now label.now len) }
 {
     match label_index(alloc, labels, label)? {
         None => Ok(None),
@@ -151,12 +150,12 @@ fn defined(
 // What brackets refer to, by what they hold and what follows, or by a label that follows.
 fn reference(
     alloc: Global,
-    labels: &IndexSet<String>,
+    labels: &Labels,
     inside: &[u8],
     rest: &[u8],
 ) -> Result<Option<Target>, AllocError>
     requires { length rest.now ≤ length inside.now }
-    ensures { IfOk result (λ target. target ≡ reference (map string_bytes labels.now.keys) inside.now rest.now) }
+    ensures { IfOk result (λ target. target ≡ reference labels.now inside.now rest.now) }
 {
     if let Some(len) = full_label_len(rest) {
         let target = defined(alloc, labels, &rest[1..1 + len], len + 2)?;
@@ -176,12 +175,12 @@ fn reference(
 /// Out of memory is the only error.
 pub fn target_of(
     alloc: Global,
-    labels: &IndexSet<String>,
+    labels: &Labels,
     inside: &[u8],
     rest: &[u8],
 ) -> Result<Option<Target>, AllocError>
     requires { length rest.now ≤ length inside.now }
-    ensures { IfOk result (λ target. target ≡ target_of (map string_bytes labels.now.keys) inside.now rest.now) }
+    ensures { IfOk result (λ target. target ≡ target_of labels.now inside.now rest.now) }
 {
     if let Some(len) = inline_len(rest) {
         return Ok(Some(Target {

@@ -1,6 +1,6 @@
 //! The inlines of a leaf's text.
 
-ghost use Rattle.std.specs.Prelude.{◌≡◌, ◌<◌, ◌^◌, ◌++◌, List, true, IfOk, OnOk, length, map, string_bytes};
+ghost use Rattle.std.specs.Prelude.{◌≡◌, ◌<◌, ◌^◌, ◌++◌, List, true, IfOk, OnOk, length};
 ghost use Rattle.markdown_pieces.specs.Places.{AreCut};
 ghost use Rattle.markdown_inlines.specs.declared.inlines.LinkTarget.{LinkTarget};
 ghost use Rattle.markdown_inlines.specs.Looks.{look_of};
@@ -12,8 +12,8 @@ use crate::links::{Over, overs_of};
 use crate::looks::{Look, look_of};
 use crate::parts::push_piece;
 use crate::styled::Styled;
-use indexmap::IndexSet;
 use markdown_addresses::addresses::Scheme;
+use markdown_brackets::labels::Labels;
 use markdown_brackets::targets::Target;
 use markdown_emphasis::{Flags, flag_pieces};
 use markdown_pieces::cut::cut_text;
@@ -135,15 +135,11 @@ fn shown_pieces(
 /// # Errors
 ///
 /// Out of memory is the only error.
-pub fn leaf_text(
-    alloc: Global,
-    labels: &IndexSet<String>,
-    text: &str,
-) -> Result<LeafText, AllocError>
-    ensures shown { IfOk result (λ leaf. spelled_of leaf.styled ≡ leaf_text (map string_bytes labels.now.keys) text.now) }
+pub fn leaf_text(alloc: Global, labels: &Labels, text: &str) -> Result<LeafText, AllocError>
+    ensures shown { IfOk result (λ leaf. spelled_of leaf.styled ≡ leaf_text labels.now text.now) }
     ensures printable { IfOk result (λ leaf. are_shown (spelled_of leaf.styled) ≡ true) }
     ensures styled { IfOk result (λ leaf. IsStyled leaf.styled) }
-    ensures links { IfOk result (λ leaf. leaf.links.items ≡ leaf_links (map string_bytes labels.now.keys) text.now) }
+    ensures links { IfOk result (λ leaf. leaf.links.items ≡ leaf_links labels.now text.now) }
 {
     let cut = cut_text(alloc, labels, text)?;
     let flags = flag_pieces(alloc, &cut.pairs, cut.pieces.len())?;

@@ -5,7 +5,7 @@ use Rattle.markdown_lines.specs.declared.links.Definitions.{Definitions}
 use Rattle.markdown_lines.specs.declared.links.Link.{Link}
 
 abbrev pub defined_of : Definitions → Defined
-defined_of definitions = record { labels = map string_bytes definitions.labels.keys; addresses = map string_bytes definitions.addresses.items }
+defined_of definitions = record { labels = definitions.labels; addresses = map string_bytes definitions.addresses.items }
 
 abbrev pub link_of : Link → LinkSaid
 link_of link = record { line = link.line; address = string_bytes link.address }

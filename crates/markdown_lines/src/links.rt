@@ -5,7 +5,7 @@ ghost use Rattle.markdown_lines.specs.Links.{address_by, address_of, definition_
 ghost use Rattle.markdown_lines.specs.LinksOf.{link_of};
 
 use crate::leaf::shown_text;
-use indexmap::IndexSet;
+use markdown_brackets::labels::Labels;
 use markdown_destinations::destinations::{link_leads, text_of};
 use markdown_destinations::parts::defined_destination;
 use markdown_inlines::inlines::LinkTarget;
@@ -15,7 +15,7 @@ use std::alloc::{AllocError, Global};
 #[derive(Drop)]
 pub struct Definitions {
     /// Their labels, as they are compared.
-    pub labels: IndexSet<String>,
+    pub labels: Labels,
     /// Where each of these leads.
     pub addresses: Vec<String>,
 }

@@ -1,10 +1,9 @@
 -- Raw html ends with a sign >.
-use Rattle.std.proofs.Common.{◌≡◌, ℕ, true, false, eqb, ◌||◌, ◌&&◌, List, [], ◌∷◌, length, take, drop, refl, sym, ◌∙◌, Option, Some, None, codes, nat_eq}
+use Rattle.std.proofs.Common.{◌≡◌, ℕ, true, false, eqb, ◌&&◌, List, [], ◌∷◌, length, take, drop, refl, sym, ◌∙◌, Option, Some, None, codes, nat_eq}
 use Rattle.std.specs.Char.{is_ascii_alphabetic}
 use Rattle.std.specs.Cmp.Lexicographic.{pointwise}
 use Rattle.std.proofs.lemmas.Bool.{eqb-true, and_parts}
 use Rattle.markdown_marks.specs.Bytes.{first}
-use Rattle.markdown_marks.specs.Definitions.{after}
 use Rattle.markdown_marks.specs.Html.{next_place, is_after}
 use Rattle.markdown_marks.specs.declared.tags.Place.{Place}
 use Rattle.markdown_marks.specs.declared.tags.Place.TheVariants.{Name, CloseName}
@@ -12,8 +11,8 @@ use Rattle.markdown_spans.specs.Code.{spaced}
 use Rattle.markdown_html.specs.Starts.{begins}
 use Rattle.markdown_spans.specs.Needles.{after_first}
 use Rattle.markdown_spans.specs.Tags.{is_nowhere, closes, after_tag, tag_end}
-use Rattle.markdown_spans.specs.Html.{after_angle, after_comment, other_end, html_end}
-use Rattle.markdown_pieces.proofs.TailLemmas.{by_cond, EndsBy, ends_cons, ends_here, ends_then, ends_tail, tail_from, Gives, gives_none, gives_some, else_gives, after_gives}
+use Rattle.markdown_spans.specs.Html.{after_comment, other_end, html_end}
+use Rattle.markdown_pieces.proofs.TailLemmas.{by_cond, EndsBy, ends_cons, ends_here, ends_then, tail_from, Gives, gives_none, gives_some, else_gives}
 
 -- ---- tags
 
@@ -59,15 +58,12 @@ found_ends b needle (c ∷ cs) end =
     by_cond (Gives (EndsBy b (c ∷ cs))) (begins (c ∷ cs) needle) (Some (drop (length needle) (c ∷ cs))) (after_first needle cs)
     (λ h. gives_some (EndsBy b (c ∷ cs)) (drop (length needle) (c ∷ cs)) (front_ends b needle (c ∷ cs) end h)) (λ h a e. ends_cons b c cs a (found_ends b needle cs end a e))
 
-angle_ends : (text : List ℕ) → Gives (EndsBy 62 text) (after_angle text)
-angle_ends [] = gives_none (EndsBy 62 [])
-angle_ends (b ∷ bs) =
-    by_cond (Gives (EndsBy 62 (b ∷ bs))) (eqb b 62) (Some bs) None (λ h. gives_some (EndsBy 62 (b ∷ bs)) bs (ends_here 62 b bs (eqb-true b 62 h))) (λ h. gives_none (EndsBy 62 (b ∷ bs)))
-
 comment_ends : (text : List ℕ) → Gives (EndsBy 62 text) (after_comment text)
 comment_ends text =
-    by_cond (Gives (EndsBy 62 text)) (begins text (codes ">") || begins text (codes "->")) None (after (after_first (codes "--") text) after_angle) (λ h. gives_none (EndsBy 62 text))
-    (λ h. after_gives 62 text (after_first (codes "--") text) after_angle (λ a e. ends_tail 45 text a (found_ends 45 (codes "--") text refl a e)) angle_ends)
+    let P : Option (List ℕ) → Type 0 = Gives (EndsBy 62 text) in
+    by_cond P (begins text (codes ">")) (Some (drop 1 text)) _ (λ h. gives_some (EndsBy 62 text) (drop 1 text) (front_ends 62 (codes ">") text refl h))
+    (λ h. by_cond P (begins text (codes "->")) (Some (drop 2 text)) (after_first (codes "-->") text)
+    (λ k. gives_some (EndsBy 62 text) (drop 2 text) (front_ends 62 (codes "->") text refl k)) (λ k. found_ends 62 (codes "-->") text refl))
 
 -- behind so many bytes
 behind : (k : ℕ) (bytes : List ℕ) (o : Option (List ℕ)) → Gives (EndsBy 62 (drop k bytes)) o → Gives (EndsBy 62 bytes) o

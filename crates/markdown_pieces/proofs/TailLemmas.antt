@@ -65,9 +65,6 @@ ends_then b x y z t u = record {
   is = let same : suc (t.n + u.n) ≡ t.n + suc u.n = omega arith in ap (λ k. drop k x) same ∙ sym (drop-drop (suc u.n) t.n x) ∙ ap (drop (suc u.n)) t.is ∙ u.is;
 }
 
-pub ends_tail : (b : ℕ) (x y : List ℕ) → EndsBy b x y → IsTail x y
-ends_tail b x y t = record { n = suc t.n; few = omega (arith, t.few); is = t.is }
-
 -- ---- what an answer says
 
 some_same : (a b : List ℕ) → Some a ≡ Some b → a ≡ b
@@ -204,7 +201,7 @@ pub else_gives : (P : List ℕ → Type 0) (o q : Option (List ℕ)) → Gives P
 else_gives P None q f g = g
 else_gives P (Some rest) q f g = f
 
-pub after_gives : (b : ℕ) (text : List ℕ) (o : Option (List ℕ)) (next : List ℕ → Option (List ℕ)) → Gives (IsTail text) o → ((rest : List ℕ) → Gives (EndsBy b rest) (next rest)) → Gives (EndsBy b text) (after o next)
+after_gives : (b : ℕ) (text : List ℕ) (o : Option (List ℕ)) (next : List ℕ → Option (List ℕ)) → Gives (IsTail text) o → ((rest : List ℕ) → Gives (EndsBy b rest) (next rest)) → Gives (EndsBy b text) (after o next)
 after_gives b text None next f g = gives_none (EndsBy b text)
 after_gives b text (Some rest) next f g = λ a e. ends_then b text rest a (f rest refl) (g rest a e)
 

@@ -1,6 +1,6 @@
 //! A text as its pieces.
 
-ghost use Rattle.std.specs.Prelude.{◌≡◌, ◌+◌, ◌<◌, ◌≤◌, IfOk, OnOk, length, drop, map, min, string_bytes};
+ghost use Rattle.std.specs.Prelude.{◌≡◌, ◌+◌, ◌<◌, ◌≤◌, IfOk, OnOk, length, drop, min};
 ghost use Rattle.std.specs.List.{All};
 ghost use Rattle.markdown_emphasis.specs.Pairs.{IsWithin};
 ghost use Rattle.markdown_pieces.specs.Known.{IsKnown};
@@ -11,8 +11,8 @@ ghost use Rattle.markdown_pieces.specs.Cut.{capped, link_len, other_step, closin
 ghost use Rattle.markdown_pieces.specs.Places.{AreCut};
 
 use crate::pieces::{Kind, Known, Piece, known_of, piece_at, piece_of};
-use indexmap::IndexSet;
 use markdown_brackets::brackets::{Brackets, Link};
+use markdown_brackets::labels::Labels;
 use markdown_emphasis::Pair;
 use markdown_marks::bytes::{first, tail};
 use std::alloc::{AllocError, Global};
@@ -69,14 +69,14 @@ fn link_len(link: Option<Link>) -> usize
 
 fn read_closing(
     alloc: Global,
-    labels: &IndexSet<String>,
+    labels: &Labels,
     text: &str,
     at: usize,
     brackets: &mut Brackets,
 ) -> Result<Piece, AllocError>
     requires within { at < length text.now }
     requires tidy { IsTidy brackets.old }
-    ensures step { IfOk result (λ piece. (record { piece = piece; reading = reading_of brackets.new }) ≡ closing_step (closed (map string_bytes labels.now.keys) text.now (at + 1) (reading_of brackets.old))) }
+    ensures step { IfOk result (λ piece. (record { piece = piece; reading = reading_of brackets.new }) ≡ closing_step (closed labels.now text.now (at + 1) (reading_of brackets.old))) }
     ensures tidy { OnOk result (IsTidy brackets.new) }
 {
     let link = brackets.close(alloc, labels, text.as_bytes(), at + 1)?;
@@ -101,7 +101,7 @@ fn read_opening(
 // The piece that begins at a place.
 fn read_piece(
     alloc: Global,
-    labels: &IndexSet<String>,
+    labels: &Labels,
     known: &Known,
     text: &str,
     at: usize,
@@ -111,7 +111,7 @@ fn read_piece(
     requires known { IsKnown known.now text.now }
     requires within { at < length text.now }
     requires tidy { IsTidy brackets.old }
-    ensures step { IfOk result (λ piece. (record { piece = piece; reading = reading_of brackets.new }) ≡ read_by (map string_bytes labels.now.keys) text.now at index (reading_of brackets.old) (drop at text.now)) }
+    ensures step { IfOk result (λ piece. (record { piece = piece; reading = reading_of brackets.new }) ≡ read_by labels.now text.now at index (reading_of brackets.old) (drop at text.now)) }
     ensures tidy { OnOk result (IsTidy brackets.new) }
 {
     if text.as_bytes()[at] == b'[' {
@@ -134,7 +134,7 @@ fn read_piece(
 #[tactic(auto, unfolding(crate::specs::Cut::step))]
 fn step(
     alloc: Global,
-    labels: &IndexSet<String>,
+    labels: &Labels,
     known: &Known,
     text: &str,
     at: usize,
@@ -144,7 +144,7 @@ fn step(
     requires known { IsKnown known.now text.now }
     requires within { at < length text.now }
     requires tidy { IsTidy brackets.old }
-    ensures step { IfOk result (λ piece. (record { piece = piece; reading = reading_of brackets.new }) ≡ step (map string_bytes labels.now.keys) text.now at index (reading_of brackets.old) (drop at text.now)) }
+    ensures step { IfOk result (λ piece. (record { piece = piece; reading = reading_of brackets.new }) ≡ step labels.now text.now at index (reading_of brackets.old) (drop at text.now)) }
     ensures within { IfOk result (λ piece. at + piece.more < length text.now) }
     ensures tidy { OnOk result (IsTidy brackets.new) }
 {
@@ -157,8 +157,8 @@ fn step(
 /// # Errors
 ///
 /// Out of memory is the only error.
-pub fn cut_text(alloc: Global, labels: &IndexSet<String>, text: &str) -> Result<Inlines, AllocError>
-    ensures cut { IfOk result (λ inlines. cut_of inlines ≡ cut_text (map string_bytes labels.now.keys) text.now) }
+pub fn cut_text(alloc: Global, labels: &Labels, text: &str) -> Result<Inlines, AllocError>
+    ensures cut { IfOk result (λ inlines. cut_of inlines ≡ cut_text labels.now text.now) }
     ensures placed { IfOk result (λ inlines. AreCut text.now 0 inlines.pieces.items) }
     ensures pairs { IfOk result (λ inlines. All (IsWithin (length inlines.pieces.items)) inlines.pairs.items) }
 {

@@ -23,7 +23,7 @@ use Rattle.markdown_lines.specs.Links.{Defined, LinkSaid, definition_address, ad
 use Rattle.markdown_lines.specs.Tables.{cell_text, after_cell, cells_addresses, row_addresses, rows_links, table_links}
 use Rattle.markdown_reader.specs.Definitions.{label_of, with_definition, defined_or, defined_in, leaf_defined, part_defined, parts_defined, nothing_defined, definitions_of}
 use Rattle.markdown_reader.specs.Mapping.{Mapping, nothing_shown, place_in, spaced, is_spaced, marked, passed, begun, item_ended, ended, linked, rows_in, rows_shown, unmarked, words_shown, leaf_text, big_begun, code_shown, heading_shown, table_added, leaf_shown, shown_part, shown_parts}
-use Rattle.markdown_reader.specs.Markdown.{markdown_links}
+use Rattle.markdown_reader.specs.Markdown.{unmarked_links}
 use Rattle.markdown_lines.specs.Printed.{is_obeyed}
 use Rattle.markdown_reader.specs.Printed.{IsPrintedLink, ArePrintedLinks}
 use Rattle.markdown_reader.proofs.PrintedLemmas.{text_printed}
@@ -213,10 +213,10 @@ unfolding shown_parts
 parts_have defined [] m k h = h
 parts_have defined (part ∷ parts) m k h = parts_have defined parts (shown_part defined part m) k (part_has defined part m k h)
 
-source_has : (source : List ℕ) → ArePrintedLinks (markdown_links source)
-unfolding markdown_links
+source_has : (source : List ℕ) → ArePrintedLinks (unmarked_links source)
+unfolding unmarked_links
 source_has source = parts_have (definitions_of (parts_of source)) (parts_of source) nothing_shown (definitions_printed (parts_of source)) no_links
 
 -- where the links of a text lead has nothing that a terminal obeys
-pub links_printed : (source : List ℕ) (links : List LinkSaid) → links ≡ markdown_links source → ArePrintedLinks links
+pub links_printed : (source : List ℕ) (links : List LinkSaid) → links ≡ unmarked_links source → ArePrintedLinks links
 links_printed source links e = subst ArePrintedLinks (sym e) (source_has source)

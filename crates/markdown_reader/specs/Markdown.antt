@@ -4,6 +4,7 @@ use Rattle.markdown_leaves.specs.Parts.{PartContent}
 use Rattle.markdown_leaves.specs.Told.{parts_of}
 use Rattle.mad_md.specs.Lines.{LineContent}
 use Rattle.markdown_lines.specs.Links.{LinkSaid}
+use Rattle.markdown_lines.specs.Texts.{behind_mark}
 pub use Rattle.markdown_lines.specs.Steady.{steady_lines, AreSteadyLines}
 use Rattle.markdown_reader.specs.Definitions.{definitions_of}
 use Rattle.markdown_reader.specs.Mapping.{Mapping, nothing_shown, shown_parts}
@@ -11,14 +12,22 @@ use Rattle.markdown_reader.specs.Mapping.{Mapping, nothing_shown, shown_parts}
 abbrev pub parts_shown : List PartContent → Mapping
 parts_shown parts = shown_parts (definitions_of parts) parts nothing_shown
 
--- what a text is shown as, each character printable
+-- what a text behind its byte order mark is shown as, each character printable
 unfoldable pub printable_lines : List ℕ → List LineContent
 printable_lines source = (parts_shown (parts_of source)).lines
 
--- what a text is shown as: these lines, each of whose runs is steady
-abbrev pub markdown_lines : List ℕ → List LineContent
-markdown_lines source = steady_lines (printable_lines source)
+-- these lines, each of whose runs is steady
+abbrev pub unmarked_lines : List ℕ → List LineContent
+unmarked_lines source = steady_lines (printable_lines source)
 
--- the links of a text, leaf by leaf, and in each in the order in which they end: the number of a line, and where the link leads
-unfoldable pub markdown_links : List ℕ → List LinkSaid
-markdown_links source = (parts_shown (parts_of source)).links
+-- what a text is shown as
+abbrev pub markdown_lines : List ℕ → List LineContent
+markdown_lines source = unmarked_lines (behind_mark source)
+
+-- the links of a text behind its mark, leaf by leaf, and in each in the order in which they end: the number of a line, and where the link leads
+unfoldable pub unmarked_links : List ℕ → List LinkSaid
+unmarked_links source = (parts_shown (parts_of source)).links
+
+-- the links of a text
+abbrev pub markdown_links : List ℕ → List LinkSaid
+markdown_links source = unmarked_links (behind_mark source)

@@ -7,8 +7,7 @@ ghost use Rattle.markdown_leaves.specs.Parts.{part_of};
 ghost use Rattle.markdown_lines.specs.LinksOf.{defined_of};
 ghost use Rattle.markdown_reader.specs.Definitions.{label_of, with_definition, defined_in, leaf_defined, part_defined, definitions_of};
 
-use indexmap::IndexSet;
-use markdown_brackets::labels::normal;
+use markdown_brackets::labels::{Labels, normal};
 use markdown_leaves::defining::joined;
 use markdown_leaves::{Kind, Part};
 use markdown_lines::cells::without_first;
@@ -133,7 +132,7 @@ pub fn definitions_of(alloc: Global, parts: &[Part<'_>]) -> Result<Definitions, 
     ensures { IfOk result (λ definitions. defined_of definitions ≡ definitions_of (map part_of parts.now)) }
 {
     let mut definitions = Definitions {
-        labels: IndexSet::new(alloc),
+        labels: Labels::new(alloc),
         addresses: Vec::new(alloc),
     };
     let mut rest = parts;

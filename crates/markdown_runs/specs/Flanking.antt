@@ -1,9 +1,8 @@
 -- Whether a run opens and closes, by what stands beside it, as CommonMark has it.
 use Rattle.std.specs.Prelude.{ℕ, ◌==◌, ◌&&◌, ◌||◌, not, Bool, true, false, if◌then◌else◌, Option, Some, None}
-use Rattle.std.specs.Char.{is_ascii_punctuation}
 use Rattle.ucd_category.specs.GeneralCategory.{general_category, general_category_number}
 use Rattle.ucd_category.specs.GeneralCategoryGroup.{in_group}
-use Rattle.ucd_category.specs.declared.GeneralCategoryGroup.TheVariants.{Punctuation as PunctuationGroup}
+use Rattle.ucd_category.specs.declared.GeneralCategoryGroup.TheVariants.{Punctuation as PunctuationGroup, Symbol}
 use Rattle.markdown_emphasis.specs.declared.runs.Sign.{Sign}
 use Rattle.markdown_emphasis.specs.declared.runs.Sign.TheVariants.{Underscore}
 use Rattle.markdown_emphasis.specs.declared.runs.Run.{Run}
@@ -14,9 +13,9 @@ use Rattle.markdown_runs.specs.declared.flanking.Neighbor.TheVariants.{Blank, Pu
 abbrev pub is_blank : ℕ → Bool
 is_blank c = c == 9 || c == 10 || c == 12 || c == 13 || (general_category_number (general_category c) == 22)
 
--- punctuation: of ASCII, or of a category P
+-- punctuation, and symbols, which count as such: the categories P and S of Unicode
 abbrev pub is_punctuation : ℕ → Bool
-is_punctuation c = is_ascii_punctuation c || in_group PunctuationGroup (general_category c)
+is_punctuation c = in_group PunctuationGroup (general_category c) || in_group Symbol (general_category c)
 
 -- what a character is beside a run; the ends of the text count as whitespace
 abbrev pub beside_char : ℕ → Neighbor

@@ -11,6 +11,7 @@ use ucd_category::{GeneralCategory, GeneralCategoryGroup};
 pub enum Neighbor {
     /// Whitespace, or an end of the text.
     Blank,
+    /// Punctuation or a symbol.
     Punctuation,
     Other,
 }
@@ -26,12 +27,13 @@ fn is_blank(c: char) -> bool
         )
 }
 
-// Whether a character is punctuation: of ASCII or of Unicode.
+// Whether a character is punctuation, or a symbol.
 fn is_punctuation(c: char) -> bool
     ensures { result ≡ is_punctuation c }
 {
-    c.is_ascii_punctuation()
-        || GeneralCategoryGroup::Punctuation.contains(GeneralCategory::for_char(c))
+    let category = GeneralCategory::for_char(c);
+    GeneralCategoryGroup::Punctuation.contains(category)
+        || GeneralCategoryGroup::Symbol.contains(category)
 }
 
 // What a character is beside a run.

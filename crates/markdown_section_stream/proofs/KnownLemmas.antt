@@ -10,7 +10,7 @@ use Rattle.markdown_marks.specs.Remaining.{Remaining}
 use Rattle.markdown_lines.specs.Links.{Defined}
 use Rattle.markdown_sections.specs.Definitions.{leaf_defined, part_defined, parts_defined, nothing_defined, definitions_of}
 use Rattle.markdown_sections.specs.Mapping.{Mapping, passed, list_ended, leaf_shown, shown_part, shown_parts}
-use Rattle.markdown_sections.specs.Markdown.{printable_sections, markdown_links}
+use Rattle.markdown_sections.specs.Markdown.{printable_sections, unmarked_links}
 use Rattle.markdown_section_stream.specs.Known.{asks_nothing, AreKnown, defines_nothing}
 use Rattle.markdown_section_stream.specs.Laws.{KnownIsWhole, KnownHasLinks, UndefinedIsWhole, DefinedInFrontIsWhole, WithoutWordsIsSame}
 use Rattle.markdown_section_stream.specs.Streamed.{Streamed, nothing_streamed, part_streamed, parts_streamed, streamed_sections, streamed_links}
@@ -51,7 +51,7 @@ unfolding streamed_sections printable_sections
 known_is_whole text h = ap (λ (m : Mapping). m.sections) (known (definitions_of (parts_of text)) (parts_of text) nothing_streamed h)
 
 pub known_has_links : KnownHasLinks
-unfolding streamed_links markdown_links
+unfolding streamed_links unmarked_links
 known_has_links text h = ap (λ (m : Mapping). m.links) (known (definitions_of (parts_of text)) (parts_of text) nothing_streamed h)
 
 -- ---- definitions in front

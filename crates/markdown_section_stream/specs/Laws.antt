@@ -1,4 +1,4 @@
--- What one may rely on of a text that comes in pieces.
+-- What one may rely on of a text that comes in pieces, behind its byte order mark.
 use Rattle.std.specs.Prelude.{◌≡◌, ℕ, Bool, true, false, List, [], ◌∷◌, ◌++◌, map, length, replicate, Option}
 use Rattle.std.specs.List.{flat_map, list_all}
 use Rattle.mad_format.specs.Lists.{EachBecomes}
@@ -15,7 +15,7 @@ use Rattle.markdown_leaves.specs.Told.{happened, parts_of}
 use Rattle.markdown_sections.specs.Definitions.{definitions_of, nothing_defined}
 use Rattle.markdown_sections.specs.Mapping.{Mapping, shown_parts}
 use Rattle.markdown_sections.specs.Steady.{steady_sections}
-use Rattle.markdown_sections.specs.Markdown.{printable_sections, markdown_sections, markdown_links}
+use Rattle.markdown_sections.specs.Markdown.{printable_sections, unmarked_sections, unmarked_links}
 use Rattle.markdown_lines.specs.Links.{Defined}
 use Rattle.markdown_section_stream.specs.Known.{SaysTheSame, AreKnown, asks_nothing, defines_nothing}
 use Rattle.markdown_section_stream.specs.Readings.{Reading, nothing_read, lines_read, parts_read, parts_at_end, handed_on}
@@ -65,7 +65,7 @@ abbrev pub KnownIsWhole : Type 0
 KnownIsWhole = (text : List ℕ) → AreKnown (definitions_of (parts_of text)) nothing_defined (parts_of text) → streamed_sections text ≡ printable_sections text
 
 abbrev pub KnownHasLinks : Type 0
-KnownHasLinks = (text : List ℕ) → AreKnown (definitions_of (parts_of text)) nothing_defined (parts_of text) → streamed_links text ≡ markdown_links text
+KnownHasLinks = (text : List ℕ) → AreKnown (definitions_of (parts_of text)) nothing_defined (parts_of text) → streamed_links text ≡ unmarked_links text
 
 -- A part without words says the same by any definitions.
 abbrev pub WithoutWordsIsSame : Type 0
@@ -85,4 +85,4 @@ DefinedInFrontIsWhole = (text : List ℕ) (front others : List PartContent) → 
 abbrev pub RowsAreThoseOfTheWhole : Type 0
 RowsAreThoseOfTheWhole = (rules : LineRules) (ascii : Bool) (width : Option ℕ) (text : List ℕ) (groups : List (List (List ℕ))) (rows : List RowContent)
     → flat_map (λ lines. lines) groups ≡ text_lines text → AreKnown (definitions_of (parts_of text)) nothing_defined (parts_of text)
-    → EachBecomes (IsPageAt rules ascii width) (map steady_sections (pieces_shown nothing_come groups)) rows → IsPageAt rules ascii width (markdown_sections text) rows
+    → EachBecomes (IsPageAt rules ascii width) (map steady_sections (pieces_shown nothing_come groups)) rows → IsPageAt rules ascii width (unmarked_sections text) rows

@@ -19,7 +19,7 @@ use Rattle.markdown_leaves.specs.declared.parts.Kind.{Kind}
 use Rattle.markdown_leaves.specs.declared.parts.Kind.TheVariants.{Nothing, Paragraph as ParagraphKind, Heading, Indented, Fenced, Html, Table, Rule, Definitions}
 use Rattle.markdown_lines.specs.Tables.{cell_text, after_cell, cells_addresses, row_addresses, rows_links, table_lines}
 use Rattle.markdown_sections.specs.Definitions.{label_of, with_definition, defined_or, defined_in, leaf_defined, part_defined, parts_defined, nothing_defined, definitions_of}
-use Rattle.markdown_sections.specs.Markdown.{markdown_links}
+use Rattle.markdown_sections.specs.Markdown.{unmarked_links}
 use Rattle.mad_md.specs.Lines.{LineContent, horizontal_rule}
 use Rattle.mad_md.specs.declared.composite.CompositeStyle.TheVariants.{Paragraph}
 use Rattle.mad_sections.specs.declared.gutters.Gutter.{Gutter}
@@ -232,10 +232,10 @@ unfolding shown_parts
 parts_have defined [] m k h = h
 parts_have defined (part ∷ parts) m k h = parts_have defined parts (shown_part defined part m) k (part_has defined part m k h)
 
-source_has : (source : List ℕ) → ArePrintedLinks (markdown_links source)
-unfolding markdown_links
+source_has : (source : List ℕ) → ArePrintedLinks (unmarked_links source)
+unfolding unmarked_links
 source_has source = parts_have (definitions_of (parts_of source)) (parts_of source) nothing_shown (definitions_printed (parts_of source)) no_links
 
 -- where the links of a text lead has nothing that a terminal obeys
-pub links_printed : (source : List ℕ) (links : List LinkSaid) → links ≡ markdown_links source → ArePrintedLinks links
+pub links_printed : (source : List ℕ) (links : List LinkSaid) → links ≡ unmarked_links source → ArePrintedLinks links
 links_printed source links e = subst ArePrintedLinks (sym e) (source_has source)

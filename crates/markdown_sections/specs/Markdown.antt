@@ -2,6 +2,7 @@
 use Rattle.std.specs.Prelude.{ℕ, List}
 use Rattle.markdown_leaves.specs.Parts.{PartContent}
 use Rattle.markdown_leaves.specs.Told.{parts_of}
+use Rattle.markdown_lines.specs.Texts.{behind_mark}
 use Rattle.mad_sections.specs.Sections.{SectionContent}
 pub use Rattle.markdown_sections.specs.Steady.{steady_sections, AreSteadySections}
 use Rattle.markdown_sections.specs.Definitions.{definitions_of}
@@ -10,14 +11,22 @@ use Rattle.markdown_sections.specs.Mapping.{LinkSaid, Mapping, nothing_shown, sh
 abbrev pub parts_shown : List PartContent → Mapping
 parts_shown parts = shown_parts (definitions_of parts) parts nothing_shown
 
--- what a text is shown as, each character printable
+-- what a text behind its byte order mark is shown as, each character printable
 unfoldable pub printable_sections : List ℕ → List SectionContent
 printable_sections source = (parts_shown (parts_of source)).sections
 
--- what a text is shown as: these sections, each of whose runs is steady
-abbrev pub markdown_sections : List ℕ → List SectionContent
-markdown_sections source = steady_sections (printable_sections source)
+-- these sections, each of whose runs is steady
+abbrev pub unmarked_sections : List ℕ → List SectionContent
+unmarked_sections source = steady_sections (printable_sections source)
 
--- the links of a text, leaf by leaf, and in each in the order in which they end: the number of a section, and where the link leads
-unfoldable pub markdown_links : List ℕ → List LinkSaid
-markdown_links source = (parts_shown (parts_of source)).links
+-- what a text is shown as
+abbrev pub markdown_sections : List ℕ → List SectionContent
+markdown_sections source = unmarked_sections (behind_mark source)
+
+-- the links of a text behind its mark, leaf by leaf, and in each in the order in which they end: the number of a section, and where the link leads
+unfoldable pub unmarked_links : List ℕ → List LinkSaid
+unmarked_links source = (parts_shown (parts_of source)).links
+
+-- the links of a text
+abbrev pub markdown_links : List ℕ → List LinkSaid
+markdown_links source = unmarked_links (behind_mark source)

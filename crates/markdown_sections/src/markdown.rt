@@ -2,7 +2,8 @@
 
 ghost use Rattle.std.specs.Prelude.{◌≡◌, IfOk, OnOk, [], drop, map, option_map, slice_get};
 ghost use Rattle.mad_sections.specs.Sections.{page_content, section_content};
-ghost use Rattle.markdown_sections.specs.Markdown.{printable_sections, markdown_sections, markdown_links};
+ghost use Rattle.markdown_lines.specs.Texts.{behind_mark};
+ghost use Rattle.markdown_sections.specs.Markdown.{printable_sections, unmarked_sections, markdown_sections, unmarked_links, markdown_links};
 ghost use Rattle.markdown_sections.specs.MappingOf.{mapping_of};
 ghost use Rattle.markdown_sections.specs.MarkdownSays.{markdown_says, links_said};
 ghost use Rattle.markdown_sections.specs.Printed.{ArePrintedSections, ArePrintedLinks};
@@ -17,6 +18,7 @@ use crate::sections::{Link, MarkdownSection};
 use mad_sections::{Page, Section};
 use markdown_leaves::read_parts;
 use markdown_lines::lines::Lines;
+use markdown_lines::texts::behind_mark;
 use std::alloc::{AllocError, Global};
 
 /// The sections of a Markdown text, which own their text, and its links.
@@ -27,15 +29,14 @@ pub struct Markdown {
 }
 
 impl Markdown {
-    /// Reads a text. Terminals count the columns of what it shows as this project does. Each run is [`steady`]: soft hyphens, joiners, skin
-    /// tones and other characters that terminals show in their own ways go, or others stand for them.
+    /// Reads a text, without the byte order mark at its front. Terminals count the columns of what it shows as this project does. Each run is
+    /// [`steady`]: soft hyphens, joiners, skin tones and other characters that terminals show in their own ways go, or others stand for them.
     ///
     /// [`steady`]: mad_steady::steady
     ///
     /// # Errors
     ///
     /// Out of memory is the only error.
-    #[tactic(auto, using(crate::proofs::SteadyLemmas::steadied_are, crate::proofs::SteadyLemmas::steadied_steady, crate::proofs::SteadyLemmas::steadied_printed))]
     pub fn read(alloc: Global, source: &str) -> Result<Markdown, AllocError>
         ensures sections { IfOk result (λ read. markdown_says read ≡ markdown_sections source.now) }
         ensures links { IfOk result (λ read. links_said read ≡ markdown_links source.now) }
@@ -43,7 +44,24 @@ impl Markdown {
         ensures steady { IfOk result (λ read. AreSteadySections (markdown_says read)) }
         ensures printed_links { IfOk result (λ read. ArePrintedLinks (links_said read)) }
     {
-        let read = Markdown::read_printable(alloc, source)?;
+        let read = Markdown::read_unmarked(alloc, behind_mark(source))?;
+        Ok(read)
+    }
+
+    /// Reads a text in which a byte order mark is a character like others, as in a part of a text.
+    ///
+    /// # Errors
+    ///
+    /// Out of memory is the only error.
+    #[tactic(auto, using(crate::proofs::SteadyLemmas::steadied_are, crate::proofs::SteadyLemmas::steadied_steady, crate::proofs::SteadyLemmas::steadied_printed))]
+    pub fn read_unmarked(alloc: Global, source: &str) -> Result<Markdown, AllocError>
+        ensures sections { IfOk result (λ read. markdown_says read ≡ unmarked_sections source.now) }
+        ensures links { IfOk result (λ read. links_said read ≡ unmarked_links source.now) }
+        ensures printed { IfOk result (λ read. ArePrintedSections (markdown_says read)) }
+        ensures steady { IfOk result (λ read. AreSteadySections (markdown_says read)) }
+        ensures printed_links { IfOk result (λ read. ArePrintedLinks (links_said read)) }
+    {
+        let read = Markdown::read_printed(alloc, source)?;
         let sections = steadied(alloc, read.sections)?;
         Ok(Markdown {
             sections,
@@ -56,10 +74,21 @@ impl Markdown {
     /// # Errors
     ///
     /// Out of memory is the only error.
-    #[tactic(auto, using(crate::proofs::PrintedLemmas::markdown_printed, crate::proofs::LinksPrinted::links_printed))]
     pub fn read_printable(alloc: Global, source: &str) -> Result<Markdown, AllocError>
-        ensures sections { IfOk result (λ read. markdown_says read ≡ printable_sections source.now) }
+        ensures sections { IfOk result (λ read. markdown_says read ≡ printable_sections (behind_mark source.now)) }
         ensures links { IfOk result (λ read. links_said read ≡ markdown_links source.now) }
+        ensures printed { IfOk result (λ read. ArePrintedSections (markdown_says read)) }
+        ensures printed_links { IfOk result (λ read. ArePrintedLinks (links_said read)) }
+    {
+        let read = Markdown::read_printed(alloc, behind_mark(source))?;
+        Ok(read)
+    }
+
+    // What is read of a text behind its byte order mark has nothing that a terminal obeys.
+    #[tactic(auto, using(crate::proofs::PrintedLemmas::markdown_printed, crate::proofs::LinksPrinted::links_printed))]
+    fn read_printed(alloc: Global, source: &str) -> Result<Markdown, AllocError>
+        ensures sections { IfOk result (λ read. markdown_says read ≡ printable_sections source.now) }
+        ensures links { IfOk result (λ read. links_said read ≡ unmarked_links source.now) }
         ensures printed { IfOk result (λ read. ArePrintedSections (markdown_says read)) }
         ensures printed_links { IfOk result (λ read. ArePrintedLinks (links_said read)) }
     {
@@ -67,10 +96,10 @@ impl Markdown {
         Ok(markdown)
     }
 
-    #[tactic(auto, unfolding(crate::specs::Markdown::printable_sections, crate::specs::Markdown::markdown_links))]
+    #[tactic(auto, unfolding(crate::specs::Markdown::printable_sections, crate::specs::Markdown::unmarked_links))]
     fn read_sections(alloc: Global, source: &str) -> Result<Markdown, AllocError>
         ensures sections { IfOk result (λ read. markdown_says read ≡ printable_sections source.now) }
-        ensures links { IfOk result (λ read. links_said read ≡ markdown_links source.now) }
+        ensures links { IfOk result (λ read. links_said read ≡ unmarked_links source.now) }
     {
         let parts = read_parts(alloc, source.as_bytes())?;
         let definitions = definitions_of(alloc, &parts)?;

@@ -1,20 +1,16 @@
 -- Raw html in a line.
-use Rattle.std.specs.Prelude.{ℕ, ◌-◌, ◌==◌, ◌&&◌, ◌||◌, if◌then◌else◌, List, [], ◌∷◌, length, drop, Option, Some, None, option_map, codes}
+use Rattle.std.specs.Prelude.{ℕ, ◌-◌, ◌&&◌, if◌then◌else◌, List, length, drop, Option, Some, None, option_map, codes}
 use Rattle.std.specs.Char.{is_ascii_alphabetic}
 use Rattle.markdown_marks.specs.Bytes.{first}
-use Rattle.markdown_marks.specs.Definitions.{after, or_else}
+use Rattle.markdown_marks.specs.Definitions.{or_else}
 use Rattle.markdown_spans.specs.declared.html.Ends.{Ends}
 use Rattle.markdown_html.specs.Starts.{begins}
 use Rattle.markdown_spans.specs.Needles.{after_first, IsLast}
 use Rattle.markdown_spans.specs.Tags.{tag_end}
 
-abbrev pub after_angle : List ℕ → Option (List ℕ)
-after_angle [] = None
-after_angle (b ∷ bs) = if b == 62 then Some bs else None
-
--- A comment, after its <!--. It begins with no > and no ->, and its first two hyphens are those of its end.
+-- A comment, after its <!--. The comments <!--> and <!---> are whole, and any other ends with the first -->.
 abbrev pub after_comment : List ℕ → Option (List ℕ)
-after_comment text = if begins text (codes ">") || begins text (codes "->") then None else after (after_first (codes "--") text) after_angle
+after_comment text = if begins text (codes ">") then Some (drop 1 text) else if begins text (codes "->") then Some (drop 2 text) else after_first (codes "-->") text
 
 -- what isn't a tag, after the sign <
 abbrev pub other_end : List ℕ → Option (List ℕ)
@@ -34,8 +30,9 @@ html_len bytes = option_map (λ after. length bytes - length after) (html_end by
 
 -- ---- what is remembered of a text
 
--- where the ends of instructions, CDATA sections and declarations begin last: none does from there on
+-- where the ends of comments, instructions, CDATA sections and declarations begin last: none does from there on
 pub record AreEnds (ends : Ends) (text : List ℕ) : Type 0 where
+  pub comment : IsLast (codes "-->") ends.comment text
   pub instruction : IsLast (codes "?>") ends.instruction text
   pub cdata : IsLast (codes "]]>") ends.cdata text
   pub declaration : IsLast (codes ">") ends.declaration text

@@ -2,9 +2,9 @@
 
 ghost use Rattle.std.specs.Prelude.{◌≡◌, ◌+◌, ◌<◌, ◌≤◌, length, drop, IfSome};
 ghost use Rattle.std.specs.Option.{option_copied};
-ghost use Rattle.markdown_spans.specs.Html.{after_angle, after_comment, other_end, html_end, html_len, AreEnds};
+ghost use Rattle.markdown_spans.specs.Html.{after_comment, other_end, html_end, html_len, AreEnds};
 
-use crate::needles::{after_first, after_known, last_place};
+use crate::needles::{after_known, last_place};
 use crate::tags::tag_end;
 use markdown_html::starts::{begins, is_declaration};
 use markdown_marks::bytes::tail;
@@ -13,6 +13,8 @@ use memchr::memchr;
 /// Where in a text the ends of raw html begin last: from these places on none does.
 #[derive(Debug, Clone, Copy)]
 pub struct Ends {
+    /// `-->`
+    pub comment: usize,
     /// `?>`
     pub instruction: usize,
     /// `]]>`
@@ -26,6 +28,7 @@ fn no_ends(text: &[u8]) -> Ends
     ensures { AreEnds result text.now }
 {
     Ends {
+        comment: text.len(),
         instruction: text.len(),
         cdata: text.len(),
         declaration: text.len(),
@@ -40,32 +43,27 @@ pub fn ends_of(text: &[u8]) -> Ends
         return no_ends(text);
     }
     Ends {
+        comment: last_place(b"-->", text),
         instruction: last_place(b"?>", text),
         cdata: last_place(b"]]>", text),
         declaration: last_place(b">", text),
     }
 }
 
-fn after_angle(text: &[u8]) -> Option<&[u8]>
-    ensures { option_copied result ≡ after_angle text.entry.now }
+// What follows a comment, whose `!--` begins at this place.
+fn after_comment<'t>(ends: &Ends, text: &'t [u8], at: usize) -> Option<&'t [u8]>
+    requires ends { AreEnds ends.now text.now }
+    requires within { at + 3 ≤ length text.now }
+    ensures { option_copied result ≡ after_comment (drop 3 (drop at text.entry.now)) }
 {
-    match text {
-        [b'>', rest @ ..] => Some(rest),
-        _ => None,
+    let inside = tail(tail(text, at), 3);
+    if begins(inside, b">") {
+        return Some(tail(inside, 1));
     }
-}
-
-// What follows a comment, after its `<!--`.
-fn after_comment(text: &[u8]) -> Option<&[u8]>
-    ensures { option_copied result ≡ after_comment text.entry.now }
-{
-    if begins(text, b">") || begins(text, b"->") {
-        return None;
+    if begins(inside, b"->") {
+        return Some(tail(inside, 2));
     }
-    match after_first(b"--", text) {
-        None => None,
-        Some(rest) => after_angle(rest),
-    }
+    after_known(b"-->", ends.comment, text, at, 3)
 }
 
 // What follows raw html that is no tag, after its sign `<`.
@@ -76,7 +74,7 @@ fn other_end<'t>(ends: &Ends, text: &'t [u8], at: usize) -> Option<&'t [u8]>
 {
     let bytes = tail(text, at);
     if begins(bytes, b"!--") {
-        return after_comment(tail(bytes, 3));
+        return after_comment(ends, text, at);
     }
     if begins(bytes, b"?") {
         return after_known(b"?>", ends.instruction, text, at, 1);

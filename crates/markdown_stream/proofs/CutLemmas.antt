@@ -5,8 +5,9 @@ use Rattle.std.specs.List.{onto_first}
 use Rattle.mad_md.specs.Parts.{HasNoNewline}
 use Rattle.mad_md.proofs.PartsLemmas.{true_test}
 use Rattle.mad_stream.specs.Lines.{IsFirstLine}
-use Rattle.markdown_blocks.specs.Steps.{State, Line, step}
-use Rattle.markdown_stream.specs.Cuts.{SourcePart, Cutting, source_lines, content, begins_anew, ends_all, completed, completed_if, joined_by, line_cut, open_after, lines_cut}
+use Rattle.markdown_blocks.specs.Steps.{State}
+use Rattle.markdown_stream.specs.Cuts.{SourcePart, Cutting, source_lines, source_read, completed, completed_if, joined_by, line_cut, open_after, lines_cut}
+use Rattle.markdown_stream.specs.declared.cuts.Role.{Role}
 
 -- ---- lines
 
@@ -59,20 +60,20 @@ last_line b (c ∷ line) none = other_first b (c ∷ line) none.0 ∙ ap (onto_f
 
 -- ---- cuts
 
-pub open_more : (state : State) (done : List (List ℕ)) (text : List ℕ) → open_after state (done ++ text ∷ []) ≡ (step (open_after state done) (content text)).state
+pub open_more : (state : State) (done : List (List ℕ)) (text : List ℕ) → open_after state (done ++ text ∷ []) ≡ (source_read (open_after state done) text).state
 unfolding open_after
 open_more state [] text = refl
-open_more state (line ∷ done) text = open_more (step state (content line)).state done text
+open_more state (line ∷ done) text = open_more (source_read state line).state done text
 
-pub cut_more : (state : State) (c : Cutting) (done : List (List ℕ)) (text : List ℕ) → lines_cut state c (done ++ text ∷ []) ≡ line_cut (step (open_after state done) (content text)).line text (lines_cut state c done)
+pub cut_more : (state : State) (c : Cutting) (done : List (List ℕ)) (text : List ℕ) → lines_cut state c (done ++ text ∷ []) ≡ line_cut (source_read (open_after state done) text).role text (lines_cut state c done)
 unfolding lines_cut open_after
 cut_more state c [] text = refl
-cut_more state c (line ∷ done) text = cut_more (step state (content line)).state (line_cut (step state (content line)).line line c) done text
+cut_more state c (line ∷ done) text = cut_more (source_read state line).state (line_cut (source_read state line).role line c) done text
 
 pub cut_both : (state : State) (c : Cutting) (done more : List (List ℕ)) → lines_cut state c (done ++ more) ≡ lines_cut (open_after state done) (lines_cut state c done) more
 unfolding lines_cut open_after
 cut_both state c [] more = refl
-cut_both state c (line ∷ done) more = cut_both (step state (content line)).state (line_cut (step state (content line)).line line c) done more
+cut_both state c (line ∷ done) more = cut_both (source_read state line).state (line_cut (source_read state line).role line c) done more
 
 -- parts that are complete stay so
 abbrev pub GoesOn : Cutting → Cutting → Type 0
@@ -85,17 +86,17 @@ goes_on_if : (b : Bool) (c : Cutting) → GoesOn c (completed_if b c)
 goes_on_if true c = (record { source = c.held; apart = c.apart } ∷ [], refl)
 goes_on_if false c = ([], sym (append-nil c.parts))
 
-goes_on_line : (line : Line) (text : List ℕ) (c : Cutting) → GoesOn c (line_cut line text c)
-goes_on_line line text c =
-    let d : Cutting = joined_by line text (completed_if (begins_anew line) c) in
-    goes_on_both c d (completed_if (ends_all line) d) (goes_on_if (begins_anew line) c) (goes_on_if (ends_all line) d)
+goes_on_line : (role : Role) (text : List ℕ) (c : Cutting) → GoesOn c (line_cut role text c)
+goes_on_line role text c =
+    let d : Cutting = joined_by role text (completed_if role.begins c) in
+    goes_on_both c d (completed_if role.ends d) (goes_on_if role.begins c) (goes_on_if role.ends d)
 
 pub goes_on : (state : State) (c : Cutting) (more : List (List ℕ)) → GoesOn c (lines_cut state c more)
 unfolding lines_cut
 goes_on state c [] = ([], sym (append-nil c.parts))
 goes_on state c (text ∷ more) =
-    let next = step state (content text) in
-    goes_on_both c (line_cut next.line text c) (lines_cut next.state (line_cut next.line text c) more) (goes_on_line next.line text c) (goes_on next.state (line_cut next.line text c) more)
+    let next = source_read state text in
+    goes_on_both c (line_cut next.role text c) (lines_cut next.state (line_cut next.role text c) more) (goes_on_line next.role text c) (goes_on next.state (line_cut next.role text c) more)
 
 pub goes_on_to_end : (state : State) (c : Cutting) (more : List (List ℕ)) → GoesOn c (completed (lines_cut state c more))
 goes_on_to_end state c more = goes_on_both c (lines_cut state c more) (completed (lines_cut state c more)) (goes_on state c more) (goes_on_if true (lines_cut state c more))

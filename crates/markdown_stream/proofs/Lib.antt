@@ -6,3 +6,4 @@ pub mod PieceLemmas
 pub mod ShownLemmas
 pub mod SourceLemmas
 pub mod StreamLemmas
+mod SourceLineLemmas

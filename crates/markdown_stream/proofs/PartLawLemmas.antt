@@ -8,15 +8,17 @@ use Rattle.mad_md.specs.Lines.{LineContent}
 use Rattle.mad_md.proofs.PartsLemmas.{true_test}
 use Rattle.markdown_blocks.specs.Events.{events_from, events_of}
 use Rattle.markdown_blocks.specs.Lines.{text_lines}
-use Rattle.markdown_blocks.specs.Steps.{State, Line, step}
+use Rattle.markdown_blocks.specs.Steps.{State}
 use Rattle.markdown_leaves.specs.Gather.{closed}
 use Rattle.markdown_leaves.specs.Told.{parts_of, told}
 use Rattle.markdown_lines.specs.Steady.{steady_lines}
 use Rattle.markdown_reader.specs.Mapping.{shown_parts}
-use Rattle.markdown_reader.specs.Markdown.{markdown_lines, printable_lines}
-use Rattle.markdown_stream.specs.Cuts.{SourcePart, Cutting, source_lines, content, begins_anew, ends_all, completed, completed_if, cut_so_far, joined_by, line_cut, lines_cut, nothing_cut, nothing_open, source_parts}
-use Rattle.markdown_stream.specs.Streamed.{Showing, nothing_shown, added, gap, lines_shown, part_shown, parts_shown, streamed_lines}
+use Rattle.markdown_lines.specs.Texts.{behind_mark}
+use Rattle.markdown_reader.specs.Markdown.{unmarked_lines, printable_lines}
+use Rattle.markdown_stream.specs.Cuts.{SourcePart, Cutting, source_lines, source_read, completed, completed_if, cut_so_far, joined_by, line_cut, lines_cut, nothing_cut, nothing_open, source_parts}
+use Rattle.markdown_stream.specs.Streamed.{Showing, nothing_shown, added, gap, lines_shown, part_shown, parts_shown, unmarked_streamed, streamed_lines}
 use Rattle.markdown_stream.specs.Gaps.{begins_big}
+use Rattle.markdown_stream.specs.declared.cuts.Role.{Role}
 use Rattle.markdown_stream.specs.declared.stream.Shown.{Shown}
 use Rattle.markdown_stream.specs.PartLaws.{PartsAreTheText, OnePartIsWhole}
 use Rattle.markdown_stream.proofs.ShownLemmas.{shown_both}
@@ -55,17 +57,17 @@ completed_if_joined : (over : Bool) (c : Cutting) → so_far (completed_if over 
 completed_if_joined true c = completed_joined c
 completed_if_joined false c = refl
 
-line_joined : (line : Line) (text : List ℕ) (c : Cutting) → so_far (line_cut line text c) ≡ so_far c ++ text
-line_joined line text c =
-    let d : Cutting = completed_if (begins_anew line) c in
-    completed_if_joined (ends_all line) (joined_by line text d) ∙ sym (append_assoc (sources d.parts) d.held text) ∙ ap (λ (l : List ℕ). l ++ text) (completed_if_joined (begins_anew line) c)
+line_joined : (role : Role) (text : List ℕ) (c : Cutting) → so_far (line_cut role text c) ≡ so_far c ++ text
+line_joined role text c =
+    let d : Cutting = completed_if role.begins c in
+    completed_if_joined role.ends (joined_by role text d) ∙ sym (append_assoc (sources d.parts) d.held text) ∙ ap (λ (l : List ℕ). l ++ text) (completed_if_joined role.begins c)
 
 cut_joined : (state : State) (c : Cutting) (texts : List (List ℕ)) → so_far (lines_cut state c texts) ≡ so_far c ++ joined_lines texts
 unfolding lines_cut
 cut_joined state c [] = sym (append-nil (so_far c))
 cut_joined state c (text ∷ texts) =
-    let next = step state (content text) in
-    cut_joined next.state (line_cut next.line text c) texts ∙ ap (λ (l : List ℕ). l ++ joined_lines texts) (line_joined next.line text c) ∙ append_assoc (so_far c) text (joined_lines texts)
+    let next = source_read state text in
+    cut_joined next.state (line_cut next.role text c) texts ∙ ap (λ (l : List ℕ). l ++ joined_lines texts) (line_joined next.role text c) ∙ append_assoc (so_far c) text (joined_lines texts)
 
 pub parts_are_the_text : PartsAreTheText
 parts_are_the_text text =
@@ -74,7 +76,7 @@ parts_are_the_text text =
 
 -- ---- one part alone
 
-nothing_read : markdown_lines [] ≡ []
+nothing_read : unmarked_lines [] ≡ []
 unfolding printable_lines steady_lines parts_of told events_of events_from text_lines closed shown_parts
 nothing_read = refl
 
@@ -88,7 +90,7 @@ record ShowsNoMore (s t : Showing) : Type 0 where
 
 none_shown : (part : SourcePart) (s : Showing) → part.source ≡ [] → ShowsNoMore s (part_shown part s)
 none_shown part s none =
-    subst (λ (ls : List LineContent). ShowsNoMore s (lines_shown part.apart ls s)) (sym (ap markdown_lines none ∙ nothing_read)) (record { lines = append-nil s.lines; some = refl })
+    subst (λ (ls : List LineContent). ShowsNoMore s (lines_shown part.apart ls s)) (sym (ap unmarked_lines none ∙ nothing_read)) (record { lines = append-nil s.lines; some = refl })
 
 all_none_shown : (parts : List SourcePart) (s : Showing) → AllByRecursion (λ (other : SourcePart). other.source ≡ []) parts → ShowsNoMore s (parts_shown s parts)
 unfolding parts_shown
@@ -107,8 +109,8 @@ then_shown : (s : Showing) (part : SourcePart) (later : List SourcePart) → par
 unfolding parts_shown
 then_shown s part later = refl
 
-streamed : (text : List ℕ) → streamed_lines text ≡ (parts_shown nothing_shown (source_parts text)).lines
-unfolding streamed_lines
+streamed : (text : List ℕ) → streamed_lines text ≡ (parts_shown nothing_shown (source_parts (behind_mark text))).lines
+unfolding unmarked_streamed
 streamed text = refl
 
 pub one_part_is_whole : OnePartIsWhole
@@ -116,14 +118,14 @@ one_part_is_whole text part h =
     let before : Showing = parts_shown nothing_shown h.before in
     let first : ShowsNoMore nothing_shown before = all_none_shown h.before nothing_shown h.none_before in
     let later : ShowsNoMore (part_shown part before) (parts_shown (part_shown part before) h.later) = all_none_shown h.later (part_shown part before) h.none_later in
-    let whole : part.source ≡ text =
+    let whole : part.source ≡ behind_mark text =
     sym (append-nil part.source) ∙ ap (λ (l : List ℕ). part.source ++ l) (sym (none_joined h.later h.none_later))
     ∙ ap (λ (l : List ℕ). l ++ (part.source ++ sources h.later)) (sym (none_joined h.before h.none_before))
-    ∙ sym (flat_map-append (λ (p : SourcePart). p.source) h.before (part ∷ h.later)) ∙ ap sources (sym h.parts) ∙ parts_are_the_text text in
+    ∙ sym (flat_map-append (λ (p : SourcePart). p.source) h.before (part ∷ h.later)) ∙ ap sources (sym h.parts) ∙ parts_are_the_text (behind_mark text) in
     streamed text
     ∙ ap (λ (ps : List SourcePart). (parts_shown nothing_shown ps).lines) h.parts
     ∙ ap (λ (s : Showing). s.lines) (shown_both nothing_shown h.before (part ∷ h.later) ∙ then_shown before part h.later)
     ∙ later.lines
-    ∙ ap (λ (ls : List LineContent). ls ++ added before.last part.apart (markdown_lines part.source)) first.lines
-    ∙ first_added before.last part.apart (markdown_lines part.source) first.some
-    ∙ ap markdown_lines whole
+    ∙ ap (λ (ls : List LineContent). ls ++ added before.last part.apart (unmarked_lines part.source)) first.lines
+    ∙ first_added before.last part.apart (unmarked_lines part.source) first.some
+    ∙ ap unmarked_lines whole

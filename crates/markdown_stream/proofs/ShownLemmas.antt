@@ -2,7 +2,7 @@
 use Rattle.std.proofs.Common.{◌≡◌, List, [], ◌∷◌, ◌++◌, refl, sym, ◌∙◌, append_assoc}
 use Rattle.std.proofs.lemmas.List.{append-nil}
 use Rattle.mad_md.specs.Lines.{LineContent}
-use Rattle.markdown_reader.specs.Markdown.{markdown_lines}
+use Rattle.markdown_reader.specs.Markdown.{unmarked_lines}
 use Rattle.markdown_stream.specs.Cuts.{SourcePart}
 use Rattle.markdown_stream.specs.Streamed.{Showing, nothing_shown, added, part_shown, parts_shown}
 use Rattle.markdown_stream.proofs.GapLemmas.{IsEnded, nothing_ended, shown_ended}
@@ -22,7 +22,7 @@ pub shown_goes_on : (s : Showing) (parts : List SourcePart) → (more : List Lin
 unfolding parts_shown
 shown_goes_on s [] = ([], sym (append-nil s.lines))
 shown_goes_on s (part ∷ parts) =
-    let own : List LineContent = added s.last part.apart (markdown_lines part.source) in
+    let own : List LineContent = added s.last part.apart (unmarked_lines part.source) in
     let h = shown_goes_on (part_shown part s) parts in (
       own ++ h.0,
       h.1 ∙ append_assoc s.lines own h.0,
@@ -31,7 +31,7 @@ shown_goes_on s (part ∷ parts) =
 pub parts_ended : (s : Showing) (parts : List SourcePart) → IsEnded s → IsEnded (parts_shown s parts)
 unfolding parts_shown
 parts_ended s [] h = h
-parts_ended s (part ∷ parts) h = parts_ended (part_shown part s) parts (shown_ended s part.apart (markdown_lines part.source) h)
+parts_ended s (part ∷ parts) h = parts_ended (part_shown part s) parts (shown_ended s part.apart (unmarked_lines part.source) h)
 
 pub all_ended : (parts : List SourcePart) → IsEnded (parts_shown nothing_shown parts)
 all_ended parts = parts_ended nothing_shown parts nothing_ended

@@ -16,6 +16,7 @@ use Rattle.mad_term.specs.Trace.{Trace, after, failed, flushed, ahead_all}
 use Rattle.mad_term.specs.declared.errors.Error.{Error}
 use Rattle.mad_term.specs.declared.errors.Error.TheVariants as writing
 use Rattle.mad_term.proofs.Traces.{after-nil}
+use Rattle.markdown_lines.specs.Texts.{behind_mark}
 use Rattle.markdown_stream.specs.Cuts.{source_lines}
 use Rattle.markdown_stream.specs.Sources.{AreCompleteRows, StreamsMarkdown}
 use Rattle.markdown_stream.specs.SourceSteps.{FeedsBlock, StopsInBlock, EndsFlushed, EndsSource}
@@ -157,13 +158,13 @@ source_more skin width source out old new waiting got block left used blocks is_
 
 complete_rows : (read sent : List ℕ) (s : MarkdownStream) → IsInStep read s sent → IsPrompt s → AreCompleteRows s.skin s.width read sent
 complete_rows read sent s h prompt = record {
-  done = h.done;
+  done = h.behind.done;
   begun = string_bytes s.line;
-  joins = ap source_lines (sym (append-nil read)) ∙ h.joins [] ∙ ap (λ (l : List ℕ). h.done ++ source_lines l) (append-nil (string_bytes s.line));
-  line = h.begun;
-  lines = h.stands.rows.lines;
-  layout = h.stands.rows.layout;
-  rows = sym (h.stands.rows.bytes ∙ ap (λ (b : List ℕ). sent ++ b) prompt ∙ append-nil sent);
+  joins = ap source_lines (sym (append-nil (behind_mark read))) ∙ h.behind.joins [] ∙ ap (λ (l : List ℕ). h.behind.done ++ source_lines l) (append-nil (string_bytes s.line));
+  line = h.behind.begun;
+  lines = h.behind.stands.rows.lines;
+  layout = h.behind.stands.rows.layout;
+  rows = sym (h.behind.stands.rows.bytes ∙ ap (λ (b : List ℕ). sent ++ b) prompt ∙ append-nil sent);
 }
 
 pub source_failed : (T : Type 0) (e : IoError) (skin : RowSkin) (width : Option ℕ) (source out : Trace) (s : MarkdownStream) (waiting : List ℕ) (blocks : ℕ) (source_now source_next out_now : Trace) → SourceSoFar skin width source out s waiting blocks source_now out_now

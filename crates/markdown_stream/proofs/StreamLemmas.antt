@@ -3,6 +3,7 @@ use Rattle.std.proofs.Common.{◌≡◌, ℕ, ◌<◌, ◌==◌, Bool, true, fal
 use Rattle.std.proofs.lemmas.List.{append-nil}
 use Rattle.std.proofs.lemmas.Grind.{flat_map-append}
 use Rattle.std.specs.Result.{IsErrAnd}
+use Rattle.std.specs.Str.{IsUtf8}
 use Rattle.mad_blocks.specs.Layouts.{IsLayoutAt}
 use Rattle.mad_blocks.proofs.LayoutJoins.{apart, layouts_joined}
 use Rattle.mad_format.specs.declared.line.FmtLine.{FmtLine}
@@ -18,12 +19,15 @@ use Rattle.mad_term.specs.Trace.{Trace, failed}
 use Rattle.mad_term.specs.declared.errors.Error.{Error}
 use Rattle.mad_term.specs.declared.errors.Error.TheVariants.{IO, InsufficientWidth, Memory}
 use Rattle.mad_term.proofs.Traces.{after-nil}
-use Rattle.markdown_blocks.specs.Steps.{State, Step, Line, state_of, step}
-use Rattle.markdown_reader.specs.Markdown.{markdown_lines}
-use Rattle.markdown_stream.specs.Cuts.{SourcePart, Cutting, source_lines, content, begins_anew, ends_all, is_passed, completed, completed_if, joined_by, line_cut, nothing_open, nothing_cut, open_after, lines_cut, cut_so_far}
-use Rattle.markdown_stream.specs.Streamed.{Showing, nothing_shown, gap, is_spaced, added, last_after, parts_shown, streamed_lines}
-use Rattle.markdown_stream.specs.Streams.{IsStreamed, BeginsStreamed, Finishes, HasRows, Stands, IsInStep, IsPrompt, Fed, Feeds, TakesPiece, EndsText, ReadsLine, EndsLine, Turns, KeepsRows, ShowsLines, Sent, Sends}
+use Rattle.markdown_blocks.specs.Steps.{State, state_of}
+use Rattle.markdown_lines.specs.Texts.{behind_mark}
+use Rattle.markdown_lines.proofs.MarkLemmas.{behind_more}
+use Rattle.markdown_reader.specs.Markdown.{unmarked_lines}
+use Rattle.markdown_stream.specs.Cuts.{SourcePart, Cutting, Reading, source_lines, source_read, is_apart, completed, completed_if, joined_by, line_cut, nothing_open, nothing_cut, open_after, lines_cut, cut_so_far}
+use Rattle.markdown_stream.specs.Streamed.{Showing, nothing_shown, gap, is_spaced, added, last_after, parts_shown, unmarked_streamed, streamed_lines}
+use Rattle.markdown_stream.specs.Streams.{IsStreamed, BeginsStreamed, Finishes, HasRows, Stands, coming, still_fresh, HasRead, IsInStep, IsPrompt, Fed, Feeds, TakesText, TakesPiece, EndsText, ReadsLine, EndsLine, Turns, KeepsRows, ShowsLines, Sent, Sends}
 use Rattle.markdown_stream.specs.declared.stream.MarkdownStream.{MarkdownStream}
+use Rattle.markdown_stream.specs.declared.cuts.Role.{Role}
 use Rattle.markdown_stream.specs.declared.stream.Shown.{Shown}
 use Rattle.markdown_stream.proofs.CutLemmas.{line_first, no_lines, last_line, no_newline_both, open_more, cut_more, cut_both, goes_on_to_end}
 use Rattle.markdown_stream.proofs.GapLemmas.{apart_added}
@@ -111,21 +115,21 @@ shows_some (l ∷ text) old mid next new spaced big some big_is spaced_is h same
 -- ---- a part is complete
 
 -- what was shown, and the fields that a part leaves as they were
-pub completes : (old mid new : MarkdownStream) (lines : List LineContent) → lines ≡ markdown_lines (string_bytes old.held) → ShowsLines lines old mid → string_bytes new.held ≡ [] → new.apart ≡ mid.passed → new.passed ≡ mid.passed → new.last ≡ mid.last → new.rows ≡ mid.rows → new.reader ≡ mid.reader
+pub completes : (old mid new : MarkdownStream) (lines : List LineContent) → lines ≡ unmarked_lines (string_bytes old.held) → ShowsLines lines old mid → string_bytes new.held ≡ [] → new.apart ≡ mid.passed → new.passed ≡ mid.passed → new.last ≡ mid.last → new.rows ≡ mid.rows → new.reader ≡ mid.reader
     → new.line ≡ mid.line → new.skin ≡ mid.skin → new.width ≡ mid.width → Turns completed old new
 completes old mid new lines is h held apart passed last rows reader line skin width = record {
   stands = λ cut sent s.
       let shown : Showing = parts_shown nothing_shown cut.parts in
       let part : SourcePart = record { source = cut.held; apart = cut.apart } in
-      let read : lines ≡ markdown_lines cut.held = is ∙ ap markdown_lines s.held in
-      let same_added : added old.last old.apart lines ≡ added shown.last cut.apart (markdown_lines cut.held) =
+      let read : lines ≡ unmarked_lines cut.held = is ∙ ap unmarked_lines s.held in
+      let same_added : added old.last old.apart lines ≡ added shown.last cut.apart (unmarked_lines cut.held) =
       ap (λ (l : Shown). added l old.apart lines) s.rows.last ∙ ap (λ (a : Bool). added shown.last a lines) s.apart ∙ ap (λ (ls : List LineContent). added shown.last cut.apart ls) read in
-      let same_last : last_after old.last old.apart lines ≡ last_after shown.last cut.apart (markdown_lines cut.held) =
+      let same_last : last_after old.last old.apart lines ≡ last_after shown.last cut.apart (unmarked_lines cut.held) =
       ap (λ (l : Shown). last_after l old.apart lines) s.rows.last ∙ ap (λ (a : Bool). last_after shown.last a lines) s.apart ∙ ap (λ (ls : List LineContent). last_after shown.last cut.apart ls) read in
-      let own : List LineContent = added shown.last cut.apart (markdown_lines cut.held) in
+      let own : List LineContent = added shown.last cut.apart (unmarked_lines cut.held) in
       let own_layout : IsLayoutAt (line_rules old.skin) old.width own h.rows.lines = subst (λ (ls : List LineContent). IsLayoutAt (line_rules old.skin) old.width ls h.rows.lines) same_added h.rows.layout in
       let layout : IsLayoutAt (line_rules old.skin) old.width (shown.lines ++ own) (s.rows.lines ++ h.rows.lines) =
-      layouts_joined (line_rules old.skin) old.width shown.lines own s.rows.lines h.rows.lines (apart_added shown cut.apart (markdown_lines cut.held) (all_ended cut.parts)) s.rows.layout own_layout in
+      layouts_joined (line_rules old.skin) old.width shown.lines own s.rows.lines h.rows.lines (apart_added shown cut.apart (unmarked_lines cut.held) (all_ended cut.parts)) s.rows.layout own_layout in
       let bytes : text_bytes old.skin old.width (s.rows.lines ++ h.rows.lines) ≡ sent ++ new.rows.items =
       flat_map-append (line_bytes old.skin old.width) s.rows.lines h.rows.lines ∙ ap (λ (b : List ℕ). b ++ text_bytes old.skin old.width h.rows.lines) s.rows.bytes
       ∙ append_assoc sent old.rows.items (text_bytes old.skin old.width h.rows.lines) ∙ ap (λ (b : List ℕ). sent ++ b) (sym h.rows.rows) ∙ ap (λ (v : _). sent ++ v.items) (sym rows) in
@@ -134,7 +138,7 @@ completes old mid new lines is h held apart passed last rows reader line skin wi
         apart = apart ∙ mid_passed ∙ s.passed;
         passed = passed ∙ mid_passed ∙ s.passed;
         rows = subst (λ (k : Showing). HasRows k new sent) (sym (shown_more nothing_shown cut.parts part))
-            (rows_more shown own (last_after shown.last cut.apart (markdown_lines cut.held)) old new sent (s.rows.lines ++ h.rows.lines) s.rows layout bytes (last ∙ h.last ∙ same_last) (skin ∙ mid_skin) (width ∙ mid_width));
+            (rows_more shown own (last_after shown.last cut.apart (unmarked_lines cut.held)) old new sent (s.rows.lines ++ h.rows.lines) s.rows layout bytes (last ∙ h.last ∙ same_last) (skin ∙ mid_skin) (width ∙ mid_width));
       };
   reader = reader ∙ ap (λ (s : MarkdownStream). s.reader) h.same;
   line = line ∙ ap (λ (s : MarkdownStream). s.line) h.same;
@@ -157,17 +161,17 @@ turns_not old = record { stands = λ cut sent s. s; reader = refl; line = refl; 
 -- ---- a line
 
 -- A line comes: what is held ends before it or not, and with it or not.
-pub reads_line : (old first second joined new : MarkdownStream) (text : List ℕ) (line : Line) (state : State) → record { state = state; line = line } ≡ step (state_of old.reader) (content text) → string_bytes first.held ≡ string_bytes old.held → first.apart ≡ old.apart → first.passed ≡ old.passed → first.last ≡ old.last → first.rows ≡ old.rows
+pub reads_line : (old first second joined new : MarkdownStream) (text : List ℕ) (role : Role) (state : State) → record { state = state; role = role } ≡ source_read (state_of old.reader) text → string_bytes first.held ≡ string_bytes old.held → first.apart ≡ old.apart → first.passed ≡ old.passed → first.last ≡ old.last → first.rows ≡ old.rows
     → first.line ≡ old.line → first.skin ≡ old.skin → first.width ≡ old.width → state_of first.reader ≡ state
-    → Turns (completed_if (begins_anew line)) first second
-    → string_bytes joined.held ≡ string_bytes second.held ++ text → joined.apart ≡ second.apart → joined.passed ≡ is_passed line → joined.last ≡ second.last → joined.rows ≡ second.rows → joined.reader ≡ second.reader → joined.line ≡ second.line → joined.skin ≡ second.skin → joined.width ≡ second.width
-    → Turns (completed_if (ends_all line)) joined new → ReadsLine old text new
-reads_line old first second joined new text line state is held apart passed last rows line_is skin width reads t held2 apart2 passed2 last2 rows2 reader2 line2 skin2 width2 u = record {
-  «open» = ap state_of (u.reader ∙ reader2 ∙ t.reader) ∙ reads ∙ ap (λ (d : Step). d.state) is;
+    → Turns (completed_if role.begins) first second
+    → string_bytes joined.held ≡ string_bytes second.held ++ text → joined.apart ≡ is_apart second.apart (string_bytes second.held) role.led → joined.passed ≡ role.passed → joined.last ≡ second.last → joined.rows ≡ second.rows → joined.reader ≡ second.reader → joined.line ≡ second.line → joined.skin ≡ second.skin → joined.width ≡ second.width
+    → Turns (completed_if role.ends) joined new → ReadsLine old text new
+reads_line old first second joined new text role state is held apart passed last rows line_is skin width reads t held2 apart2 passed2 last2 rows2 reader2 line2 skin2 width2 u = record {
+  «open» = ap state_of (u.reader ∙ reader2 ∙ t.reader) ∙ reads ∙ ap (λ (d : Reading). d.state) is;
   stands = λ cut sent s.
-      subst (λ (l : Line). Stands (line_cut l text cut) new sent) (ap (λ (d : Step). d.line) is)
-      (u.stands (joined_by line text (completed_if (begins_anew line) cut)) sent
-      (joins (completed_if (begins_anew line) cut) sent (t.stands cut sent (begins cut sent s))));
+      subst (λ (r : Role). Stands (line_cut r text cut) new sent) (ap (λ (d : Reading). d.role) is)
+      (u.stands (joined_by role text (completed_if role.begins cut)) sent
+      (joins (completed_if role.begins cut) sent (t.stands cut sent (begins cut sent s))));
   line = ap string_bytes (u.line ∙ line2 ∙ t.line ∙ line_is);
   skin = u.skin ∙ skin2 ∙ t.skin ∙ skin;
   width = u.width ∙ width2 ∙ t.width ∙ width;
@@ -184,19 +188,19 @@ reads_line old first second joined new text line state is held apart passed last
     begins : (cut : Cutting) (sent : List ℕ) → Stands cut old sent → Stands cut first sent
     begins cut sent s = record { held = held ∙ s.held; apart = apart ∙ s.apart; passed = passed ∙ s.passed; rows = rows_as (parts_shown nothing_shown cut.parts) old first sent last rows skin width s.rows }
 
-    joins : (cut : Cutting) (sent : List ℕ) → Stands cut second sent → Stands (joined_by line text cut) joined sent
+    joins : (cut : Cutting) (sent : List ℕ) → Stands cut second sent → Stands (joined_by role text cut) joined sent
     joins cut sent s = record {
       held = held2 ∙ ap (λ (b : List ℕ). b ++ text) s.held;
-      apart = apart2 ∙ s.apart;
+      apart = apart2 ∙ ap (λ (a : Bool). is_apart a (string_bytes second.held) role.led) s.apart ∙ ap (λ (b : List ℕ). is_apart cut.apart b role.led) s.held;
       passed = passed2;
       rows = rows_as (parts_shown nothing_shown cut.parts) second joined sent last2 rows2 skin2 width2 s.rows;
     }
 
 -- ---- a text
 
-pub starts : (s : MarkdownStream) → string_bytes s.held ≡ [] → s.apart ≡ false → s.passed ≡ false → s.last ≡ record { some = false; big = false; apart = false } → s.rows.items ≡ [] → string_bytes s.line ≡ [] → state_of s.reader ≡ nothing_open → IsInStep [] s []
+starts_behind : (s : MarkdownStream) → string_bytes s.held ≡ [] → s.apart ≡ false → s.passed ≡ false → s.last ≡ record { some = false; big = false; apart = false } → s.rows.items ≡ [] → string_bytes s.line ≡ [] → state_of s.reader ≡ nothing_open → HasRead [] s []
 unfolding open_after lines_cut parts_shown
-starts s held apart passed last rows line reads = record {
+starts_behind s held apart passed last rows line reads = record {
   done = [];
   joins = λ later. ap (λ (l : List ℕ). source_lines (l ++ later)) (sym line);
   begun = subst HasNoNewline (sym line) tt;
@@ -209,17 +213,23 @@ starts s held apart passed last rows line reads = record {
   };
 }
 
+pub starts : (s : MarkdownStream) → s.fresh ≡ true → string_bytes s.held ≡ [] → s.apart ≡ false → s.passed ≡ false → s.last ≡ record { some = false; big = false; apart = false } → s.rows.items ≡ [] → string_bytes s.line ≡ [] → state_of s.reader ≡ nothing_open → IsInStep [] s []
+starts s fresh held apart passed last rows line reads = record {
+  goes_on = λ later. sym (ap (λ t. coming t later) fresh);
+  behind = starts_behind s held apart passed last rows line reads;
+}
+
 -- a line that has begun ends, and what comes after it is left
-pub in_step_line : (read line rest : List ℕ) (old new : MarkdownStream) (sent : List ℕ) → IsFirstLine (line ++ rest) line rest → IsInStep read old sent → EndsLine old line new → IsInStep (read ++ line) new sent
+pub in_step_line : (read line rest : List ℕ) (old new : MarkdownStream) (sent : List ℕ) → IsFirstLine (line ++ rest) line rest → HasRead read old sent → EndsLine old line new → HasRead (read ++ line) new sent
 in_step_line read line rest old new sent first h e = record {
   done = h.done ++ text ∷ [];
   joins = λ later.
       ap source_lines (append_assoc read line later) ∙ h.joins (line ++ later) ∙ ap (λ (ls : List (List ℕ)). h.done ++ ls) (ends later)
       ∙ sym (append_assoc h.done (text ∷ []) (source_lines later)) ∙ ap (λ (l : List ℕ). (h.done ++ text ∷ []) ++ source_lines (l ++ later)) (sym e.line);
   begun = subst HasNoNewline (sym e.line) tt;
-  «open» = e.«open» ∙ ap (λ (st : State). (step st (content text)).state) h.«open» ∙ sym (open_more nothing_open h.done text);
+  «open» = e.«open» ∙ ap (λ (st : State). (source_read st text).state) h.«open» ∙ sym (open_more nothing_open h.done text);
   stands = subst (λ (c : Cutting). Stands c new sent) (sym (cut_more nothing_open nothing_cut h.done text))
-      (subst (λ (st : State). Stands (line_cut (step st (content text)).line text (cut_so_far h.done)) new sent) h.«open» (e.stands (cut_so_far h.done) sent h.stands));
+      (subst (λ (st : State). Stands (line_cut (source_read st text).role text (cut_so_far h.done)) new sent) h.«open» (e.stands (cut_so_far h.done) sent h.stands));
 }
   where
     text : List ℕ
@@ -233,7 +243,7 @@ in_step_line read line rest old new sent first h e = record {
 
 -- the line that has begun goes on
 pub in_step_begun : (read rest : List ℕ) (old new : MarkdownStream) (sent : List ℕ) → HasNoNewline rest → string_bytes new.line ≡ string_bytes old.line ++ rest → state_of new.reader ≡ state_of old.reader → ((cut : Cutting) → Stands cut old sent → Stands cut new sent)
-    → IsInStep read old sent → IsInStep (read ++ rest) new sent
+    → HasRead read old sent → HasRead (read ++ rest) new sent
 in_step_begun read rest old new sent none line reader stands h = record {
   done = h.done;
   joins = λ later. ap source_lines (append_assoc read rest later) ∙ h.joins (rest ++ later)
@@ -249,12 +259,12 @@ in_step_begun read rest old new sent none line reader stands h = record {
 pub record TakenSoFar (piece rest : List ℕ) (old new : MarkdownStream) : Type 0 where
   pub front : List ℕ
   pub joins : piece ≡ front ++ rest
-  pub keeps : (read sent : List ℕ) → IsInStep read old sent → IsInStep (read ++ front) new sent
+  pub keeps : (read sent : List ℕ) → HasRead read old sent → HasRead (read ++ front) new sent
   pub skin : new.skin ≡ old.skin
   pub width : new.width ≡ old.width
 
-in_step_of : (read other : List ℕ) (s : MarkdownStream) (sent : List ℕ) → other ≡ read → IsInStep read s sent → IsInStep other s sent
-in_step_of read other s sent is h = subst (λ (r : List ℕ). IsInStep r s sent) (sym is) h
+in_step_of : (read other : List ℕ) (s : MarkdownStream) (sent : List ℕ) → other ≡ read → HasRead read s sent → HasRead other s sent
+in_step_of read other s sent is h = subst (λ (r : List ℕ). HasRead r s sent) (sym is) h
 
 pub taken_start : (piece : List ℕ) (old : MarkdownStream) → TakenSoFar piece piece old old
 taken_start piece old = record { front = []; joins = refl; keeps = λ read sent h. in_step_of read (read ++ []) old sent (append-nil read) h; skin = refl; width = refl }
@@ -270,7 +280,7 @@ taken_more piece rest line after_ old mid new t first e = record {
 }
 
 pub taken_all : (piece rest : List ℕ) (old mid new : MarkdownStream) → TakenSoFar piece rest old mid → HasNoNewline rest → string_bytes new.line ≡ string_bytes mid.line ++ rest → state_of new.reader ≡ state_of mid.reader → ((cut : Cutting) (sent : List ℕ) → Stands cut mid sent → Stands cut new sent)
-    → new.skin ≡ mid.skin → new.width ≡ mid.width → TakesPiece old piece new
+    → new.skin ≡ mid.skin → new.width ≡ mid.width → TakesText old piece new
 taken_all piece rest old mid new t none line reader stands skin width = record {
   keeps = λ read sent h. in_step_of ((read ++ t.front) ++ rest) (read ++ piece) new sent (ap (λ (l : List ℕ). read ++ l) t.joins ∙ sym (append_assoc read t.front rest))
       (in_step_begun (read ++ t.front) rest mid new sent none line reader (λ cut. stands cut sent) (t.keeps read sent h));
@@ -278,14 +288,56 @@ taken_all piece rest old mid new t none line reader stands skin width = record {
   width = width ∙ t.width;
 }
 
+-- a text whose first piece came
+nothing_behind : (piece later : List ℕ) → length piece ≡ 0 → behind_mark (piece ++ later) ≡ behind_mark piece ++ behind_mark later
+nothing_behind [] later none = refl
+nothing_behind (b ∷ piece) later none = absurd (omega arith)
+
+some_of : (piece : List ℕ) → (length piece == 0) ≡ false → 0 < length piece
+some_of [] some = absurd (let e : true ≡ false = some in cc)
+some_of (b ∷ piece) some = omega arith
+
+coming_on : (piece later : List ℕ) (fresh : Bool) → IsUtf8 piece → coming fresh (piece ++ later) ≡ coming fresh piece ++ coming (still_fresh fresh piece) later
+coming_on piece later false u = refl
+coming_on piece later true u = by (length piece == 0) refl
+  where
+    by : (t : Bool) → (length piece == 0) ≡ t → behind_mark (piece ++ later) ≡ behind_mark piece ++ coming t later
+    by true none = nothing_behind piece later (true_test (length piece) 0 none)
+    by false some = behind_more piece later u (some_of piece some)
+
+-- the same stream, something of whose text came
+freshened : (read : List ℕ) (s : MarkdownStream) (fresh : Bool) (sent : List ℕ) → HasRead read s sent → HasRead read (record s { fresh = fresh }) sent
+freshened read s fresh sent h = record {
+  done = h.done;
+  joins = h.joins;
+  begun = h.begun;
+  «open» = h.«open»;
+  stands = record { held = h.stands.held; apart = h.stands.apart; passed = h.stands.passed; rows = record { last = h.stands.rows.last; lines = h.stands.rows.lines; layout = h.stands.rows.layout; bytes = h.stands.rows.bytes } };
+}
+
+pub takes_piece : (old mid : MarkdownStream) (piece text : List ℕ) (fresh : Bool) → IsUtf8 piece → text ≡ coming old.fresh piece → fresh ≡ still_fresh old.fresh piece → TakesText old text mid → TakesPiece old piece (record mid { fresh = fresh })
+takes_piece old mid piece text fresh u is still t = record {
+  keeps = λ read sent h.
+      record {
+        goes_on = λ later.
+            ap behind_mark (append_assoc read piece later) ∙ h.goes_on (piece ++ later) ∙ ap (λ (l : List ℕ). behind_mark read ++ l) (coming_on piece later old.fresh u)
+            ∙ sym (append_assoc (behind_mark read) (coming old.fresh piece) (coming (still_fresh old.fresh piece) later))
+            ∙ ap (λ (l : List ℕ). l ++ coming (still_fresh old.fresh piece) later) (sym (h.goes_on piece)) ∙ ap (λ (f : Bool). behind_mark (read ++ piece) ++ coming f later) (sym still);
+        behind = subst (λ (r : List ℕ). HasRead r (record mid { fresh = fresh }) sent) (ap (λ (l : List ℕ). behind_mark read ++ l) is ∙ sym (h.goes_on piece))
+            (freshened (behind_mark read ++ text) mid fresh sent (t.keeps (behind_mark read) sent h.behind));
+      };
+  skin = t.skin;
+  width = t.width;
+}
+
 -- the line that had begun, and its end, were read
 pub line_ended : (old mid new : MarkdownStream) (end text : List ℕ) → text ≡ string_bytes old.line ++ end → string_bytes mid.line ≡ [] → state_of mid.reader ≡ state_of old.reader → ((cut : Cutting) (sent : List ℕ) → Stands cut old sent → Stands cut mid sent) → mid.skin ≡ old.skin → mid.width ≡ old.width
     → ReadsLine mid text new → EndsLine old end new
 line_ended old mid new end text is empty reader stands skin width r = record {
-  «open» = r.«open» ∙ ap (λ (st : State). (step st (content text)).state) reader ∙ ap (λ (t : List ℕ). (step (state_of old.reader) (content t)).state) is;
+  «open» = r.«open» ∙ ap (λ (st : State). (source_read st text).state) reader ∙ ap (λ (t : List ℕ). (source_read (state_of old.reader) t).state) is;
   stands = λ cut sent s.
-      subst (λ (t : List ℕ). Stands (line_cut (step (state_of old.reader) (content t)).line t cut) new sent) is
-      (subst (λ (st : State). Stands (line_cut (step st (content text)).line text cut) new sent) reader (r.stands cut sent (stands cut sent s)));
+      subst (λ (t : List ℕ). Stands (line_cut (source_read (state_of old.reader) t).role t cut) new sent) is
+      (subst (λ (st : State). Stands (line_cut (source_read st text).role text cut) new sent) reader (r.stands cut sent (stands cut sent s)));
   line = r.line ∙ empty;
   skin = r.skin ∙ skin;
   width = r.width ∙ width;
@@ -293,11 +345,11 @@ line_ended old mid new end text is empty reader stands skin width r = record {
 
 -- ---- the end
 
-streamed_of : (text : List ℕ) (lines : List (List ℕ)) → source_lines text ≡ lines → streamed_lines text ≡ (parts_shown nothing_shown (completed (cut_so_far lines)).parts).lines
-unfolding streamed_lines
+streamed_of : (text : List ℕ) (lines : List (List ℕ)) → source_lines (behind_mark text) ≡ lines → streamed_lines text ≡ (parts_shown nothing_shown (completed (cut_so_far lines)).parts).lines
+unfolding unmarked_streamed
 streamed_of text lines is = ap (λ (ls : List (List ℕ)). (parts_shown nothing_shown (completed (cut_so_far ls)).parts).lines) is
 
-streamed_rows : (old new : MarkdownStream) (text sent : List ℕ) (lines : List (List ℕ)) → source_lines text ≡ lines → new.skin ≡ old.skin → new.width ≡ old.width → Stands (completed (cut_so_far lines)) new sent → IsStreamed old.skin old.width text (sent ++ new.rows.items)
+streamed_rows : (old new : MarkdownStream) (text sent : List ℕ) (lines : List (List ℕ)) → source_lines (behind_mark text) ≡ lines → new.skin ≡ old.skin → new.width ≡ old.width → Stands (completed (cut_so_far lines)) new sent → IsStreamed old.skin old.width text (sent ++ new.rows.items)
 streamed_rows old new text sent lines is skin width s = record {
   lines = s.rows.lines;
   layout = subst (λ (ls : List LineContent). IsLayoutAt (line_rules old.skin) old.width ls s.rows.lines) (sym (streamed_of text lines is))
@@ -309,8 +361,9 @@ streamed_rows old new text sent lines is skin width s = record {
 pub ended_between : (old mid new : MarkdownStream) → string_bytes old.line ≡ [] → ((cut : Cutting) (sent : List ℕ) → Stands cut old sent → Stands cut mid sent) → mid.skin ≡ old.skin → mid.width ≡ old.width → Turns completed mid new → EndsText old new
 ended_between old mid new empty stands skin width t = record {
   whole = λ read sent h.
-      let all : source_lines read ≡ h.done = ap source_lines (sym (append-nil read)) ∙ h.joins [] ∙ ap (λ (l : List ℕ). h.done ++ source_lines (l ++ [])) empty ∙ ap (λ (ls : List (List ℕ)). h.done ++ ls) no_lines ∙ append-nil h.done in
-      streamed_rows old new read sent h.done all (t.skin ∙ skin) (t.width ∙ width) (t.stands (cut_so_far h.done) sent (stands (cut_so_far h.done) sent h.stands));
+      let k : HasRead (behind_mark read) old sent = h.behind in
+      let all : source_lines (behind_mark read) ≡ k.done = ap source_lines (sym (append-nil (behind_mark read))) ∙ k.joins [] ∙ ap (λ (l : List ℕ). k.done ++ source_lines (l ++ [])) empty ∙ ap (λ (ls : List (List ℕ)). k.done ++ ls) no_lines ∙ append-nil k.done in
+      streamed_rows old new read sent k.done all (t.skin ∙ skin) (t.width ∙ width) (t.stands (cut_so_far k.done) sent (stands (cut_so_far k.done) sent k.stands));
 }
 
 one_line : (line : List ℕ) → HasNoNewline line → 0 < length line → source_lines line ≡ line ∷ []
@@ -322,13 +375,14 @@ pub ended_within : (old mid next new : MarkdownStream) (text : List ℕ) → tex
     → ReadsLine mid text next → Turns completed next new → EndsText old new
 ended_within old mid next new text is some reader stands skin width r t = record {
   whole = λ read sent h.
-      let all : source_lines read ≡ h.done ++ text ∷ [] =
-      ap source_lines (sym (append-nil read)) ∙ h.joins [] ∙ ap (λ (l : List ℕ). h.done ++ source_lines l) (append-nil (string_bytes old.line) ∙ sym is)
-      ∙ ap (λ (ls : List (List ℕ)). h.done ++ ls) (one_line text (subst HasNoNewline (sym is) h.begun) some) in
-      let read_it : Stands (line_cut (step (open_after nothing_open h.done) (content text)).line text (cut_so_far h.done)) next sent =
-      subst (λ (st : State). Stands (line_cut (step st (content text)).line text (cut_so_far h.done)) next sent) (reader ∙ h.«open») (r.stands (cut_so_far h.done) sent (stands (cut_so_far h.done) sent h.stands)) in
-      let cut : Stands (cut_so_far (h.done ++ text ∷ [])) next sent = subst (λ (c : Cutting). Stands c next sent) (sym (cut_more nothing_open nothing_cut h.done text)) read_it in
-      streamed_rows old new read sent (h.done ++ text ∷ []) all (t.skin ∙ r.skin ∙ skin) (t.width ∙ r.width ∙ width) (t.stands (cut_so_far (h.done ++ text ∷ [])) sent cut);
+      let k : HasRead (behind_mark read) old sent = h.behind in
+      let all : source_lines (behind_mark read) ≡ k.done ++ text ∷ [] =
+      ap source_lines (sym (append-nil (behind_mark read))) ∙ k.joins [] ∙ ap (λ (l : List ℕ). k.done ++ source_lines l) (append-nil (string_bytes old.line) ∙ sym is)
+      ∙ ap (λ (ls : List (List ℕ)). k.done ++ ls) (one_line text (subst HasNoNewline (sym is) k.begun) some) in
+      let read_it : Stands (line_cut (source_read (open_after nothing_open k.done) text).role text (cut_so_far k.done)) next sent =
+      subst (λ (st : State). Stands (line_cut (source_read st text).role text (cut_so_far k.done)) next sent) (reader ∙ k.«open») (r.stands (cut_so_far k.done) sent (stands (cut_so_far k.done) sent k.stands)) in
+      let cut : Stands (cut_so_far (k.done ++ text ∷ [])) next sent = subst (λ (c : Cutting). Stands c next sent) (sym (cut_more nothing_open nothing_cut k.done text)) read_it in
+      streamed_rows old new read sent (k.done ++ text ∷ []) all (t.skin ∙ r.skin ∙ skin) (t.width ∙ r.width ∙ width) (t.stands (cut_so_far (k.done ++ text ∷ [])) sent cut);
 }
 
 -- ---- what went out
@@ -336,26 +390,28 @@ ended_within old mid next new text is some reader stands skin width r t = record
 -- whatever comes, what went out is a front of the rows
 pub begins_streamed : (read later whole sent : List ℕ) (s : MarkdownStream) → whole ≡ read ++ later → IsInStep read s sent → BeginsStreamed s.skin s.width whole sent
 begins_streamed read later whole sent s is h =
-    let cut : Cutting = cut_so_far h.done in
-    let more : List (List ℕ) = source_lines (string_bytes s.line ++ later) in
-    let parts = goes_on_to_end (open_after nothing_open h.done) cut more in
+    let k : HasRead (behind_mark read) s sent = h.behind in
+    let next : List ℕ = coming s.fresh later in
+    let cut : Cutting = cut_so_far k.done in
+    let more : List (List ℕ) = source_lines (string_bytes s.line ++ next) in
+    let parts = goes_on_to_end (open_after nothing_open k.done) cut more in
     let shown : Showing = parts_shown nothing_shown cut.parts in
     let rest = shown_goes_on shown parts.0 in
     record {
       front = shown.lines;
       rest = rest.0;
-      joins = streamed_of whole (h.done ++ more) (ap source_lines is ∙ h.joins later)
-          ∙ ap (λ (c : Cutting). (parts_shown nothing_shown (completed c).parts).lines) (cut_both nothing_open nothing_cut h.done more)
-          ∙ ap (λ (ps : List SourcePart). (parts_shown nothing_shown ps).lines) parts.1 ∙ ap (λ (k : Showing). k.lines) (shown_both nothing_shown cut.parts parts.0) ∙ rest.1;
-      lines = h.stands.rows.lines;
-      layout = h.stands.rows.layout;
+      joins = streamed_of whole (k.done ++ more) (ap source_lines (ap behind_mark is ∙ h.goes_on later) ∙ k.joins next)
+          ∙ ap (λ (c : Cutting). (parts_shown nothing_shown (completed c).parts).lines) (cut_both nothing_open nothing_cut k.done more)
+          ∙ ap (λ (ps : List SourcePart). (parts_shown nothing_shown ps).lines) parts.1 ∙ ap (λ (sh : Showing). sh.lines) (shown_both nothing_shown cut.parts parts.0) ∙ rest.1;
+      lines = k.stands.rows.lines;
+      layout = k.stands.rows.layout;
       left = s.rows.items;
-      rows = h.stands.rows.bytes;
+      rows = k.stands.rows.bytes;
     }
 
 -- the same stream, some of whose rows went out
-in_step_sent : (read sent bytes : List ℕ) (old new : MarkdownStream) → old.rows.items ≡ bytes ++ new.rows.items → new ≡ record old { rows = new.rows } → IsInStep read old sent → IsInStep read new (sent ++ bytes)
-in_step_sent read sent bytes old new rows same h = record {
+read_sent : (read sent bytes : List ℕ) (old new : MarkdownStream) → old.rows.items ≡ bytes ++ new.rows.items → new ≡ record old { rows = new.rows } → HasRead read old sent → HasRead read new (sent ++ bytes)
+read_sent read sent bytes old new rows same h = record {
   done = h.done;
   joins = λ later. h.joins later ∙ ap (λ (l : List ℕ). h.done ++ source_lines (l ++ later)) (sym line);
   begun = subst HasNoNewline (sym line) h.begun;
@@ -381,6 +437,12 @@ in_step_sent read sent bytes old new rows same h = record {
 
     width : new.width ≡ old.width
     width = ap (λ (s : MarkdownStream). s.width) same
+
+in_step_sent : (read sent bytes : List ℕ) (old new : MarkdownStream) → old.rows.items ≡ bytes ++ new.rows.items → new ≡ record old { rows = new.rows } → IsInStep read old sent → IsInStep read new (sent ++ bytes)
+in_step_sent read sent bytes old new rows same h = record {
+  goes_on = λ later. h.goes_on later ∙ ap (λ (f : Bool). behind_mark read ++ coming f later) (sym (ap (λ (s : MarkdownStream). s.fresh) same));
+  behind = read_sent (behind_mark read) sent bytes old new rows same h.behind;
+}
 
 fed_by : (old mid new : MarkdownStream) (piece : List ℕ) (before : Trace) (fault : Trace → Trace) (now : Trace) → TakesPiece old piece mid → Sent mid new before fault now → Fed old piece new before fault now
 fed_by old mid new piece before fault now t s = record {

@@ -1,25 +1,20 @@
 -- Where a text is cut into parts: before a line in which nothing that was open goes on, and after one that leaves nothing open.
-use Rattle.std.specs.Prelude.{ℕ, ◌-◌, Bool, true, false, ◌||◌, ◌&&◌, ◌==◌, nat_lt, List, [], ◌∷◌, ◌++◌, length, take, slice_index, if◌then◌else◌}
+use Rattle.std.specs.Prelude.{ℕ, Bool, true, false, ◌||◌, ◌&&◌, ◌==◌, nat_lt, List, [], ◌∷◌, ◌++◌, length, fold, if◌then◌else◌}
 use Rattle.std.specs.List.{onto_first}
-use Rattle.std.specs.Str.Lines.{strip_carriage_return}
+use Rattle.markdown_blocks.specs.Lines.{text_lines}
 use Rattle.markdown_blocks.specs.Steps.{State, Line, step}
 use Rattle.markdown_blocks.specs.declared.leaves.Deed.{Deed}
 use Rattle.markdown_blocks.specs.declared.leaves.Deed.TheVariants.{Blank, Begins, Html, GoesOn, Tabulates, Heading, Rule}
 use Rattle.markdown_blocks.specs.declared.leaves.Leaf.TheVariants.{Nothing}
+use Rattle.markdown_stream.specs.declared.cuts.Role.{Role}
 
 -- ---- lines
 
--- The lines, each with the newline that ends it. What follows the last newline is a line unless it is empty.
+-- The lines of the source, each with the newline that ends it. What follows the last newline is a line unless it is empty. A return alone ends
+-- none of these: the lines of Markdown that it ends are in one.
 unfoldable pub source_lines : List ℕ → List (List ℕ)
 source_lines [] = []
 source_lines (b ∷ bs) = if b == 10 then (10 ∷ []) ∷ source_lines bs else onto_first b (source_lines bs)
-
-abbrev pub without_newline : List ℕ → List ℕ
-without_newline line = if slice_index line (length line - 1) == 10 then take (length line - 1) line else line
-
--- a line without its end: a newline, and a return before it
-abbrev pub content : List ℕ → List ℕ
-content line = strip_carriage_return (without_newline line)
 
 -- ---- what a line is
 
@@ -54,6 +49,31 @@ is_blank_deed _ = false
 abbrev pub is_passed : Line → Bool
 is_passed line = (line.opened == 0) && is_blank_deed line.deed
 
+-- ---- lines of the source
+
+-- of the first of some lines: what it says, or else what this line says
+abbrev pub at_first : Role → Bool → Bool → Bool
+at_first role first this = if role.some then first else this
+
+-- what lines do that are in one line of the source: the first begins it, and the last ends it
+abbrev pub role_after : Role → Line → Role
+role_after role line = record { some = true; begins = at_first role role.begins (begins_anew line); led = at_first role role.led (is_passed line); passed = is_passed line; ends = ends_all line }
+
+abbrev pub no_line : Role
+no_line = record { some = false; begins = false; led = false; passed = false; ends = false }
+
+-- what is open after some lines, and what they do
+pub record Reading : Type 0 where
+  pub state : State
+  pub role : Role
+
+abbrev pub line_read : Reading → List ℕ → Reading
+line_read reading line = record { state = (step reading.state line).state; role = role_after reading.role (step reading.state line).line }
+
+-- a line of the source is read: each of the lines of Markdown that are in it
+abbrev pub source_read : State → List ℕ → Reading
+source_read state text = fold line_read (record { state = state; role = no_line }) (text_lines text)
+
 -- ---- parts
 
 -- A part of a text: its lines, and whether a blank line is before it.
@@ -79,12 +99,16 @@ completed c = record { parts = c.parts ++ record { source = c.held; apart = c.ap
 abbrev pub completed_if : Bool → Cutting → Cutting
 completed_if over c = if over then completed c else c
 
-abbrev pub joined_by : Line → List ℕ → Cutting → Cutting
-joined_by line text c = record c { held = c.held ++ text; passed = is_passed line }
+-- a blank line is before a part, or is its first
+abbrev pub is_apart : Bool → List ℕ → Bool → Bool
+is_apart apart held led = apart || ((length held == 0) && led)
 
--- a line comes, which is that
-abbrev pub line_cut : Line → List ℕ → Cutting → Cutting
-line_cut line text c = completed_if (ends_all line) (joined_by line text (completed_if (begins_anew line) c))
+abbrev pub joined_by : Role → List ℕ → Cutting → Cutting
+joined_by role text c = record c { held = c.held ++ text; apart = is_apart c.apart c.held role.led; passed = role.passed }
+
+-- a line of the source comes, which does that
+abbrev pub line_cut : Role → List ℕ → Cutting → Cutting
+line_cut role text c = completed_if role.ends (joined_by role text (completed_if role.begins c))
 
 -- what is open at the beginning of a text
 abbrev pub nothing_open : State
@@ -93,12 +117,12 @@ nothing_open = record { containers = []; leaf = Nothing; defining = []; cells = 
 -- what is open after these lines
 unfoldable pub open_after : State → List (List ℕ) → State
 open_after state [] = state
-open_after state (text ∷ texts) = open_after (step state (content text)).state texts
+open_after state (text ∷ texts) = open_after (source_read state text).state texts
 
 -- these lines come, one after the other
 unfoldable pub lines_cut : State → Cutting → List (List ℕ) → Cutting
 lines_cut state c [] = c
-lines_cut state c (text ∷ texts) = lines_cut (step state (content text)).state (line_cut (step state (content text)).line text c) texts
+lines_cut state c (text ∷ texts) = lines_cut (source_read state text).state (line_cut (source_read state text).role text c) texts
 
 -- how far these lines are cut
 abbrev pub cut_so_far : List (List ℕ) → Cutting

@@ -10,6 +10,7 @@ use Rattle.mad_stream.specs.Sources.{Streamed, IsReadOut, IsNoText}
 use Rattle.mad_stream.specs.declared.source_error.SourceError.{SourceError}
 use Rattle.mad_stream.specs.declared.source_error.SourceError.TheVariants.{Source, Device, NotUtf8, Memory}
 use Rattle.mad_term.specs.Trace.{Trace, failed}
+use Rattle.markdown_lines.specs.Texts.{behind_mark}
 use Rattle.markdown_stream.specs.Cuts.{source_lines, cut_so_far}
 use Rattle.markdown_stream.specs.Streamed.{nothing_shown, parts_shown}
 use Rattle.markdown_stream.specs.Streams.{IsStreamed, BeginsStreamed}
@@ -18,7 +19,7 @@ use Rattle.markdown_stream.specs.Streams.{IsStreamed, BeginsStreamed}
 pub record AreCompleteRows (skin : RowSkin) (width : Option ℕ) (text bytes : List ℕ) : Type 0 where
   pub done : List (List ℕ)
   pub begun : List ℕ
-  pub joins : source_lines text ≡ done ++ source_lines begun
+  pub joins : source_lines (behind_mark text) ≡ done ++ source_lines begun
   pub line : HasNoNewline begun
   pub lines : List FmtLine
   pub layout : IsLayoutAt (line_rules skin) width (parts_shown nothing_shown (cut_so_far done).parts).lines lines

@@ -2,7 +2,8 @@
 use Rattle.std.specs.Prelude.{ℕ, Bool, true, false, ◌||◌, ◌&&◌, List, [], ◌∷◌, ◌++◌, if◌then◌else◌}
 use Rattle.mad_md.specs.Lines.{LineContent, normal}
 use Rattle.mad_md.specs.declared.composite.CompositeStyle.TheVariants.{Paragraph}
-use Rattle.markdown_reader.specs.Markdown.{markdown_lines}
+use Rattle.markdown_lines.specs.Texts.{behind_mark}
+use Rattle.markdown_reader.specs.Markdown.{unmarked_lines}
 use Rattle.markdown_stream.specs.Cuts.{SourcePart, source_parts}
 use Rattle.markdown_stream.specs.Gaps.{begins_big, ends_big}
 use Rattle.markdown_stream.specs.declared.stream.Shown.{Shown}
@@ -40,13 +41,17 @@ lines_shown apart lines s = record { lines = s.lines ++ added s.last apart lines
 
 -- a part comes, which is read by itself
 abbrev pub part_shown : SourcePart → Showing → Showing
-part_shown part s = lines_shown part.apart (markdown_lines part.source) s
+part_shown part s = lines_shown part.apart (unmarked_lines part.source) s
 
 -- parts, one after the other
 unfoldable pub parts_shown : Showing → List SourcePart → Showing
 parts_shown s [] = s
 parts_shown s (part ∷ parts) = parts_shown (part_shown part s) parts
 
+-- what a text behind its byte order mark is shown as, part by part
+unfoldable pub unmarked_streamed : List ℕ → List LineContent
+unmarked_streamed text = (parts_shown nothing_shown (source_parts text)).lines
+
 -- what a text is shown as that comes in pieces
-unfoldable pub streamed_lines : List ℕ → List LineContent
-streamed_lines text = (parts_shown nothing_shown (source_parts text)).lines
+abbrev pub streamed_lines : List ℕ → List LineContent
+streamed_lines text = unmarked_streamed (behind_mark text)

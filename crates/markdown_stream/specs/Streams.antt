@@ -1,5 +1,5 @@
 -- Markdown as people write it that comes in pieces: what a stream has read, what it has laid out, and what its device took.
-use Rattle.std.specs.Prelude.{◌≡◌, ℕ, List, [], ◌++◌, Option, Result, Ok, Err, string_bytes}
+use Rattle.std.specs.Prelude.{◌≡◌, ℕ, ◌==◌, ◌&&◌, Bool, if◌then◌else◌, List, [], ◌++◌, length, Option, Result, Ok, Err, string_bytes}
 use Rattle.mad_blocks.specs.Layouts.{IsLayoutAt}
 use Rattle.mad_format.specs.declared.line.FmtLine.{FmtLine}
 use Rattle.mad_md.specs.Lines.{LineContent}
@@ -10,8 +10,9 @@ use Rattle.mad_rows.specs.declared.row_skin.RowSkin.{RowSkin}
 use Rattle.mad_term.specs.Trace.{Trace, after, failed}
 use Rattle.mad_term.specs.declared.errors.Error.{Error}
 use Rattle.mad_term.specs.declared.errors.Error.TheVariants.{IO, InsufficientWidth, Memory}
-use Rattle.markdown_blocks.specs.Steps.{state_of, step}
-use Rattle.markdown_stream.specs.Cuts.{Cutting, source_lines, content, line_cut, nothing_open, open_after, cut_so_far}
+use Rattle.markdown_blocks.specs.Steps.{state_of}
+use Rattle.markdown_lines.specs.Texts.{behind_mark}
+use Rattle.markdown_stream.specs.Cuts.{Cutting, source_lines, source_read, line_cut, nothing_open, open_after, cut_so_far}
 use Rattle.markdown_stream.specs.Streamed.{Showing, nothing_shown, parts_shown, streamed_lines, added, last_after}
 use Rattle.markdown_stream.specs.declared.stream.MarkdownStream.{MarkdownStream}
 
@@ -57,13 +58,27 @@ pub record Stands (cut : Cutting) (s : MarkdownStream) (sent : List ℕ) : Type 
   pub passed : s.passed ≡ cut.passed
   pub rows : HasRows (parts_shown nothing_shown cut.parts) s sent
 
--- A stream has read this text, whose whole lines are these, and its device took these bytes. What comes yet goes on with the line that has begun.
-pub record IsInStep (read : List ℕ) (s : MarkdownStream) (sent : List ℕ) : Type 0 where
+-- what a piece adds to a text behind its byte order mark: all of it, unless nothing came before
+abbrev pub coming : Bool → List ℕ → List ℕ
+coming fresh piece = if fresh then behind_mark piece else piece
+
+-- whether nothing came yet
+abbrev pub still_fresh : Bool → List ℕ → Bool
+still_fresh fresh piece = fresh && (length piece == 0)
+
+-- A stream has read this text behind its byte order mark, whose whole lines are these, and its device took these bytes. What comes yet goes on with
+-- the line that has begun.
+pub record HasRead (read : List ℕ) (s : MarkdownStream) (sent : List ℕ) : Type 0 where
   pub done : List (List ℕ)
   pub joins : (later : List ℕ) → source_lines (read ++ later) ≡ done ++ source_lines (string_bytes s.line ++ later)
   pub begun : HasNoNewline (string_bytes s.line)
   pub «open» : state_of s.reader ≡ open_after nothing_open done
   pub stands : Stands (cut_so_far done) s sent
+
+-- a stream has read this text, and its device took these bytes
+pub record IsInStep (read : List ℕ) (s : MarkdownStream) (sent : List ℕ) : Type 0 where
+  pub goes_on : (later : List ℕ) → behind_mark (read ++ later) ≡ behind_mark read ++ coming s.fresh later
+  pub behind : HasRead (behind_mark read) s sent
 
 -- all rows of complete parts went out
 abbrev pub IsPrompt : MarkdownStream → Type 0
@@ -92,22 +107,28 @@ pub record TakesPiece (old : MarkdownStream) (piece : List ℕ) (new : MarkdownS
   pub skin : new.skin ≡ old.skin
   pub width : new.width ≡ old.width
 
+-- so was a piece of the text behind its byte order mark
+pub record TakesText (old : MarkdownStream) (text : List ℕ) (new : MarkdownStream) : Type 0 where
+  pub keeps : (read sent : List ℕ) → HasRead read old sent → HasRead (read ++ text) new sent
+  pub skin : new.skin ≡ old.skin
+  pub width : new.width ≡ old.width
+
 -- the text is at its end, and nothing went out: the rows that are kept are all that are left
 pub record EndsText (old new : MarkdownStream) : Type 0 where
   pub whole : (read sent : List ℕ) → IsInStep read old sent → IsStreamed old.skin old.width read (sent ++ new.rows.items)
 
 -- a line was taken
 pub record ReadsLine (old : MarkdownStream) (text : List ℕ) (new : MarkdownStream) : Type 0 where
-  pub «open» : state_of new.reader ≡ (step (state_of old.reader) (content text)).state
-  pub stands : (cut : Cutting) (sent : List ℕ) → Stands cut old sent → Stands (line_cut (step (state_of old.reader) (content text)).line text cut) new sent
+  pub «open» : state_of new.reader ≡ (source_read (state_of old.reader) text).state
+  pub stands : (cut : Cutting) (sent : List ℕ) → Stands cut old sent → Stands (line_cut (source_read (state_of old.reader) text).role text cut) new sent
   pub line : string_bytes new.line ≡ string_bytes old.line
   pub skin : new.skin ≡ old.skin
   pub width : new.width ≡ old.width
 
 -- the line that had begun ended so, and was taken
 pub record EndsLine (old : MarkdownStream) (end : List ℕ) (new : MarkdownStream) : Type 0 where
-  pub «open» : state_of new.reader ≡ (step (state_of old.reader) (content (string_bytes old.line ++ end))).state
-  pub stands : (cut : Cutting) (sent : List ℕ) → Stands cut old sent → Stands (line_cut (step (state_of old.reader) (content (string_bytes old.line ++ end))).line (string_bytes old.line ++ end) cut) new sent
+  pub «open» : state_of new.reader ≡ (source_read (state_of old.reader) (string_bytes old.line ++ end)).state
+  pub stands : (cut : Cutting) (sent : List ℕ) → Stands cut old sent → Stands (line_cut (source_read (state_of old.reader) (string_bytes old.line ++ end)).role (string_bytes old.line ++ end) cut) new sent
   pub line : string_bytes new.line ≡ []
   pub skin : new.skin ≡ old.skin
   pub width : new.width ≡ old.width

@@ -3,11 +3,11 @@
 ghost use Rattle.std.specs.Prelude.{◌≡◌, ◌≤◌, ◌||◌, ℕ, List, [], ◌∷◌, OnOk, IfOk, length, drop};
 ghost use Rattle.markdown_layout.specs.WrittenMarkdown.{markdown_skin};
 ghost use Rattle.mad_md.specs.Lines.{contents};
-ghost use Rattle.markdown_stream.specs.Cuts.{completed, completed_if};
+ghost use Rattle.markdown_stream.specs.Cuts.{completed, completed_if, is_apart};
 ghost use Rattle.markdown_stream.specs.Streamed.{blank_line, gap, is_spaced};
-ghost use Rattle.markdown_stream.specs.Streams.{IsInStep, Feeds, Finishes, IsPrompt, Turns, ReadsLine, TakesPiece, EndsLine, EndsText, ShowsLines, KeepsRows, Sends};
+ghost use Rattle.markdown_stream.specs.Streams.{IsInStep, Feeds, Finishes, IsPrompt, Turns, ReadsLine, coming, still_fresh, TakesText, TakesPiece, EndsLine, EndsText, ShowsLines, KeepsRows, Sends};
 
-use crate::cuts::{begins_anew, content, ends_all, is_passed};
+use crate::cuts::read_source_line;
 use crate::gaps::{begins_big, ends_big};
 use mad_blocks::lay_text;
 use mad_layout::MadSkin;
@@ -16,6 +16,7 @@ use mad_rows::{PlacedLines, RowSkin};
 use mad_stream::cut_line;
 use mad_term::{Error, Out, put_counted};
 use markdown_blocks::BlockReader;
+use markdown_lines::texts::behind_mark;
 use markdown_reader::Markdown;
 use std::alloc::{AllocError, Global};
 use std::mem::replace;
@@ -37,12 +38,14 @@ struct Shown {
 /// blank one, a heading, the end of a fence. Else it is so before the line in which nothing that was open goes on. A line is complete with
 /// its newline.
 ///
-/// Each part is read by itself, so a link whose definition is in another part is text. What goes out in all is the same wherever the text
-/// was cut. It takes memory for the largest part, and for the rows of a piece.
+/// Each part is read by itself, so a link whose definition is in another part is text. A byte order mark at the front of the text is left
+/// out. What goes out in all is the same wherever the text was cut. It takes memory for the largest part, and for the rows of a piece.
 #[derive(Drop)]
 pub struct MarkdownStream {
     skin: RowSkin,
     width: Option<usize>,
+    // Whether nothing came yet.
+    fresh: bool,
     // What is open after the whole lines so far.
     reader: BlockReader,
     // The lines of the part that isn't complete, and whether a blank line is before it.
@@ -69,6 +72,7 @@ impl MarkdownStream {
         MarkdownStream {
             skin: markdown_skin(skin),
             width,
+            fresh: true,
             reader: BlockReader::new(alloc),
             held: String::new(alloc),
             apart: false,
@@ -115,7 +119,17 @@ impl MarkdownStream {
     fn take(&mut self, alloc: Global, piece: &str) -> Result<(), AllocError>
         ensures { OnOk result (TakesPiece self.old piece.now self.new) }
     {
-        let mut rest = piece;
+        let fresh = still_fresh(self.fresh, piece);
+        self.take_text(alloc, coming(self.fresh, piece))?;
+        self.fresh = fresh;
+        Ok(())
+    }
+
+    // Takes a piece of the text behind its byte order mark.
+    fn take_text(&mut self, alloc: Global, text: &str) -> Result<(), AllocError>
+        ensures { OnOk result (TakesText self.old text.now self.new) }
+    {
+        let mut rest = text;
         while let Some((line, after)) = cut_line(rest) {
             self.end_line(alloc, line)?;
             rest = after;
@@ -148,15 +162,16 @@ impl MarkdownStream {
         Ok(())
     }
 
-    // A line comes. It belongs to the part that is held, unless that ends before it.
+    // A line of the source comes. It belongs to the part that is held, unless that ends before it.
     fn read_line(&mut self, alloc: Global, line: &str) -> Result<(), AllocError>
         ensures { OnOk result (ReadsLine self.old line.now self.new) }
     {
-        let read = self.reader.read_line(content(line).as_bytes())?;
-        self.complete_if(alloc, begins_anew(&read))?;
+        let role = read_source_line(&mut self.reader, line.as_bytes())?;
+        self.complete_if(alloc, role.begins)?;
+        self.apart = is_apart(self.apart, self.held.as_str(), role.led);
         self.held.push_str(line)?;
-        self.passed = is_passed(&read);
-        self.complete_if(alloc, ends_all(&read))?;
+        self.passed = role.passed;
+        self.complete_if(alloc, role.ends)?;
         Ok(())
     }
 
@@ -175,7 +190,7 @@ impl MarkdownStream {
     fn complete(&mut self, alloc: Global) -> Result<(), AllocError>
         ensures { OnOk result (Turns completed self.old self.new) }
     {
-        let read = Markdown::read(alloc, self.held.as_str())?;
+        let read = Markdown::read_unmarked(alloc, self.held.as_str())?;
         let text = read.text(alloc)?;
         self.show(alloc, text)?;
         self.held.clear();
@@ -244,6 +259,27 @@ impl MarkdownStream {
             Err(error) => Err(Error::IO(error)),
         }
     }
+}
+
+// What a piece adds to a text behind its byte order mark: all of it, unless nothing came before.
+fn coming(fresh: bool, piece: &str) -> &str
+    ensures { result.now ≡ coming fresh piece.entry.now }
+{
+    if fresh { behind_mark(piece) } else { piece }
+}
+
+// Whether nothing came yet.
+fn still_fresh(fresh: bool, piece: &str) -> bool
+    ensures { result ≡ still_fresh fresh piece.now }
+{
+    fresh && piece.is_empty()
+}
+
+// Whether a blank line is before a part, or is its first.
+fn is_apart(apart: bool, held: &str, led: bool) -> bool
+    ensures { result ≡ is_apart apart held.now led }
+{
+    apart || (held.is_empty() && led)
 }
 
 fn either(first: bool, second: bool) -> bool

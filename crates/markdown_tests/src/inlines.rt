@@ -4,9 +4,8 @@
 //! has a line for each run of what is shown: how it looks, and its text after a bar. Then comes a line for each link, with what it leads to.
 //! A break of a line is `⏎`, and the picture of a control character is its number. In a text `□` is U+0085 and `←` U+202E.
 
-use indexmap::IndexSet;
 use markdown_addresses::addresses::Scheme;
-use markdown_brackets::labels::normal;
+use markdown_brackets::labels::{Labels, normal};
 use markdown_inlines::inlines::{LinkTarget, leaf_text};
 use markdown_inlines::looks::Look;
 use markdown_inlines::styled::Styled;
@@ -45,8 +44,8 @@ fn draw_char(picture: &mut String, c: char) -> Result<(), AllocError> {
 }
 
 // The labels that a call names, as they are compared.
-fn labels_of(alloc: Global, call: &str) -> Result<IndexSet<String>, AllocError> {
-    let mut labels = IndexSet::new(alloc);
+fn labels_of(alloc: Global, call: &str) -> Result<Labels, AllocError> {
+    let mut labels = Labels::new(alloc);
     let names = call.split_once(": ").unwrap_or(("", "")).1;
     for name in names.split("; ") {
         if let Some(label) = normal(alloc, name.as_bytes())? {

@@ -8,6 +8,8 @@
 //! 4. [`pieces`]: `pieces`, the inlines of a text's leaves.
 //! 5. [`shown`]: `shown`, the lines that are shown of a text, and `links`, its links.
 //!
+//! In a text `▪` is a byte order mark.
+//!
 //! As `--told CALL FILE` it answers the call of each text of a file, with a line `==` before each answer. A byte 1 stands between two texts. So
 //! `tools/commonmark` and `tools/markdown_files` ask it.
 #![tactic(auto)]
@@ -26,6 +28,8 @@ struct MarkdownCalls;
 
 impl Calls for MarkdownCalls {
     fn answer(&self, alloc: Global, call: &str, text: &str) -> Result<String, AllocError> {
+        let text: String = text.chars().map(meant).collect(alloc)?;
+        let text = text.as_str();
         match call {
             "lines" => lines::picture_of(alloc, text),
             "blocks" => blocks::picture_of(alloc, text),
@@ -34,6 +38,14 @@ impl Calls for MarkdownCalls {
             "shown" => shown::draw_lines(alloc, text),
             _ => inlines::draw_inlines(alloc, call, text),
         }
+    }
+}
+
+// The character that a sign means.
+fn meant(sign: char) -> char {
+    match sign {
+        '▪' => '\u{feff}',
+        _ => sign,
     }
 }
 

@@ -1,10 +1,9 @@
 //! The inlines of a text's leaves. Of each leaf there is a line with its text, a line for each piece, and one for each pair of runs: the indices of the two
 //! pieces, and how many marks the pair takes.
 
-use indexmap::IndexSet;
 use markdown_addresses::addresses::Scheme;
 use markdown_brackets::brackets::Link;
-use markdown_brackets::labels::normal;
+use markdown_brackets::labels::{Labels, normal};
 use markdown_destinations::destinations::{Destination, defined_leads, link_leads};
 use markdown_emphasis::Pair;
 use markdown_inlines::inlines::LinkTarget;
@@ -24,7 +23,7 @@ use std::fmt::Write;
 /// What the definitions of a text lead to, by the numbers of their labels.
 #[derive(Drop)]
 struct Definitions {
-    labels: IndexSet<String>,
+    labels: Labels,
     leads: Vec<Destination>,
 }
 
@@ -43,7 +42,7 @@ fn label_of(definition: &[u8]) -> &[u8] {
 // The first definition of each label counts.
 fn add_definitions(
     alloc: Global,
-    seen: &mut IndexSet<String>,
+    seen: &mut Labels,
     leads: &mut Vec<Destination>,
     text: &[u8],
 ) -> Result<(), AllocError> {
@@ -63,7 +62,7 @@ fn add_definitions(
 }
 
 fn definitions_of(alloc: Global, parts: &[Part<'_>]) -> Result<Definitions, AllocError> {
-    let mut seen = IndexSet::new(alloc);
+    let mut seen = Labels::new(alloc);
     let mut leads = Vec::new(alloc);
     for part in parts {
         if let Part::Block(block) = part {

@@ -18,12 +18,14 @@ use Rattle.termimad_page_run.specs.Blocks.{IsToldStep, IsToldDone, turn_told, Is
 
 -- ---- how a session goes on
 
+-- a session that has this end ends so
 pub ends_is : (turn : Turn) (end : End) → end_of turn ≡ Some end → turn ≡ Ends end
 ends_is (Ends e) end h = let same : e ≡ end = cc in ap Ends same
 ends_is Goes end h = absurd (cc)
 ends_is AsksSize end h = absurd (cc)
 ends_is (Opens overlay) end h = absurd (cc)
 
+-- what doesn't end has no end
 pub none_some : (end : End) → None ≡ Some end → ⊥
 none_some end h = absurd (cc)
 
@@ -88,6 +90,7 @@ told_done s events asks mid None new h same goes =
     (subst (λ (es : List Event). IsSession s es asks new) (sym (append-nil events)) (subst (λ (n : View). IsSession s events asks n) (sym same) h))
 told_done s events asks mid (Some event) new h step goes = event_more s events asks mid event new h step goes
 
+-- one event more, if one was told, is done, and may ask for the size
 pub session_more : (s : View) (events : List Event) (asks : Bool) (mid : View) (told : Option Event) (new : View) (asked : Bool)
     → IsSession s events asks mid → IsToldStep told mid new → end_of (turn_told told mid) ≡ None → asked ≡ asks_size (turn_told told mid)
     → IsSession s (events ++ listed told) (asks || asked) new
@@ -121,6 +124,7 @@ escape_goes : (over : Option Leaf) (text : Leaf) → turn_at over (Key escape_ke
 escape_goes None text = key_goes text.state.is_typing text.state.page
 escape_goes (Some over) text = over_goes (over.state.is_typing || over.state.page.has_colon) (has_choice over.content) over.state
 
+-- what a pause tells doesn't end a session
 pub pause_goes : (w : List ℕ) (s : View) → turn_told (lone_escape w) s ≡ Goes
 pause_goes [] s = refl
 pause_goes (a ∷ []) s = elim (a == 27) as (λ b. turn_told (if b then Some (Key escape_key) else None) s ≡ Goes) [ true ↦ escape_goes s.over s.text | false ↦ refl ]

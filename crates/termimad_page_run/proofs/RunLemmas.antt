@@ -66,6 +66,7 @@ session_order : (events : List Event) (v : View) (asks : Bool) (new : View) → 
 session_order [] v asks new (none, same) h = subst IsOrderlyView (sym same) h
 session_order (event ∷ events) v asks new (mid, others, step, goes, is, rest) h = session_order events mid others new rest (step_order event v mid step h)
 
+-- a turn leaves the sessions orderly
 pub turn_order : (block : List ℕ) (before after : Moment) → IsTurn block before after → IsOrderlyView after.view
 turn_order block before after turn =
     let done = turn.done in

@@ -9,7 +9,6 @@ use crate::failure::{Failure, refuse};
 use crate::input::read_all;
 use crate::notice::say_unknown;
 use crate::writing::{write_as_it_comes, write_call};
-use mad_decoding::text_of;
 use mad_term::{Out, Source};
 use std::alloc::Global;
 
@@ -56,7 +55,7 @@ fn execute<I: Source, O: Out, E: Out>(
         return Ok(());
     }
     let bytes = read_all(alloc, input)?;
-    let Some(text) = text_of(bytes.as_slice()) else {
+    let Ok(text) = simdutf8::from_utf8_baseline(bytes.as_slice()) else {
         return Err(Failure::NotUtf8);
     };
     write_call(alloc, out, &call.skin, &call.command, text)?;

@@ -2,7 +2,7 @@ use Rattle.std.proofs.Common.{◌++◌, ◌∙◌, ap}
 use Rattle.std.specs.Prelude.{string_bytes}
 use Rattle.mad_links.specs.LinkRows.{linked_bytes}
 use Rattle.mad_marks.specs.LineMarks.{has_mark}
-use Rattle.mad_marked_text.specs.Paints.{paint_by}
+use Rattle.mad_marked_rows.specs.Paints.{paint_by}
 use Rattle.mad_marked_rows.proofs.RowLemmas.{begins_same, composite_row, compounds_same}
 use Rattle.mad_marked_rows.proofs.composites.append_composite.Goals as goal
 

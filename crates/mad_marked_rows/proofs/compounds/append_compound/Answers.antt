@@ -3,7 +3,7 @@ use Rattle.std.specs.Prelude.{string_bytes}
 use Rattle.mad_term.specs.Styles.{piece_bytes}
 use Rattle.mad_term.specs.declared.styles.ContentStyle.{ContentStyle}
 use Rattle.mad_marks.specs.LineMarks.{has_mark}
-use Rattle.mad_marked_text.specs.Paints.{paint_by}
+use Rattle.mad_marked_rows.specs.Paints.{paint_by}
 use Rattle.mad_marked_rows.proofs.RowLemmas.{bare_number, bare_on, counted_number, counted_on}
 use Rattle.mad_marked_rows.proofs.compounds.append_compound.Goals as goal
 

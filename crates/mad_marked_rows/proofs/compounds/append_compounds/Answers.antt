@@ -1,8 +1,8 @@
 use Rattle.std.proofs.Common.{◌≤◌, arith}
 use Rattle.std.specs.Prelude.{string_bytes}
 use Rattle.mad_marks.specs.LineMarks.{has_mark}
-use Rattle.mad_marked_text.specs.Paints.{paint_by}
-use Rattle.mad_marked_text.proofs.CursorLemmas.{same_joined}
+use Rattle.mad_marked_rows.specs.Paints.{paint_by}
+use Rattle.mad_marked_rows.proofs.CursorLemmas.{same_joined}
 use Rattle.mad_marked_rows.specs.LinkedRows.{linked_compounds}
 use Rattle.mad_marked_rows.proofs.RowLemmas.{compound_gone, compounds_done}
 use Rattle.mad_marked_rows.proofs.compounds.append_compounds.Goals as goal

@@ -1,9 +1,9 @@
 use Rattle.std.proofs.Common.{◌≡◌, None, drop}
 use Rattle.std.specs.Prelude.{string_bytes}
 use Rattle.mad_marks.specs.LineMarks.{has_mark}
-use Rattle.mad_marked_text.specs.LinkedTexts.{pieces_on}
-use Rattle.mad_marked_text.specs.MarkedTexts.{SameFrom}
-use Rattle.mad_marked_text.specs.Paints.{paint_by}
+use Rattle.mad_marked_rows.specs.LinkedTexts.{pieces_on}
+use Rattle.mad_marked_rows.specs.MarkedTexts.{SameFrom}
+use Rattle.mad_marked_rows.specs.Paints.{paint_by}
 use Rattle.mad_marked_rows.specs.LinkedRows.{linked_compounds}
 use Rattle.mad_marked_rows.proofs.compounds.append_compounds.Given as goal
 

@@ -6,7 +6,7 @@ use Rattle.mad_draw.specs.Pieces.{char_piece}
 use Rattle.mad_links.specs.LinkRows.{linked_bytes}
 use Rattle.mad_format.specs.declared.composite.FmtComposite.{FmtComposite}
 use Rattle.mad_marks.specs.LineMarks.{has_mark}
-use Rattle.mad_marked_text.specs.Paints.{paint_by}
+use Rattle.mad_marked_rows.specs.Paints.{paint_by}
 use Rattle.mad_marked_rows.specs.LinkedRows.{linked_composite}
 use Rattle.mad_marked_rows.proofs.RowLemmas.{cell_gone}
 use Rattle.mad_marked_rows.proofs.lines.append_cells.Goals as goal

@@ -2,7 +2,7 @@ use Rattle.std.proofs.Common.{◌≡◌, ◌++◌, drop}
 use Rattle.std.specs.Prelude.{string_bytes}
 use Rattle.mad_links.specs.LinkRows.{linked_bytes}
 use Rattle.mad_marks.specs.LineMarks.{has_mark}
-use Rattle.mad_marked_text.specs.Paints.{paint_by}
+use Rattle.mad_marked_rows.specs.Paints.{paint_by}
 use Rattle.mad_marked_rows.specs.LinkedRows.{linked_cells}
 use Rattle.mad_marked_rows.proofs.lines.append_cells.Given as goal
 

@@ -2,7 +2,7 @@ use Rattle.std.proofs.Common.{List, ℕ, ◌++◌, ◌∙◌, ap}
 use Rattle.std.specs.Prelude.{string_bytes}
 use Rattle.mad_draw.specs.Pieces.{pieces_bytes}
 use Rattle.mad_marks.specs.LineMarks.{has_mark}
-use Rattle.mad_marked_text.specs.Paints.{paint_by}
+use Rattle.mad_marked_rows.specs.Paints.{paint_by}
 use Rattle.mad_rows.specs.Rows.{line_pieces}
 use Rattle.mad_marked_rows.proofs.RowLemmas.{plain_line}
 use Rattle.mad_marked_rows.proofs.lines.append_marked_line.Goals as goal

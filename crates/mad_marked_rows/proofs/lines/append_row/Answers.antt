@@ -4,7 +4,7 @@ use Rattle.mad_term.specs.Styles.{piece_bytes}
 use Rattle.mad_style.specs.declared.styled_chars.StyledChar.{StyledChar}
 use Rattle.mad_draw.specs.Pieces.{char_piece}
 use Rattle.mad_marks.specs.LineMarks.{has_mark}
-use Rattle.mad_marked_text.specs.Paints.{paint_by}
+use Rattle.mad_marked_rows.specs.Paints.{paint_by}
 use Rattle.mad_marked_rows.proofs.RowLemmas.{row_bytes}
 use Rattle.mad_marked_rows.proofs.lines.append_row.Goals as goal
 

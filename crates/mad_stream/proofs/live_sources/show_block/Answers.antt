@@ -19,5 +19,5 @@ returns-in_err-flush g c =
 
 pub returns : goal.returns
 returns g c =
-    block_shown c.args.live.now c.show_piece.new.live c.args.place c.place_after.result c.args.block.now c.cut_text-is_wrong.result.0.now c.as_str.result.now c.cut_text-is_wrong.result.1 _ (g.O.Out.seen c.show_piece.new.out) _ c.cut_text-is_wrong.ensures.front c.cut_text-is_wrong.ensures.short
-    c.cut_text-is_wrong.ensures.wrong c.place_after.ensures (c.as_str.ensures.value ∙ c.in-Ok.ensures) c.in_ok-show_piece.ensures c.in_ok-flush.ensures
+    block_shown c.args.live.now c.show_piece.new.live c.args.spot _ c.args.block.now c.cut_text-is_wrong.result.0.now c.as_str.result.now c.cut_text-is_wrong.result.1 _ (g.O.Out.seen c.show_piece.new.out) _ c.cut_text-is_wrong.ensures.front c.cut_text-is_wrong.ensures.short
+    c.cut_text-is_wrong.ensures.wrong c.in-Ok.ensures.spot (c.as_str.ensures.value ∙ c.in-Ok.ensures.text) c.in_ok-show_piece.ensures c.in_ok-flush.ensures

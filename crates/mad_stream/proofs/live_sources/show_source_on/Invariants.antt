@@ -7,5 +7,5 @@ abbrev pub invariant-loop-block : goal.invariant-loop-block
 invariant-loop-block g l = record {
   few : l.waiting ≤ 3;
   size : length l.block ≡ 16384;
-  so_far : LiveSoFar (row_skin l.fn.skin) l.fn.width l.fn.height (g.I.Source.seen l.fn.input) (g.O.Out.seen l.fn.out) l.live l.place (take l.waiting l.block) l._block (g.I.Source.seen l.input) (g.O.Out.seen l.out);
+  so_far : LiveSoFar (row_skin l.fn.skin) l.fn.width l.fn.height (g.I.Source.seen l.fn.input) (g.O.Out.seen l.fn.out) l.live l.spot (take l.waiting l.block) l._block (g.I.Source.seen l.input) (g.O.Out.seen l.out);
 }

@@ -1,4 +1,4 @@
-use Rattle.std.proofs.Common.{◌≡◌, ℕ, ◌+◌, ◌≤◌, subst, List, [], ◌∷◌, ◌++◌, map, drop, length, refl, sym, ap, ◌∙◌, arith, string_bytes}
+use Rattle.std.proofs.Common.{◌≡◌, ℕ, ◌+◌, ◌≤◌, subst, List, [], ◌∷◌, ◌++◌, drop, length, refl, sym, ap, ◌∙◌, arith}
 use Rattle.std.proofs.lemmas.List.{length-append}
 use Rattle.markdown_emphasis.specs.declared.runs.Pair.{Pair}
 use Rattle.markdown_brackets.specs.Brackets.{Reading, nothing_read}
@@ -20,7 +20,7 @@ read_all labels text at ps r over same = sym (cut_end labels text at (length ps)
 
 pub loop-at-preserved : goal.loop-at-preserved
 loop-at-preserved c =
-    let labels : List (List ℕ) = map string_bytes c.args.labels.now.keys in
+    let labels : List (List ℕ) = c.args.labels.now in
     let text : List ℕ = c.args.text.now in
     let at : ℕ = c.loop-at.at in
     let ps : List Piece = c.loop-at.pieces.items in
@@ -38,7 +38,7 @@ loop-at-preserved c =
 
 pub returns-clause-cut : goal.returns-clause-cut
 returns-clause-cut c =
-    let labels : List (List ℕ) = map string_bytes c.args.labels.now.keys in
+    let labels : List (List ℕ) = c.args.labels.now in
     let text : List ℕ = c.args.text.now in
     let ps : List Piece = c.loop-at.pieces.items in
     let r : Reading = reading_of c.loop-at.brackets in
@@ -49,7 +49,7 @@ returns-clause-cut c =
 
 pub returns-clause-placed : goal.returns-clause-placed
 returns-clause-placed c =
-    let labels : List (List ℕ) = map string_bytes c.args.labels.now.keys in
+    let labels : List (List ℕ) = c.args.labels.now in
     let text : List ℕ = c.args.text.now in
     let ps : List Piece = c.loop-at.pieces.items in
     let done : record { pieces = ps; reading = reading_of c.loop-at.brackets } ≡ cut_from labels text 0 0 0 nothing_read text =
@@ -58,7 +58,7 @@ returns-clause-placed c =
 
 pub returns-clause-pairs : goal.returns-clause-pairs
 returns-clause-pairs c =
-    let labels : List (List ℕ) = map string_bytes c.args.labels.now.keys in
+    let labels : List (List ℕ) = c.args.labels.now in
     let text : List ℕ = c.args.text.now in
     let ps : List Piece = c.loop-at.pieces.items in
     let done : record { pieces = ps; reading = reading_of c.loop-at.brackets } ≡ cut_from labels text 0 0 0 nothing_read text =

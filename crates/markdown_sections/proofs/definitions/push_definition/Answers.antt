@@ -10,8 +10,8 @@ pub returns-in_ok-push-in-Some : goal.returns-in_ok-push-in-Some
 returns-in_ok-push-in-Some c =
     let old = c.args.definitions.now in
     let addresses : List (List ℕ) = map string_bytes old.addresses.items in
-    definition_new string_bytes old.labels.keys c.insert.new.self.keys c.in-Some.label addresses (map string_bytes c.push.new.self.items) c.args.text.now
-    (sym c.if-branch.true ∙ c.in_ok-insert-in-Some.ensures.added) c.in_ok-insert-in-Some.ensures.keys
+    definition_new old.labels c.insert.new.self (string_bytes c.in-Some.label) addresses (map string_bytes c.push.new.self.items) c.args.text.now
+    (sym c.if-branch.true ∙ c.in_ok-insert-in-Some.ensures.is_new) c.in_ok-insert-in-Some.ensures.labels
     (ap (map string_bytes) c.in_ok-push-in-Some.ensures.items ∙ map-append string_bytes old.addresses.items (c.in_ok-address-in-Some.address ∷ []) ∙ ap (λ (a : List ℕ). addresses ++ a ∷ []) c.in_ok-address-in-Some.ensures)
     ∙ ap (λ label. with_definition (defined_of old) label c.args.text.now) (ap (option_map string_bytes) (sym c.in-Some.is) ∙ c.in_ok-normal.ensures ∙ ap normal c.label_of.ensures)
 
@@ -19,6 +19,6 @@ pub returns-else-branch : goal.returns-else-branch
 returns-else-branch c =
     let old = c.args.definitions.now in
     let addresses : List (List ℕ) = map string_bytes old.addresses.items in
-    definition_old string_bytes old.labels.keys c.insert.new.self.keys c.in-Some.label addresses addresses c.args.text.now
-    (sym c.if-branch.false ∙ c.in_ok-insert-in-Some.ensures.added) c.in_ok-insert-in-Some.ensures.keys refl
+    definition_old old.labels c.insert.new.self (string_bytes c.in-Some.label) addresses addresses c.args.text.now
+    (sym c.if-branch.false ∙ c.in_ok-insert-in-Some.ensures.is_new) c.in_ok-insert-in-Some.ensures.labels refl
     ∙ ap (λ label. with_definition (defined_of old) label c.args.text.now) (ap (option_map string_bytes) (sym c.in-Some.is) ∙ c.in_ok-normal.ensures ∙ ap normal c.label_of.ensures)

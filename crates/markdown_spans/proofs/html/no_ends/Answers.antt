@@ -8,6 +8,7 @@ returns c =
     let text = c.args.text.now in
     let here = length text in
     record {
+      comment = last_end (codes "-->") text here (omega arith) (omega arith);
       instruction = last_end (codes "?>") text here (omega arith) (omega arith);
       cdata = last_end (codes "]]>") text here (omega arith) (omega arith);
       declaration = last_end (codes ">") text here (omega arith) (omega arith);

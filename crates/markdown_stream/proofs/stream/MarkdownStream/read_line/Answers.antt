@@ -1,7 +1,6 @@
-use Rattle.std.proofs.Common.{refl, ap, ◌∙◌, Bool, subst}
-use Rattle.markdown_blocks.specs.Steps.{line_of, state_of, step}
-use Rattle.markdown_stream.specs.Cuts.{completed_if}
-use Rattle.markdown_stream.specs.Streams.{Turns}
+use Rattle.std.proofs.Common.{refl, ap, ◌∙◌}
+use Rattle.markdown_blocks.specs.Steps.{state_of}
+use Rattle.markdown_stream.specs.Cuts.{source_read, is_apart}
 use Rattle.markdown_stream.specs.declared.stream.MarkdownStream.{MarkdownStream}
 use Rattle.markdown_stream.proofs.StreamLemmas.{reads_line}
 use Rattle.markdown_stream.proofs.stream.MarkdownStream.read_line.Goals as goal
@@ -9,10 +8,10 @@ use Rattle.markdown_stream.proofs.stream.MarkdownStream.read_line.Goals as goal
 pub returns : goal.returns
 returns c =
     let old : MarkdownStream = c.args.self.now in
-    let first : MarkdownStream = record old { reader = c.read_line.new.self } in
+    let first : MarkdownStream = record old { reader = c.read_source_line.new.reader } in
     let second : MarkdownStream = c.complete_if.new.self in
-    let joined : MarkdownStream = record second { held = c.push_str.new.self; passed = c.is_passed-self.result } in
-    reads_line old first second joined c.complete_if-2.new.self c.args.line.now (line_of c.in_ok-read.read) (state_of c.read_line.new.self)
-    (c.in_ok-read.ensures.ok ∙ ap (step (state_of old.reader)) (c.as_bytes.ensures.value ∙ c.content.ensures)) refl refl refl refl refl refl refl refl refl
-    (subst (λ (b : Bool). Turns (completed_if b) first second) c.begins_anew.ensures c.in_ok-complete_if.ensures) c.in_ok-push_str.ensures.bytes refl c.is_passed-self.ensures refl refl refl refl refl refl
-    (subst (λ (b : Bool). Turns (completed_if b) joined c.complete_if-2.new.self) c.ends_all.ensures c.in_ok-complete_if-2.ensures)
+    let joined : MarkdownStream = record second { apart = c.is_apart-self.result; held = c.push_str.new.self; passed = c.in_ok-role.role.passed } in
+    reads_line old first second joined c.complete_if-2.new.self c.args.line.now c.in_ok-role.role (state_of c.read_source_line.new.reader)
+    (c.in_ok-role.ensures ∙ ap (source_read (state_of old.reader)) c.as_bytes.ensures.value) refl refl refl refl refl refl refl refl refl
+    c.in_ok-complete_if.ensures c.in_ok-push_str.ensures.bytes (c.is_apart-self.ensures ∙ ap (λ held. is_apart second.apart held c.in_ok-role.role.led) c.as_str.ensures.value) refl refl refl refl refl refl refl
+    c.in_ok-complete_if-2.ensures

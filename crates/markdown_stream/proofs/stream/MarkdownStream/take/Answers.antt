@@ -1,24 +1,5 @@
-use Rattle.std.proofs.Common.{refl, rules}
-use Rattle.mad_md.specs.Parts.{HasNoNewline}
-use Rattle.mad_stream.specs.Lines.{IsFirstLine}
-use Rattle.markdown_stream.specs.declared.stream.MarkdownStream.{MarkdownStream}
-use Rattle.markdown_stream.proofs.StreamLemmas.{taken_all, taken_more, taken_start}
+use Rattle.markdown_stream.proofs.StreamLemmas.{takes_piece}
 use Rattle.markdown_stream.proofs.stream.MarkdownStream.take.Goals as goal
 
-pub loop-line-init : goal.loop-line-init
-loop-line-init c = record { utf8 = search rules; so_far = taken_start _ _ }
-
-pub loop-line-preserved : goal.loop-line-preserved
-loop-line-preserved c =
-    let cut : IsFirstLine c.loop-line.rest.now c.in-Some.line.now c.in-Some.after.now = search rules in
-    record {
-      utf8 = search rules;
-      so_far = taken_more _ c.loop-line.rest.now c.in-Some.line.now c.in-Some.after.now _ c.loop-line.self c.end_line.new.self c.loop-line.invariant.so_far cut c.in_ok-end_line.ensures;
-    }
-
 pub returns : goal.returns
-returns c =
-    let begun : MarkdownStream = record c.loop-line.self { line = c.push_str.new.self } in
-    let cut : HasNoNewline c.loop-line.rest.now = search rules in
-    taken_all _ c.loop-line.rest.now _ c.loop-line.self begun c.loop-line.invariant.so_far cut c.in_ok-push_str.ensures.bytes refl
-    (λ cut sent s. record { held = s.held; apart = s.apart; passed = s.passed; rows = record { last = s.rows.last; lines = s.rows.lines; layout = s.rows.layout; bytes = s.rows.bytes } }) refl refl
+returns c = takes_piece c.args.self.now c.take_text.new.self c.args.piece.now c.coming.result.now c.still_fresh-fresh.result c.utf8.piece c.coming.ensures c.still_fresh-fresh.ensures c.in_ok-take_text.ensures

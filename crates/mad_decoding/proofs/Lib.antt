@@ -1,2 +1,0 @@
-pub mod DecodingLemmas
-pub mod LaneLemmas

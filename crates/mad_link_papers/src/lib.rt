@@ -1,4 +1,0 @@
-//! Links on a terminal that scrolls.
-#![tactic(auto)]
-
-pub mod laws;

@@ -1,3 +1,0 @@
-pub mod AreaLaws
-pub mod LinkedAreas
-pub mod LinkedLines

@@ -1,3 +1,0 @@
-pub mod Laws
-pub mod Seen
-pub mod Written

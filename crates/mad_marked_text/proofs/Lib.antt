@@ -1,4 +1,0 @@
-pub mod CursorLemmas
-pub mod OpeningLemmas
-pub mod PartLemmas
-pub mod SeenLemmas

@@ -1,5 +1,0 @@
-pub mod Laws
-pub mod LinkedTexts
-pub mod MarkedTexts
-pub mod Openings
-pub mod Paints
