@@ -8,6 +8,7 @@ use Rattle.markdown_html.specs.Starts.{begins}
 use Rattle.markdown_spans.specs.Needles.{after_first, IsLast}
 use Rattle.markdown_spans.specs.Tags.{tag_end}
 
+-- what follows a sign > that is in front
 abbrev pub after_angle : List ℕ → Option (List ℕ)
 after_angle [] = None
 after_angle (b ∷ bs) = if b == 62 then Some bs else None
@@ -29,6 +30,7 @@ other_end bytes =
 abbrev pub html_end : List ℕ → Option (List ℕ)
 html_end bytes = or_else (tag_end bytes) (other_end bytes)
 
+-- how many bytes raw html has after its sign <
 abbrev pub html_len : List ℕ → Option ℕ
 html_len bytes = option_map (λ after. length bytes - length after) (html_end bytes)
 
