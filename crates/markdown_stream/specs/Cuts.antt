@@ -14,6 +14,7 @@ unfoldable pub source_lines : List ℕ → List (List ℕ)
 source_lines [] = []
 source_lines (b ∷ bs) = if b == 10 then (10 ∷ []) ∷ source_lines bs else onto_first b (source_lines bs)
 
+-- a line without the newline that ends it
 abbrev pub without_newline : List ℕ → List ℕ
 without_newline line = if slice_index line (length line - 1) == 10 then take (length line - 1) line else line
 
@@ -46,6 +47,7 @@ begins_anew line = (line.kept == 0) && (nat_lt 0 line.opened || begins_leaf line
 abbrev pub ends_all : Line → Bool
 ends_all line = (line.kept == 0) && (line.opened == 0) && ends_leaf line.deed
 
+-- the line is blank
 abbrev pub is_blank_deed : Deed → Bool
 is_blank_deed Blank = true
 is_blank_deed _ = false
@@ -69,6 +71,7 @@ pub record Cutting : Type 0 where
   pub apart : Bool
   pub passed : Bool
 
+-- before the first line no part is begun
 abbrev pub nothing_cut : Cutting
 nothing_cut = record { parts = []; held = []; apart = false; passed = false }
 
@@ -76,9 +79,11 @@ nothing_cut = record { parts = []; held = []; apart = false; passed = false }
 abbrev pub completed : Cutting → Cutting
 completed c = record { parts = c.parts ++ record { source = c.held; apart = c.apart } ∷ []; held = []; apart = c.passed; passed = c.passed }
 
+-- the part that is held is complete, or it goes on
 abbrev pub completed_if : Bool → Cutting → Cutting
 completed_if over c = if over then completed c else c
 
+-- a line joins the part that is held
 abbrev pub joined_by : Line → List ℕ → Cutting → Cutting
 joined_by line text c = record c { held = c.held ++ text; passed = is_passed line }
 
