@@ -183,6 +183,7 @@ text_cells f o i p t r b nf n_o ni np k hf ho hi hp =
 
 -- ---- a hit
 
+-- the cells where a hit is drawn have the characters that it has
 pub hits_change_no_character : HitsChangeNoCharacter
 hits_change_no_character skin width front l count start narrow shown typed prefix line within whole =
     let inner : RowSkin = line_skin skin front.gutters in
