@@ -25,9 +25,11 @@ longest_capped word (x ∷ xs) = elim (cases_Bool (is_blank x)) [
       ap capped (on_word (capped word) x xs letter) ∙ sym (longest_capped (capped word + n) xs) ∙ ap (λ k. capped (longest_from k xs)) same ∙ longest_capped (word + n) xs ∙ sym (ap capped (on_word word x xs letter))
 ]
 
+-- at a blank the last word ends, and may be the longest
 pub after_blank : (w r : Words) (x : FlaggedChar) (rest : List FlaggedChar) → is_blank x ≡ true → r.longest ≡ max w.longest w.last → r.last ≡ 0 → longest_after r rest ≡ longest_after w (x ∷ rest)
 after_blank w r x rest e a b = omega (arith, on_blank w.last x rest e, a, ap (λ n. longest_from n rest) b)
 
+-- any other character makes the last word longer
 pub after_letter : (w r : Words) (x : FlaggedChar) (rest : List FlaggedChar) → is_blank x ≡ false → r.longest ≡ w.longest → r.last ≡ capped (w.last + char_columns x.char) → longest_after r rest ≡ longest_after w (x ∷ rest)
 after_letter w r x rest e a b = omega (arith, on_word w.last x rest e, a, ap (λ n. longest_from n rest) b, longest_capped (w.last + char_columns x.char) rest)
 
