@@ -11,6 +11,7 @@ prefix_map f test (k ∷ ks) = ap (λ n. cond (test (f k)) (1 + n) 0) (prefix_ma
 abbrev found : ℕ → ℕ → Option ℕ
 found at count = cond (nat_lt at count) (Some at) None
 
+-- an item that passes a test is where what it is seen as passes it
 pub position_map : {K X : Type 0} (f : K → X) (test : X → Bool) (keys : List K) → position (λ k. test (f k)) keys ≡ position test (map f keys)
 position_map f test keys =
     ap (λ n. found n (length keys)) (prefix_map f (λ x. not (test x)) keys) ∙ ap (found (prefix_len (λ x. not (test x)) (map f keys))) (sym (length-map keys f))
