@@ -20,6 +20,7 @@ insert_map : {K X : Type 0} (f : K → X) (same : X → X → Bool) (keys : List
 insert_map f same keys key =
     map_cond f (list_any (λ k. same (f key) (f k)) keys) keys key ∙ ap (λ t. cond t (map f keys) (map f keys ++ f key ∷ [])) (any_map f (same (f key)) keys)
 
+-- these labels are defined, each with the address at its place
 abbrev pub defined_with : List (List ℕ) → List (List ℕ) → Defined
 defined_with labels addresses = record { labels = labels; addresses = addresses }
 
