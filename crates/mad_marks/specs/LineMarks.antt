@@ -31,7 +31,7 @@ pub record KindText : Type 0 where
 abbrev pub text_counted : (CompositeKind → Flags → Bool) → KindText → List FlaggedChar
 text_counted has t = filter (is_counted (has t.kind)) t.chars
 
--- the text of a composite, with its kind
+-- the text that a composite has, in a line of its kind
 abbrev pub text_of : FmtComposite → KindText
 text_of l = record { kind = l.kind; chars = flagged_text l.compounds.items }
 
@@ -41,7 +41,7 @@ line_texts (Normal l) = text_of l ∷ []
 line_texts (TableRow row) = map text_of row.cells.items
 line_texts line = []
 
--- the texts of all lines, in order
+-- the texts that all lines have, in order
 abbrev pub all_texts : List FmtLine → List KindText
 all_texts lines = flat_map line_texts lines
 
