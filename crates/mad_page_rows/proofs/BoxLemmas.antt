@@ -9,7 +9,7 @@ abbrev pub ends_from : Bool → List Gutter → Bool
 ends_from last [] = last
 ends_from last (g ∷ gs) = ends_in_code (g ∷ gs)
 
--- from the first gutter on it is as the last of all is
+-- where no gutter was before, it is as the last one is
 pub ends_none : (gs : List Gutter) → ends_from false gs ≡ ends_in_code gs
 ends_none [] = refl
 ends_none (g ∷ gs) = refl
