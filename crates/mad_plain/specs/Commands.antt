@@ -3,15 +3,15 @@ use Rattle.std.specs.Prelude.{ℕ, ◌+◌, ◌==◌, ◌&&◌, ◌||◌, not, B
 use Rattle.std.specs.Char.{is_control}
 use Rattle.std.specs.Int.{is_in_range}
 
--- a character of parameters: a digit, or one of : ; < = > ?
+-- the character is a parameter's: a digit, or one of : ; < = > ?
 abbrev pub is_parameter : ℕ → Bool
 is_parameter c = is_in_range 0x30 0x3F c
 
--- a character between parameters and the final one: a space, or a sign up to /
+-- the character may stand before the final one: a space, or a sign of ASCII up to /
 abbrev pub is_intermediate : ℕ → Bool
 is_intermediate c = is_in_range 0x20 0x2F c
 
--- a character that ends a control sequence: from @ up to ~
+-- the character ends a control sequence: one from @ up to ~
 abbrev pub is_final : ℕ → Bool
 is_final c = is_in_range 0x40 0x7E c
 

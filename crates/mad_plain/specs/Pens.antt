@@ -105,7 +105,7 @@ number_at ps i = if nat_lt i (length ps) then (slice_index_or ps i (part false 0
 abbrev pub is_color_kind : ℕ → Bool
 is_color_kind n = (n == 38) || ((n == 48) || (n == 58))
 
--- a color of the foreground, of the background, or of the line below
+-- the foreground, the background or the line below gets this color
 abbrev pub set_color : ℕ → Color → Pen → Pen
 set_color kind color pen =
     if kind == 38 then record pen { foreground = Some color }
@@ -116,7 +116,7 @@ set_color kind color pen =
 abbrev pub set_palette : ℕ → ℕ → Pen → Pen
 set_palette kind n pen = if nat_lt n 256 then set_color kind (AnsiValue n) pen else pen
 
--- a color of red, green and blue, each below 256
+-- a color is mixed of red, green and blue, where each is below 256
 abbrev pub set_mixed : (kind r g b : ℕ) → Pen → Pen
 set_mixed kind r g b pen = if nat_lt r 256 && (nat_lt g 256 && nat_lt b 256) then set_color kind (Rgb r g b) pen else pen
 
