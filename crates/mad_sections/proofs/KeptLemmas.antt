@@ -215,7 +215,7 @@ stay_in whole ascii width (Some room) (Some gutters) section =
     (λ lacks. inr (items_stay whole ascii width gutters (min section.fresh (length section.gutters)) (items_of room (rows_in section.lines))))
     (λ has. inl refl)
 
--- what a section is shown as stays as it is
+-- without a width, or without gutters of a list, a section stays, and what it is shown as does
 pub stay : Stay
 stay = record {
   unlimited = λ whole ascii section. refl;

@@ -15,7 +15,7 @@ use Rattle.mad_sections.specs.TableTexts.{runs_text, cell_text, rows_in, columns
 
 -- ---- line by line
 
--- the longest word of the cells in a column
+-- the longest word that the cells of a column have
 abbrev pub longest_at : ℕ → List LineContent → ℕ
 longest_at column lines = longest_in (flat_map (take 1) (map (drop column) (rows_in lines)))
 
@@ -165,7 +165,7 @@ one_column whole count column rows inside =
     let rest = ap (λ (rest : List (List StyledRuns)). sum (least_widths whole (count - (column + 1)) rest)) (rows_on column rows) in
     omega (arith, first, both, rest)
 
--- where a column and its border fit, those behind it fit or don't as all did
+-- where a column and its border have room, those behind it fit in what is left exactly where all do
 pub fit_on : (whole : Bool) (count column left width : ℕ) (rows : List (List StyledRuns)) → column < count → left < 2 ^ 64 → width ≡ capped (least_width whole (flat_map (take 1) (map (drop column) rows))) → width < left
     → fit_from whole count rows (column + 1) (left - (width + 1)) ≡ fit_from whole count rows column left
 unfolding fit_from
