@@ -8,7 +8,7 @@ use Rattle.markdown_addresses.specs.declared.addresses.Domain.TheVariants.{On, E
 use Rattle.markdown_addresses.specs.declared.addresses.Scheme.{Scheme}
 use Rattle.markdown_addresses.specs.declared.addresses.Scheme.TheVariants.{Itself, Mail}
 
--- a letter, a digit, or one of the signs + . -
+-- the byte is a letter, a digit, or one of the signs + . -
 abbrev pub is_scheme_byte : ℕ → Bool
 is_scheme_byte b = is_ascii_alphanumeric b || b == 43 || b == 46 || b == 45
 
@@ -75,7 +75,7 @@ email_len bytes =
     if local == 0 || not (first (drop local bytes) == 64) then None
     else option_map (λ after. (length bytes - length after) - 1) (after_domain 0 false (drop (local + 1) bytes))
 
--- the first length, or else the second
+-- the first length, if there is one, or else the second
 abbrev pub or_len : Option ℕ → Option ℕ → Option ℕ
 or_len None otherwise = otherwise
 or_len (Some len) otherwise = Some len

@@ -12,7 +12,7 @@ use Rattle.markdown_addresses.specs.declared.bare.Trim.TheVariants.{Stays, Goes}
 
 -- ---- domains
 
--- a letter, a digit, an underscore or a hyphen
+-- the byte is a letter, a digit, an underscore or a hyphen
 abbrev pub is_domain_byte : ℕ → Bool
 is_domain_byte b = is_ascii_alphanumeric b || (b == 95) || (b == 45)
 
@@ -43,7 +43,7 @@ web_domain dotted bytes =
 
 -- ---- the end of an address
 
--- no blank, no newline and no sign <
+-- the byte is no blank, no newline and no sign <
 abbrev pub is_path_byte : ℕ → Bool
 is_path_byte b = not ((b == 32) || (b == 9) || (b == 10) || (b == 60))
 
@@ -117,7 +117,7 @@ web_of bytes =
 
 -- ---- addresses of mail
 
--- a letter, a digit, or one of . + _ -
+-- the byte is a letter, a digit, or one of . + _ -
 abbrev pub is_mail_byte : ℕ → Bool
 is_mail_byte b = is_ascii_alphanumeric b || (b == 46) || (b == 43) || (b == 95) || (b == 45)
 
@@ -150,7 +150,7 @@ abbrev pub may_precede_mail : Option ℕ → Bool
 may_precede_mail None = true
 may_precede_mail (Some b) = not (is_mail_byte b)
 
--- the first address, or else the second
+-- the first address, if there is one, or else the second
 abbrev pub or_bare : Option Bare → Option Bare → Option Bare
 or_bare None otherwise = otherwise
 or_bare (Some bare) otherwise = Some bare
