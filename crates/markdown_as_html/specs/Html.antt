@@ -154,7 +154,7 @@ before_item list sign number = if is_in list sign then [] else list_end list ++ 
 abbrev pub item_html : Bool → List ℕ → List ℕ
 item_html own_line inner = codes "<li>" ++ ((if own_line then line_end else []) ++ (inner ++ codes "</li>\n"))
 
--- a quote around its blocks
+-- a quote's element, which is around its blocks
 abbrev pub quote_html : List ℕ → List ℕ
 quote_html inner = codes "<blockquote>\n" ++ (inner ++ codes "</blockquote>\n")
 
@@ -171,7 +171,7 @@ blocks_html defined tight list (holds (Item sign number content) apart inner aft
 
 -- ---- a text
 
--- the html of these parts
+-- the html that these parts are
 abbrev pub parts_html : List PartContent → List ℕ
 parts_html parts = blocks_html (definitions_of parts) false None (tree_of parts)
 
