@@ -120,7 +120,7 @@ code_start joining rest = begins Code (if joins joining then unindented rest els
 abbrev pub rule_start : Remaining → Beginning
 rule_start rest = if is_rule rest.bytes then begins Rule rest else begins Words rest
 
--- an underline of this level, or else a thematic break or text
+-- a rest begins an underline of this level, or else is a thematic break or text
 abbrev pub or_rule : Option ℕ → Remaining → Beginning
 or_rule None rest = rule_start rest
 or_rule (Some level) rest = begins (Underline level) rest
@@ -135,12 +135,12 @@ abbrev pub or_underline : Option Ending → Joining → Remaining → Remaining 
 or_underline None joining uncut rest = underline_start joining rest
 or_underline (Some ending) joining uncut rest = begins (HtmlStart ending (ends_html ending rest.bytes)) uncut
 
--- a fence, or else html, an underline, a thematic break or text
+-- a rest begins a fence, or else html, an underline, a thematic break or text
 abbrev pub or_html : Option Fence → Joining → ℕ → Remaining → Remaining → Beginning
 or_html None joining indent uncut rest = or_underline (html_start (joins joining) rest.bytes) joining uncut rest
 or_html (Some fence) joining indent uncut rest = begins (FenceStart fence.sign fence.length indent) (skip fence.length rest)
 
--- a heading of this level, or else what the others say
+-- a rest begins a heading of this level, or else what the others say
 abbrev pub or_fence : Option ℕ → Joining → ℕ → Remaining → Remaining → Beginning
 or_fence None joining indent uncut rest = or_html (fence_start rest.bytes) joining indent uncut rest
 or_fence (Some level) joining indent uncut rest = begins (Heading level) (skip level rest)
