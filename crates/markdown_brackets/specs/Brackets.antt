@@ -52,7 +52,7 @@ without_first r = record r { brackets = drop 1 r.brackets }
 abbrev pub place_of : Placed → ℕ
 place_of p = p.place
 
--- the run that is at this place
+-- the run itself, wherever it is
 abbrev pub run_of : Placed → Run
 run_of p = p.run
 

@@ -8,7 +8,7 @@ use Rattle.markdown_spans.specs.Words.{words}
 abbrev pub text_of : List ℕ → Option (List ℕ)
 text_of bytes = if is_utf8 bytes then Some bytes else None
 
--- a text in one case, by Unicode's case folding
+-- a text as Unicode's case folding makes it
 abbrev pub folded : List ℕ → List ℕ
 folded text = encode_utf8_all (default_case_fold (chars text))
 
