@@ -46,11 +46,11 @@ abbrev pub label_behind : Option (List ℕ) → List ℕ
 label_behind None = []
 label_behind (Some rest) = after_space (drop 1 rest)
 
--- a definition from its destination on
+-- what is left of a definition from its destination on
 abbrev pub defined_text : List ℕ → List ℕ
 defined_text definition = label_behind (after_label 0 false false (drop 1 definition))
 
--- the destination of a definition
+-- the destination that a definition has
 abbrev pub defined_destination : List ℕ → List ℕ
 defined_destination definition = destination_in (defined_text definition)
 
