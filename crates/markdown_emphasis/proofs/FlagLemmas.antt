@@ -14,11 +14,11 @@ use Rattle.markdown_emphasis.specs.declared.flags.Flags.{Flags}
 use Rattle.markdown_emphasis.specs.Pairs.{IsWithin}
 use Rattle.markdown_emphasis.specs.Flags.{is_over, is_covered, openers, closers, flags_at, flags_of}
 
--- how many of these numbers are below one
+-- how many of these numbers are below this one
 abbrev pub before : ℕ → List ℕ → ℕ
 before k xs = count_by (λ x. ltb x k) xs
 
--- how many of these numbers are one
+-- how many of these numbers are this one
 abbrev pub at : ℕ → List ℕ → ℕ
 at k xs = count_by (λ x. eqb x k) xs
 
@@ -75,7 +75,7 @@ tally_step counts numbers bound i v k size h small before value within =
           get_or-set_other counts p k (v + 1) 0 other ∙ before k within ∙ sym (count_by_more_no (λ n. eqb n k) numbers i 0 h (ne_eqb p k (λ e. other (sym e))))
     ]
 
--- no more of the first numbers are one than there are
+-- no more of the first numbers are this one than there are
 pub at_small : (k i : ℕ) (numbers : List ℕ) → at k (take i numbers) ≤ i
 at_small k i numbers = omega (arith, count_by-le-length (λ n. eqb n k) (take i numbers), length-take i numbers)
 

@@ -26,7 +26,7 @@ places_of pieces = filter (is_run pieces) (range_with_len 0 (length pieces))
 abbrev pub run_of_piece : List (Option Run) → ℕ → Run
 run_of_piece pieces i = piece_run (slice_index_or pieces i None)
 
--- the runs among pieces, in order
+-- the runs that are among pieces, in order
 abbrev pub runs_of : List (Option Run) → List Run
 runs_of pieces = map (run_of_piece pieces) (places_of pieces)
 
