@@ -89,7 +89,7 @@ tag_end bytes =
 
 -- ---- what is shown
 
--- the tag of a cell of a table, or of its head
+-- the tag is that of a table's cell, below the head or in it
 abbrev pub is_cell : List ℕ → Bool
 is_cell bytes = is_tag_named (codes "td") bytes || is_tag_named (codes "th") bytes
 
