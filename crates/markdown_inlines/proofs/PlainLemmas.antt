@@ -35,7 +35,7 @@ taken_plain bs n inside plain k low high =
 pub border : (bs : List ℕ) (n : ℕ) → IsUtf8 bs → n ≤ length bs → ArePlain bs 0 n → IsCharBoundary bs n
 border bs n utf8 inside plain = IsCharBoundary-from_take bs n utf8 inside (IsUtf8-from_ascii (take n bs) (all_ascii (take n bs) (taken_plain bs n inside plain)))
 
--- plain bytes are shown as they are
+-- plain bytes in front are shown as they are
 pub front_shown : (old new bs front rest : List ℕ) (n : ℕ) → IsUtf8 bs → n ≤ length bs → ArePlain bs 0 n → front ≡ take n bs → rest ≡ drop n bs → new ≡ old ++ front → IsShownUpTo old new bs rest
 front_shown old new bs front rest n utf8 inside plain f r is =
     let t : List ℕ = take n bs in
@@ -55,7 +55,7 @@ front_shown old new bs front rest n utf8 inside plain f r is =
       shown = ap (λ (l : List ℕ). l ++ map shown_char (chars rest)) (chars-IsAscii t ascii) ∙ ap (λ (l : List ℕ). t ++ map shown_char (chars l)) r ∙ sym mapped;
     }
 
--- a character is shown by its own shown one
+-- the character in front is shown, and what is behind it is left
 pub one_shown : (old new bs rest : List ℕ) (c : ℕ) → IsUtf8 bs → IsUtf8 (encode_utf8 (shown_char c)) → bs ≡ encode_utf8 c ++ rest → new ≡ old ++ encode_utf8 (shown_char c) → IsShownUpTo old new bs rest
 one_shown old new bs rest c utf8 one parts is =
     let e : List ℕ = encode_utf8 (shown_char c) in

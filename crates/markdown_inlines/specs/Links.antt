@@ -44,7 +44,7 @@ own_link number (Address len scheme) = Some number
 own_link number (Bare scheme) = Some number
 own_link number _ = None
 
--- the first link, or else the second
+-- the first link, if there is one, or else the second
 abbrev pub or_link : Option ℕ → Option ℕ → Option ℕ
 or_link None otherwise = otherwise
 or_link (Some number) otherwise = Some number
