@@ -117,7 +117,7 @@ state_with leaf cells = record { containers = []; leaf = leaf; defining = []; ce
 abbrev pub done : Leaf → ℕ → Deed → List ℕ → Step
 done leaf cells deed line = record { state = state_with leaf cells; line = record { kept = 0; opened = 0; deed = deed; text = whole line } }
 
--- such a line begins a paragraph where none is open
+-- a line that begins with no special sign begins a paragraph where none is open
 pub begun : (b : ℕ) (bs : List ℕ) (cells : ℕ) → is_special b ≡ false → step (state_with Nothing cells) (b ∷ bs) ≡ done Paragraph (cell_count (b ∷ bs)) (Begins Paragraph) (b ∷ bs)
 unfolding step line_step begun_line matched opened going_on ends_in_item
 begun b bs cells h =
@@ -126,7 +126,7 @@ begun b bs cells h =
 not_as_many : (cells : ℕ) → (not (cells == 0) && (0 == cells)) ≡ false
 not_as_many cells = grind (arith, nat_tests)
 
--- such a line goes on with a paragraph that is open
+-- a line that begins with no special sign goes on with a paragraph that is open
 pub gone_on : (b : ℕ) (bs : List ℕ) (cells : ℕ) → is_special b ≡ false → step (state_with Paragraph cells) (b ∷ bs) ≡ done Paragraph (cell_count (b ∷ bs)) GoesOn (b ∷ bs)
 unfolding step line_step begun_line matched opened going_on ends_in_item
 gone_on b bs cells h =
