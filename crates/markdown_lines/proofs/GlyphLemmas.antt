@@ -45,7 +45,7 @@ leaves_none gs len none h = omega (arith, none, h)
 
 -- ---- a run, the last character first
 
--- characters of one look, each with its flags
+-- characters that look so, each with its flags
 abbrev pub glyphs_with : Bool → Look → List ℕ → List Glyph
 glyphs_with bold look cs = map (glyph_of bold) (map (shown_with look) cs)
 
@@ -57,7 +57,7 @@ one_char c u = chars_past_char (encode_utf8 c) [] c u (sym (append-nil (encode_u
 reversed : (runs : List TextRun) (k : ℕ) (d : TextRun) → k < length runs → reverse (take (k + 1) runs) ≡ get_or runs k d ∷ reverse (take k runs)
 reversed runs k d h = ap reverse (take_more runs k d h) ∙ reverse-append (take k runs) (get_or runs k d ∷ [])
 
--- the last of some runs, and those before it
+-- the last of some runs stands first when they are turned round
 pub last_run : (runs : List TextRun) (k n : ℕ) (d : TextRun) → n ≡ k + 1 → k < length runs → reverse (take n runs) ≡ get_or runs k d ∷ reverse (take k runs)
 last_run runs k n d e h = ap (λ (m : ℕ). reverse (take m runs)) e ∙ reversed runs k d h
 

@@ -130,7 +130,7 @@ rows_more done now style others all line lines range is now_is =
     ∙ ap (λ (r : RunRange). done ++ normal (record { style = style; runs = range_said all r }) ∷ rest) is
     ∙ ap (λ (rs : List Run). done ++ normal (record { style = style; runs = rs }) ∷ rest) (row_runs_of all line)
 
--- the same of the row at an index
+-- the row at an index is put so
 pub rows_next : (done now : List LineContent) (style others : CompositeStyle) (all : List Run) (lines : List MarkdownLine) (index : ℕ) (line : MarkdownLine) (range : RunRange) → index < length lines → line ≡ get_or lines index line
     → range ≡ range_of line → now ≡ done ++ normal (record { style = style; runs = range_said all range }) ∷ []
     → now ++ restyled others others (lines_said all (drop (index + 1) lines)) ≡ done ++ restyled style others (lines_said all (drop index lines))

@@ -7,7 +7,7 @@ use Rattle.mad_md.specs.Lines.{LineContent, normal}
 use Rattle.mad_md.specs.declared.composite.CompositeStyle.TheVariants.{Code}
 use Rattle.markdown_inlines.specs.Printable.{shown_char}
 
--- so many spaces
+-- a text that is so many spaces
 unfoldable pub spaces : ℕ → List ℕ
 spaces zero = []
 spaces (suc count) = 32 ∷ spaces count
@@ -20,7 +20,7 @@ expanded_char column c = if c == 9 then spaces (4 - column % 4) else shown_char 
 abbrev pub next_column : ℕ → ℕ → ℕ
 next_column column c = if c == 9 then 0 else column % 4 + 1
 
--- characters after so many columns, tabs as spaces up to each fourth column
+-- characters after so many columns: each tab is spaces up to the next fourth column
 unfoldable pub expanded : ℕ → List ℕ → List ℕ
 expanded column [] = []
 expanded column (c ∷ cs) = expanded_char column c ++ expanded (next_column column c) cs

@@ -8,6 +8,6 @@ use Rattle.markdown_lines.specs.declared.links.Link.{Link}
 abbrev pub defined_of : Definitions → Defined
 defined_of definitions = record { labels = map string_bytes definitions.labels.keys; addresses = map string_bytes definitions.addresses.items }
 
--- the line of a link and its address
+-- the line that a link is in, and its address
 abbrev pub link_of : Link → LinkSaid
 link_of link = record { line = link.line; address = string_bytes link.address }
