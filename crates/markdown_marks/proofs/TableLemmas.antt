@@ -55,7 +55,7 @@ unfolding columns_from
 stays_nowhere count [] = refl
 stays_nowhere count (b ∷ bs) = stays_nowhere count bs
 
--- from a spot that is nowhere on a row has no columns
+-- where a spot is nowhere, the row has no columns
 pub none_delimited : (spot : Spot) (count : ℕ) (bytes : List ℕ) → is_nowhere spot ≡ true → columns_from spot count bytes ≡ 0
 none_delimited Nowhere count bytes e = stays_nowhere count bytes
 none_delimited Front count bytes e = absurd (cc)

@@ -119,7 +119,7 @@ titled text = if length (after_space text) == length text then None else after (
 abbrev pub after_target : List ℕ → Option (List ℕ)
 after_target text = or_else (titled text) (after_line text)
 
--- what follows a definition from its colon on
+-- what follows a definition, which is left from its colon on
 abbrev pub after_colon : List ℕ → Option (List ℕ)
 after_colon text = if first text == 58 then after (after_destination (after_space (drop 1 text))) after_target else None
 

@@ -5,11 +5,11 @@ use Rattle.markdown_marks.specs.Bytes.{is_blank_byte, first}
 use Rattle.markdown_marks.specs.declared.tags.Place.{Place}
 use Rattle.markdown_marks.specs.declared.tags.Place.TheVariants.{Name, Gap, Attribute, AfterAttribute, BeforeValue, Plain, Single, Double, AfterValue, Slash, CloseName, CloseGap, After, Nowhere}
 
--- a letter, a low line or a colon
+-- the byte is a letter, a low line or a colon
 abbrev pub is_attribute_start : ℕ → Bool
 is_attribute_start b = is_ascii_alphabetic b || (b == 95) || (b == 58)
 
--- a letter, a digit, or one of _ : . -
+-- the byte is a letter, a digit, or one of _ : . -
 abbrev pub is_attribute_byte : ℕ → Bool
 is_attribute_byte b = is_ascii_alphanumeric b || (b == 95) || (b == 58) || (b == 46) || (b == 45)
 
