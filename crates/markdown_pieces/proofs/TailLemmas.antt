@@ -94,11 +94,11 @@ none_some a e = absurd (no e)
 abbrev pub Gives : (List ℕ → Type 0) → Option (List ℕ) → Type 0
 Gives P o = (a : List ℕ) → o ≡ Some a → P a
 
--- where nothing is found, it has any
+-- where nothing is found, nothing is asked of it
 pub gives_none : (P : List ℕ → Type 0) → Gives P None
 gives_none P a e = none_some a e
 
--- what has the property may be found
+-- where this is found, and has the property, what is found has it
 pub gives_some : (P : List ℕ → Type 0) (a : List ℕ) → P a → Gives P (Some a)
 gives_some P a p b e = subst P (some_same a b e) p
 
@@ -106,14 +106,14 @@ gives_some P a p b e = subst P (some_same a b e) p
 abbrev pub GivesLen : (ℕ → Type 0) → Option ℕ → Type 0
 GivesLen P o = (len : ℕ) → o ≡ Some len → P len
 
--- where none is found, it has any
+-- where no length is found, nothing is asked of it
 pub len_none : (P : ℕ → Type 0) → GivesLen P None
 len_none P len e = absurd (no e)
   where
     no : None ≡ Some len → ⊥
     no e = cc
 
--- a length that has the property may be found
+-- where this length is found, and has the property, what is found has it
 pub len_some : (P : ℕ → Type 0) (n : ℕ) → P n → GivesLen P (Some n)
 len_some P n p len e = let same : n ≡ len = cc in subst P same p
 
@@ -217,7 +217,7 @@ pub else_gives : (P : List ℕ → Type 0) (o q : Option (List ℕ)) → Gives P
 else_gives P None q f g = g
 else_gives P (Some rest) q f g = f
 
--- what follows an end, and ends with a byte, is such an end of the text
+-- behind an end of a text such an end is one of the text
 pub after_gives : (b : ℕ) (text : List ℕ) (o : Option (List ℕ)) (next : List ℕ → Option (List ℕ)) → Gives (IsTail text) o → ((rest : List ℕ) → Gives (EndsBy b rest) (next rest)) → Gives (EndsBy b text) (after o next)
 after_gives b text None next f g = gives_none (EndsBy b text)
 after_gives b text (Some rest) next f g = λ a e. ends_then b text rest a (f rest refl) (g rest a e)

@@ -74,7 +74,7 @@ escape_by (SignEscape b) = piece (Shown b None) 1
 escape_by Break = piece Hard 1
 escape_by Itself = piece Plain 0
 
--- a backslash, and what it escapes
+-- the piece is a backslash and what it escapes
 abbrev pub escape_piece : List ℕ → Piece
 escape_piece after = escape_by (escape_of after)
 
@@ -83,7 +83,7 @@ abbrev pub entity_by : Option Entity → Piece
 entity_by None = piece Plain 0
 entity_by (Some entity) = piece (Shown entity.shown entity.second) entity.len
 
--- an entity, or a sign &
+-- the piece is an entity, or a sign &
 abbrev pub entity_piece : List ℕ → Piece
 entity_piece after = entity_by (entity_of after)
 
