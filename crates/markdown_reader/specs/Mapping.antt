@@ -64,7 +64,7 @@ mark_width sign number = if is_number sign then digits number + 2 else 2
 abbrev pub level_of : ℕ → ℕ
 level_of column = min column 255
 
--- the style of an item's first row: with its number, or with a bullet
+-- the style that an item's first row has: with its number, or with a bullet
 abbrev pub item_style : ℕ → ℕ → ℕ → CompositeStyle
 item_style sign number level = if is_number sign then OrderedListItem level number else ListItem level
 
@@ -80,7 +80,7 @@ quote_in place depth = if place.quote == 0 then depth else place.quote
 abbrev pub open_quote : ℕ → ℕ → ℕ
 open_quote quote depth = if nat_lt depth quote then 0 else quote
 
--- the style of a heading's rows
+-- the style that a heading's rows have
 abbrev pub heading_style : ℕ → CompositeStyle
 heading_style level = Header (min level 255)
 
@@ -172,7 +172,7 @@ rows_added first place rows m = record m { lines = m.lines ++ restyled first (fo
 abbrev pub rows_in : Place → List LineContent → List (List ℕ) → Mapping → Mapping
 rows_in place rows addresses m = rows_added (first_style place m.marks) place rows (linked addresses (marked (unmarked place m)))
 
--- rows of words stand where the next leaf does, and behind a blank row where blank lines came
+-- rows of words stand where the next leaf does, behind a blank row where one is wanted
 abbrev pub rows_shown : List LineContent → List (List ℕ) → Mapping → Mapping
 rows_shown rows addresses m = rows_in (place_in m.places) rows addresses (spaced (place_in m.places).quote m.apart false m)
 
@@ -194,15 +194,15 @@ big_begun m = record (marked (spaced 0 m.apart true m)) { apart = false; before 
 abbrev pub lines_added : List LineContent → Mapping → Mapping
 lines_added lines m = record m { lines = m.lines ++ lines }
 
--- the rows of a heading, and where its links lead; one without text isn't shown
+-- the rows and links of a heading are shown; one without text isn't
 abbrev pub heading_shown : ℕ → List LineContent → List (List ℕ) → Mapping → Mapping
 heading_shown level rows addresses m = if length rows == 0 then m else lines_added (restyled (heading_style level) (heading_style level) rows) (linked addresses (big_begun m))
 
--- the lines of a table, and its links
+-- the lines and links of a table are shown
 abbrev pub table_added : Defined → ℕ → List Remaining → Mapping → Mapping
 table_added defined columns lines m = record m { lines = m.lines ++ table_lines defined.labels columns lines; links = m.links ++ table_links defined columns (length m.lines) lines }
 
--- the lines of code, in the column of their place; code without lines isn't shown
+-- the lines of code are shown in the column of their place; code without lines isn't
 abbrev pub code_shown : List Remaining → Mapping → Mapping
 code_shown lines m = if length lines == 0 then m else lines_added (code_lines (place_in m.places).column lines) (big_begun m)
 
