@@ -21,13 +21,13 @@ items_more gutters len d h some item =
     let one = suffix_len-take_yes is_item gutters len d some h.within item in
     record { within = omega (arith, h.within); same = omega (arith, h.within, h.same, one, some) }
 
--- where the gutter before is no item, the last bar is found
+-- where the gutter before is no item, so many are left without the items behind them
 pub items_stop : (gutters : List Gutter) (len : ℕ) (d : Gutter) → AreItems gutters len → 0 < len → is_item (get_or gutters (len - 1) d) ≡ false → length gutters - suffix_len is_item gutters ≡ len
 items_stop gutters len d h some bar =
     let none = suffix_len-take_no is_item gutters len d some h.within bar in
     omega (arith, h.within, h.same, none)
 
--- where no gutter is before, all are items
+-- where no gutter is before, none is left
 pub items_none : (gutters : List Gutter) (len : ℕ) → AreItems gutters len → len ≡ 0 → length gutters - suffix_len is_item gutters ≡ len
 items_none gutters len h e =
     let none : suffix_len is_item (take len gutters) ≡ 0 = ap (λ (n : ℕ). suffix_len is_item (take n gutters)) e in

@@ -77,7 +77,7 @@ runs_printed (table_row cells) h = tt
 runs_printed (table_rule rule) h = tt
 runs_printed horizontal_rule h = tt
 
--- in other styles no more characters of rows are obeyed
+-- where no character of rows is obeyed, none is in other styles
 pub restyled_printed : (first others : CompositeStyle) (rows : List LineContent) → ArePrinted rows → ArePrinted (restyled first others rows)
 unfolding restyled
 restyled_printed first others [] h = nothing_printed

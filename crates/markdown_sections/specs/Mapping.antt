@@ -81,7 +81,7 @@ list_after sign number = record { sign = sign; next = min (number + 1) 429496729
 abbrev pub is_number : ℕ → Bool
 is_number sign = (sign == 46) || (sign == 41)
 
--- the gutter of an item: its number, or a bullet
+-- the gutter that an item has: its number, or a bullet
 abbrev pub item_gutter : ℕ → ℕ → Gutter
 item_gutter sign number = if is_number sign then Number number else Bullet
 
@@ -144,11 +144,11 @@ is_spaced apart big m = m.some && (apart || big || m.big)
 abbrev pub spaced : Bool → Bool → Mapping → Mapping
 spaced apart big m = if is_spaced apart big m then record m { sections = m.sections ++ blank_row m ∷ [] } else m
 
--- a link of this section
+-- a link that is in this section
 abbrev pub link_at : ℕ → List ℕ → LinkSaid
 link_at section address = record { section = section; address = address }
 
--- links of the next section
+-- these are links of the next section
 abbrev pub linked : List (List ℕ) → Mapping → Mapping
 linked addresses m = record m { links = m.links ++ map (link_at (length m.sections)) addresses }
 
@@ -223,7 +223,7 @@ words defined bytes = leaf_rows defined.labels (text_of bytes)
 abbrev pub addresses_in : Defined → List ℕ → List (List ℕ)
 addresses_in defined bytes = leaf_addresses defined (text_of bytes)
 
--- the rows that a text shows, and where its links lead
+-- the rows and links of a text are shown
 abbrev pub words_shown : Defined → List ℕ → Mapping → Mapping
 words_shown defined bytes m = put Words (words defined bytes) (addresses_in defined bytes) m
 
@@ -232,7 +232,7 @@ abbrev pub task_by : Option Bool → Defined → List ℕ → Mapping → Mappin
 task_by None defined bytes m = words_shown defined bytes m
 task_by (Some done) defined bytes m = words_shown defined (after_box bytes) (boxed done m)
 
--- the flags of a text in bold
+-- the flags that a text in bold has
 abbrev pub bold : Flags
 bold = record { bold = true; italic = false; code = false; strikeout = false; link = false }
 
@@ -251,11 +251,11 @@ paragraph_by (Some Bullet) defined bytes m = task_by (box_of bytes) defined byte
 paragraph_by (Some Bar) defined bytes m = alert_by (alert_of bytes) defined bytes m
 paragraph_by _ defined bytes m = words_shown defined bytes m
 
--- the style of a heading's rows
+-- the style that a heading's rows have
 abbrev pub heading_style : ℕ → CompositeStyle
 heading_style level = Header (min level 255)
 
--- the rows of a heading, and where its links lead
+-- the rows and links of a heading are shown
 abbrev pub heading_shown : Defined → ℕ → List ℕ → Mapping → Mapping
 heading_shown defined level bytes m = put Large (restyled (heading_style level) (heading_style level) (words defined bytes)) (addresses_in defined bytes) m
 
@@ -267,7 +267,7 @@ address_said link = link.address
 abbrev pub table_addresses : Defined → ℕ → List Remaining → List (List ℕ)
 table_addresses defined columns lines = map address_said (table_links defined columns 0 lines)
 
--- the lines of code, in a box
+-- the lines of code are shown in a box
 abbrev pub code_shown : List Remaining → Mapping → Mapping
 code_shown lines m = put Boxed (code_lines 0 lines) [] m
 
