@@ -128,7 +128,7 @@ no_run n at last (b ∷ bs) some none =
 pub no_runs : (lasts text : List ℕ) → lasts ≡ [] → Nowhere (Passes (is_byte 96) text) 0 (length text) → AreLasts lasts text
 no_runs lasts text e none n some = ap (λ (l : List ℕ). get_or l n 0) e ∙ sym (no_run n 0 0 text some (none_at text none))
 
--- the same by the search's answer
+-- so it is where the search's answer says that there is none
 pub no_runs_by : (r : Option ℕ) (lasts text : List ℕ) → lasts ≡ [] → IsFirstByte (is_byte 96) text r → is_some r ≡ false → AreLasts lasts text
 no_runs_by None lasts text e none h = no_runs lasts text e none
 no_runs_by (Some k) lasts text e none h = absurd (no h)

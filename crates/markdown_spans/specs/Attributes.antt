@@ -18,7 +18,7 @@ use Rattle.markdown_spans.specs.declared.attributes.Html.TheVariants.{Nothing, B
 
 -- ---- names
 
--- a letter, a digit or a hyphen
+-- the byte is a letter, a digit or a hyphen
 abbrev pub is_name_byte : ℕ → Bool
 is_name_byte b = is_ascii_alphanumeric b || (b == 45)
 
@@ -35,7 +35,7 @@ goes_on b = is_attribute (next_place Attribute b)
 abbrev pub is_tag_named : List ℕ → List ℕ → Bool
 is_tag_named name bytes = same_letters name (take (prefix_len is_name_byte bytes) bytes)
 
--- the attribute's name in front, in letters of any case
+-- the attribute in front has this name, in letters of any case
 abbrev pub is_attribute_named : List ℕ → List ℕ → Bool
 is_attribute_named name bytes = same_letters name (take (prefix_len goes_on bytes) bytes)
 
