@@ -42,7 +42,7 @@ stripped_newline line (Some x) h = strip_some line.now x.now h
 
 -- ---- the last of some lines
 
--- no lines don't end with a big one
+-- where there are no lines, no big one is last
 pub none_big : (lines : List Line) → length lines ≡ 0 → false ≡ ends_big (map content_of lines)
 unfolding ends_big
 none_big [] none = refl

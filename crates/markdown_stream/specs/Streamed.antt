@@ -16,7 +16,7 @@ pub record Showing : Type 0 where
 abbrev pub nothing_shown : Showing
 nothing_shown = record { lines = []; last = record { some = false; big = false; apart = false } }
 
--- a row without text
+-- a row that has no text
 abbrev pub blank_line : LineContent
 blank_line = normal (record { style = Paragraph; runs = [] })
 
