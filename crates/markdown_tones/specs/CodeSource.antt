@@ -7,6 +7,6 @@ use Rattle.markdown_marks.specs.Remaining.{Remaining}
 abbrev pub line_source : Remaining → List ℕ
 line_source line = replicate line.pending 32 ++ (line.bytes ++ 10 ∷ [])
 
--- the source of these lines, one after the other
+-- the source that these lines are, one after the other
 abbrev pub code_source : List Remaining → List ℕ
 code_source lines = flat_map line_source lines
