@@ -77,7 +77,7 @@ command_at c after = if c == 27 then command_len after else 0
 abbrev pub more_at : ℕ → List ℕ → ℕ
 more_at c after = if not (command_at c after == 0) then command_at c after else if is_struck c after then 1 else 0
 
--- past a command, an overstrike, or a character that is shown
+-- the place that is past a command, an overstrike, or a character that is shown
 abbrev pub place_after : Place → ℕ → List ℕ → Place
 place_after p c after =
     if not (command_at c after == 0) then record p { pen = pen_after p.pen after }
