@@ -52,7 +52,7 @@ taken_fresh k (p ∷ ps) within =
 
 -- ---- how many a pair takes
 
--- If the run is one of tildes, none of its marks is taken.
+-- if the run is one of tildes, none of its marks is taken
 abbrev pub IsWhole : Mark → Type 0
 IsWhole mark = is_tilde mark.run.sign ≡ true → mark.left ≡ mark.run.count
 
@@ -70,7 +70,7 @@ same_by Underscore Tilde h = absurd (cc)
 same_by Tilde Star h = absurd (cc)
 same_by Tilde Underscore h = absurd (cc)
 
--- What two runs need that fit: the same sign, one that opens, one that closes, and lengths that allow it.
+-- what two runs need that fit: the same sign, one that opens, one that closes, and lengths that allow it
 pub record Fit (o c : Run) : Type 0 where
   pub sign : o.sign ≡ c.sign
   pub opens : o.opens ≡ true
@@ -145,7 +145,7 @@ found_low place pairs c f os fs are h =
     let found : AreOpeners place pairs (f ∷ fs) = subst (λ (l : List Mark). AreOpeners place pairs l) h (openers_nearest place pairs c os are) in
     found.0
 
--- an opener is among those from the nearest that fits on, or it comes after that
+-- an opener is among those from the nearest that fits on, or its run comes after that one's
 pub stack_split : (place : ℕ) (pairs : List Pair) (c : Run) (f : Mark) (os fs : List Mark) (i : ℕ) → nearest c os ≡ f ∷ fs → AreOpeners place pairs os → OnStack i os → OnStack i (f ∷ fs) ⊎ (f.place < i)
 stack_split place pairs c f [] fs i h are on = absurd on
 stack_split place pairs c f (o ∷ os) fs i h are on =

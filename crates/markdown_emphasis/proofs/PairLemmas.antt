@@ -49,7 +49,7 @@ openers_more place pairs q (o ∷ os) h are =
 
 -- ---- what is kept
 
--- What is known at a place: no pair goes over an opener, and the pairs are nested or apart.
+-- what is known at a place: no pair goes over an opener, and the pairs are nested or apart
 pub record Kept (place bound : ℕ) (openers : List Mark) (pairs : List Pair) : Type 0 where
   pub before : AreOpeners place pairs openers
   pub are : ArePairs bound pairs
