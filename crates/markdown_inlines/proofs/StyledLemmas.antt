@@ -69,7 +69,7 @@ some_bytes c = let len = len_utf8_bounds c in omega (arith, length-encode c, len
 
 -- ---- one more
 
--- These runs spell one character more, and are runs of the longer text.
+-- these runs spell one character more, and are runs of the longer text
 pub record IsPushed (rs more : List TextRun) (old new : List ℕ) (shown : Shown) : Type 0 where
   pub spells : spelled more new ≡ spelled rs old ++ shown ∷ []
   pub are : AreRuns more new
@@ -117,7 +117,7 @@ push_other rs more old new c start look u v is s m on are =
 
 -- ---- a text more
 
--- These runs spell some characters more, and are runs of the longer text.
+-- these runs spell some characters more, and are runs of the longer text
 pub record IsAdded (rs more : List TextRun) (old new : List ℕ) (shown : List Shown) : Type 0 where
   pub spells : spelled more new ≡ spelled rs old ++ shown
   pub are : AreRuns more new
