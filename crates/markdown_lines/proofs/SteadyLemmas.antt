@@ -80,7 +80,7 @@ run_none all made index none = ap (λ (rs : List Run). made ++ map steady_run rs
 abbrev IsUtf8Run : Run → Type 0
 IsUtf8Run run = IsUtf8 run.text
 
--- Each of these runs is a text.
+-- each of these runs is a text
 abbrev pub AreTexts : List Run → Type 0
 AreTexts runs = AllByRecursion IsUtf8Run runs
 
