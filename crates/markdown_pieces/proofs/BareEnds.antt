@@ -22,7 +22,7 @@ pub record IsPlacedBare (bytes : List ℕ) (found : Bare) : Type 0 where
   pub first : get_or bytes 0 0 < 128
   pub ends : EndsWell bytes (found.len - 1)
 
--- An address that is found is placed so.
+-- an address that is found is placed so
 abbrev pub GivesBare : List ℕ → Option Bare → Type 0
 GivesBare bytes o = (found : Bare) → o ≡ Some found → IsPlacedBare bytes found
 

@@ -30,7 +30,7 @@ use Rattle.markdown_pieces.proofs.HtmlEnds.{html_ends}
 use Rattle.markdown_pieces.proofs.BareEnds.{bare_ends, bare_first}
 use Rattle.markdown_pieces.proofs.TailLemmas.{by_cond, EndsBy, ends_cons, ends_here, Gives, gives_none, gives_some, GivesLen, len_none, len_some}
 
--- The piece ends after a byte of ASCII, or before one.
+-- the piece ends after a byte of ASCII, or before one
 abbrev pub Ends : List ℕ → Piece → Type 0
 Ends rest p = EndsWell rest p.more
 

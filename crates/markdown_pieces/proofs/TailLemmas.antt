@@ -90,7 +90,7 @@ none_some a e = absurd (no e)
     no : None ≡ Some a → ⊥
     no e = cc
 
--- What is found has this property.
+-- what is found has this property
 abbrev pub Gives : (List ℕ → Type 0) → Option (List ℕ) → Type 0
 Gives P o = (a : List ℕ) → o ≡ Some a → P a
 
@@ -102,7 +102,7 @@ gives_none P a e = none_some a e
 pub gives_some : (P : List ℕ → Type 0) (a : List ℕ) → P a → Gives P (Some a)
 gives_some P a p b e = subst P (some_same a b e) p
 
--- A length that is found has this property.
+-- a length that is found has this property
 abbrev pub GivesLen : (ℕ → Type 0) → Option ℕ → Type 0
 GivesLen P o = (len : ℕ) → o ≡ Some len → P len
 
