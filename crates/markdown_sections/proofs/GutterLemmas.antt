@@ -15,7 +15,7 @@ pub record AreItems (gutters : List Gutter) (len : ℕ) : Type 0 where
 pub items_all : (gutters : List Gutter) → AreItems gutters (length gutters)
 items_all gutters = record { within = omega arith; same = ap (λ (l : List Gutter). length gutters + suffix_len is_item l) (sym (take-length gutters)) }
 
--- one more gutter is an item
+-- where the gutter before is an item, it is one of these
 pub items_more : (gutters : List Gutter) (len : ℕ) (d : Gutter) → AreItems gutters len → 0 < len → is_item (get_or gutters (len - 1) d) ≡ true → AreItems gutters (len - 1)
 items_more gutters len d h some item =
     let one = suffix_len-take_yes is_item gutters len d some h.within item in
