@@ -25,7 +25,7 @@ use Rattle.markdown_stream.proofs.StreamLemmas.{begins_streamed}
 
 -- ---- the end of a text
 
--- The stream ends so, whatever was read and went out.
+-- the stream ends so, whatever was read and went out
 abbrev pub Ends : {T : Type 0} → MarkdownStream → Trace → Result T Error → Trace → Type 0
 Ends s before r now = (read sent : List ℕ) → IsInStep read s sent → Finishes s.skin s.width read sent before r now
 
