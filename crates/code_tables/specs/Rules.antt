@@ -20,6 +20,7 @@ pub record Rule : Type 0 where
   pub class : Class
   pub turn : Turn
 
+-- a rule that is made of these parts
 abbrev pub rule : Place → List ℕ → Extent → List ℕ → List (List ℕ) → Class → Turn → Rule
 rule place mark extent close followed class turn =
     record { place = place; mark = mark; extent = extent; close = close; followed = followed; class = class; turn = turn }
@@ -29,9 +30,11 @@ pub record WordClass : Type 0 where
   pub word : List ℕ
   pub class : Class
 
+-- a word that has this class
 abbrev pub word : List ℕ → Class → WordClass
 word w class = record { word = w; class = class }
 
+-- What a mode of a language knows of words and numbers.
 pub record Mode : Type 0 where
   pub words : Words  -- a word has the class that its list says
   pub starts : List ℕ  -- what else begins a word
@@ -42,20 +45,25 @@ pub record Mode : Type 0 where
   pub numbers : Bool  -- digits begin numbers
   pub folds : Bool  -- words have letters of any case
 
+-- a mode that is made of these parts
 abbrev pub mode : Words → (starts more : List ℕ) → Class → (members capitals numbers folds : Bool) → Mode
 mode words starts more otherwise members capitals numbers folds =
     record { words = words; starts = starts; more = more; otherwise = otherwise; members = members; capitals = capitals; numbers = numbers; folds = folds }
 
 -- ---- the code's tables
 
+-- the bytes that are borrowed
 abbrev pub bytes_of : Bor (List ℕ) → List ℕ
 bytes_of s = s.now
 
+-- the rule that a row of the code's tables says
 abbrev pub rule_of : RuleRow → Rule
 rule_of r = rule r.place r.mark.now r.extent r.close.now (map bytes_of r.followed.now) r.class r.turn
 
+-- the word that an entry of the code's lists says
 abbrev pub word_of : Bor (List ℕ) × Class → WordClass
 word_of w = word w.0.now w.1
 
+-- the mode that a row of the code's tables says
 abbrev pub mode_of : ModeRow → Mode
 mode_of m = mode m.words m.starts.now m.more.now m.otherwise m.members m.capitals m.numbers m.folds

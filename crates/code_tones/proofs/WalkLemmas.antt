@@ -7,9 +7,11 @@ use Rattle.bstr.proofs.lemmas.PieceLemmas.{piece-bounds, pieces-nil, pieces-step
 use Rattle.code_tones.specs.Tones.{toned, counted_tones, is_counted, TonedChar}
 use Rattle.code_tones.proofs.CursorLemmas.{one_more}
 
+-- the character in front has a byte
 pub size_some : (bs : List ℕ) → 0 < length bs → 0 < (decoded bs).size
 size_some bs some = omega (arith, piece-bounds bs some)
 
+-- it has no more bytes than there are
 pub size_within : (bs : List ℕ) → 0 < length bs → (decoded bs).size ≤ length bs
 size_within bs some = omega (arith, piece-bounds bs some)
 
@@ -17,6 +19,7 @@ size_within bs some = omega (arith, piece-bounds bs some)
 abbrev pub left_tones : List ℕ → List ℕ → List ℕ
 left_tones tones bs = counted_tones (toned tones (pieces bs))
 
+-- without bytes no tone is left
 pub nothing_left : (tones bs : List ℕ) → length bs ≡ 0 → left_tones tones bs ≡ []
 nothing_left tones [] none = ap (λ ps. counted_tones (toned tones ps)) pieces-nil
 nothing_left tones (b ∷ bs) none = absurd (omega arith)

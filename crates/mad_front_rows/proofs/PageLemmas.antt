@@ -19,6 +19,7 @@ rows_are : (skin : RowSkin) (bar : Option ScrollBar) (lines : List FmtLine) (fs 
 rows_are skin bar lines fs top width shown front wide lines_are fronts_are wide_is =
     ap (λ (ls : List FmtLine). page_row skin wide ls front) lines_are ∙ ap (λ (f : List Front). page_row skin wide (drop top lines) f) fronts_are ∙ ap (λ (n : ℕ). page_row skin n (drop top lines) (drop top fs)) wide_is
 
+-- where the rows from the top one on are drawn, so are the panes
 pub panes_drawn : (skin : RowSkin) (bar : Option ScrollBar) (lines : List FmtLine) (fs : List Front) (top width height : ℕ) (shown : List FmtLine) (front : List Front) (wide : ℕ) (old new : Trace) (bytes : List ℕ)
     → shown ≡ drop top lines → front ≡ drop top fs → wide ≡ columns_beside bar width → new ≡ after old bytes
     → (FillBeside bar (page_row skin wide shown front) (whole_area width height) → TookWith old new (AreShownBeside bar (page_row skin wide shown front) (whole_area width height)))
@@ -29,6 +30,7 @@ panes_drawn skin bar lines fs top width height shown front wide old new bytes li
     known old new bytes (FillBeside bar row area) (AreShownBeside bar row area) taken
     (subst (λ (r : ℕ → List RowPiece). FillBeside bar r area → TookWith old new (AreShownBeside bar r area)) (rows_are skin bar lines fs top width shown front wide lines_are fronts_are wide_is) h)
 
+-- where the panes are drawn, and then the hits over them, so is the page
 pub page_drawn : (skin : RowSkin) (bar : Option ScrollBar) (sought : List ℕ) (lines : List FmtLine) (fs : List Front) (starts : List ℕ) (top width height columns : ℕ) (old mid new : Trace) → columns ≡ columns_beside bar width
     → TookWith old mid (ArePanesDrawn skin bar lines fs top width height) → TookWith mid new (AreRowsMarked skin columns sought lines fs starts 0 (range_with_len top (min height (length lines - top))))
     → TookWith old new (IsPageDrawn skin bar sought lines fs starts top width height)

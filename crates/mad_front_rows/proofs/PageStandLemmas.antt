@@ -24,6 +24,7 @@ narrower : (bar : Option ScrollBar) (width : ℕ) → width < 2 ^ 16 → columns
 narrower None width h = h
 narrower (Some bar) width h = omega (arith, h)
 
+-- all hits of a page stand in its rows
 pub page_hits_stand : PageHitsStand
 page_hits_stand skin bar sought lines fs starts top width height bytes narrow shown drawn =
     rows_stand skin (columns_beside bar width) sought lines fs starts 0 (range_with_len top (min height (length lines - top))) drawn.hits (narrower bar width narrow) shown drawn.marked

@@ -32,6 +32,7 @@ all_behind P n f each (x ∷ xs) = (each x, all_behind P n f each xs)
 both_behind : (P : Marked → Type 0) (n : ℕ) (a b : List Marked) → AllByRecursion P (map (hit_behind n) a) → AllByRecursion P (map (hit_behind n) b) → AllByRecursion P (map (hit_behind n) (a ++ b))
 both_behind P n a b p q = subst (AllByRecursion P) (sym (map-append (hit_behind n) a b)) (all_joined P (map (hit_behind n) a) (map (hit_behind n) b) p q)
 
+-- all hits of a row stand in it
 pub row_hits_stand : RowHitsStand
 row_hits_stand skin width sought lines front starts y row bytes l is narrow shown typed prefix line marked =
     let inner : RowSkin = line_skin skin front.gutters in

@@ -17,6 +17,7 @@ use Rattle.mad_hits.proofs.StandLemmas.{mark_stands}
 use Rattle.mad_style.specs.declared.styled_chars.StyledChar.{StyledChar}
 use Rattle.mad_front_rows.specs.HitLaws.{HitsChangeNoCharacter, hit_in}
 
+-- the cells where a hit is drawn have the characters that it has
 pub hits_change_no_character : HitsChangeNoCharacter
 hits_change_no_character skin width front l count start narrow shown typed prefix line =
     let inner : RowSkin = line_skin skin front.gutters in

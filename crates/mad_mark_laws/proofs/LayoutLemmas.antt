@@ -34,6 +34,7 @@ wrap_counted has skin width source ls margins follows h =
     taken_lines has source.kind (follow_up source.kind) (has source.kind) ls margins refl (follows source.kind) h.made.kinds
     ∙ sym (kept_counted (has source.kind) (flagged_text source.compounds.items) (map flagged_text (line_compounds ls)) (by_keeps room.whole_words room source.compounds.items (line_compounds ls) h.wrap))
 
+-- a list with nothing behind it is the list
 pub plus_none : {A : Type 0} (xs : List A) → xs ++ [] ≡ xs
 plus_none [] = refl
 plus_none (x ∷ xs) = ap (λ l. x ∷ l) (plus_none xs)

@@ -59,6 +59,7 @@ pub stay_marked : (has : CompositeKind → Flags → Bool) (runs : List MarkRun)
 stay_marked has runs n [] = (tt, tt)
 stay_marked has runs n (c ∷ cs) = (inl (column_marks has runs n c (c ∷ []) (plus_none (counted_in has c))), stay_marked has runs (n + count_in has c) cs)
 
+-- the rows of a line have the marks that it says
 pub line_marked : (has : CompositeKind → Flags → Bool) (runs : List MarkRun) (n : ℕ) (skin : LineRules) (width : Option ℕ) (l : FmtLine) (lines : List FmtLine) → Follows has → IsLineAt IsCompositeWrap skin width l lines
     → AreMarked has runs n (cells_of l) (map cells_of lines)
 line_marked has runs n skin None l lines follows h = subst (λ ls. AreMarked has runs n (cells_of l) (map cells_of ls)) (sym h) (stay_marked has runs n (cells_of l))
@@ -194,6 +195,7 @@ row_marked has runs n skin columns cells rows follows h =
     columns_marked has runs n skin columns cells h.lines (map row_cells rows) follows h.laid_out (by_cells columns h.lines rows h.rows_are)
     (at_most (length (map row_cells rows)) h.lines (omega (arith, h.count, rows_long rows)))
 
+-- so have the rows of a table's line
 pub table_line_marked : (has : CompositeKind → Flags → Bool) (runs : List MarkRun) (n : ℕ) (skin : LineRules) (columns : List Spacing) (position : RelativePosition) (l : FmtLine) (lines : List FmtLine) → Follows has
     → IsTableLineBy IsCompositeWrap skin columns position l lines → AreMarked has runs n (cells_of l) (map cells_of lines)
 table_line_marked has runs n skin columns position (Normal l) lines follows h = subst (λ ls. AreMarked has runs n (l ∷ []) (map cells_of ls)) (sym h) (stay_marked has runs n (l ∷ []))

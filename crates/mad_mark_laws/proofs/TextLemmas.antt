@@ -22,6 +22,7 @@ use Rattle.mad_mark_runs.specs.declared.mark_runs.MarkRun.{MarkRun}
 use Rattle.mad_marks.proofs.MarkLemmas.{are_numbered, numbered_joined}
 use Rattle.mad_mark_laws.proofs.LayoutLemmas.{block_counted, single_counted, plus_none}
 
+-- the counted characters of a part
 abbrev pub part_counted : (CompositeKind → Flags → Bool) → Part → List FlaggedChar
 part_counted has (table ls) = all_counted has ls
 part_counted has (block ls) = all_counted has (map Normal ls)
@@ -66,6 +67,7 @@ part_becomes has skin tables width (table ls) lines follows apart h = absurd apa
 part_becomes has skin tables width (block ls) lines follows apart h = block_counted has skin tables width ls lines follows h
 part_becomes has skin tables width (single l) lines follows apart h = single_counted has skin tables width l lines follows h ∙ plus_none (line_counted has l)
 
+-- parts that are no tables become lines that count what they do
 pub parts_become : (has : CompositeKind → Flags → Bool) (skin : LineRules) (tables : ℕ) (width : Option ℕ) (ps : List Part) (lines : List FmtLine) → Follows has → AllByRecursion IsNoTable ps → ArePartsAt IsCompositeWrap skin tables width ps lines
     → all_counted has lines ≡ flat_map (part_counted has) ps
 parts_become has skin tables width [] lines follows apart h = ap (all_counted has) h
@@ -93,6 +95,7 @@ has_mark_follows Quote = refl
 
 -- ---- with marks
 
+-- the texts of composites count what the composites do
 pub cells_texts : (has : CompositeKind → Flags → Bool) (ls : List FmtComposite) → flat_map (text_counted has) (map text_of ls) ≡ flat_map (counted_in has) ls
 cells_texts has [] = refl
 cells_texts has (l ∷ ls) = ap (λ x. counted_in has l ++ x) (cells_texts has ls)
@@ -108,6 +111,7 @@ texts_counted has [] = refl
 texts_counted has (l ∷ ls) = flat_map-append (text_counted has) (line_texts l) (all_texts ls)
     ∙ ap (λ x. x ++ flat_map (text_counted has) (all_texts ls)) (texts_of_line has l) ∙ ap (λ x. line_counted has l ++ x) (texts_counted has ls)
 
+-- the counted characters of texts have the marks of their numbers
 pub texts_numbered : (has : CompositeKind → Flags → Bool) (runs : List MarkRun) (n : ℕ) (ts : List KindText) → texts_marked has runs n ts ≡ numbered runs n (flat_map (text_counted has) ts)
 texts_numbered has runs n [] = refl
 texts_numbered has runs n (t ∷ ts) =

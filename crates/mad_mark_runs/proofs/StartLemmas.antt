@@ -40,6 +40,7 @@ found [] k n d h e = absurd (omega arith)
 found (run ∷ runs) zero n d h e = one_found run runs n e
 found (run ∷ runs) (suc k) n d h e = found runs k n d (omega arith) e
 
+-- past the last run there is none
 pub none_found : (runs : List MarkRun) (k n : ℕ) → length runs ≤ k → next_start (drop k runs) n ≡ drop k runs
 none_found [] zero n h = refl
 none_found [] (suc k) n h = refl

@@ -6,14 +6,17 @@ use Rattle.mad_mark_runs.specs.Marks.{value_at}
 use Rattle.mad_mark_runs.specs.Values.{AreRising, end_from, values_from, values_of}
 use Rattle.mad_mark_runs.specs.declared.mark_runs.MarkRun.{MarkRun}
 
+-- joined runs end where the second ones do, which begin where the first ones end
 pub end_joined : (from : ℕ) (xs ys : List MarkRun) → end_from from (xs ++ ys) ≡ end_from (end_from from xs) ys
 end_joined from [] ys = refl
 end_joined from (x ∷ xs) ys = end_joined x.end xs ys
 
+-- joined runs stand for the values of the first ones, and then of the second
 pub values_joined : (from : ℕ) (xs ys : List MarkRun) → values_from from (xs ++ ys) ≡ values_from from xs ++ values_from (end_from from xs) ys
 values_joined from [] ys = refl
 values_joined from (x ∷ xs) ys = ap (λ l. replicate (x.end - from) x.value ++ l) (values_joined x.end xs ys) ∙ sym (append_assoc (replicate (x.end - from) x.value) (values_from x.end xs) (values_from (end_from x.end xs) ys))
 
+-- the ends of joined runs rise, where those of both do
 pub rising_joined : (from : ℕ) (xs ys : List MarkRun) → AreRising from xs → AreRising (end_from from xs) ys → AreRising from (xs ++ ys)
 rising_joined from [] ys a b = b
 rising_joined from (x ∷ xs) ys a b = (a.0, rising_joined x.end xs ys a.1 b)
@@ -24,6 +27,7 @@ pushed_values runs value count end e =
     values_joined 0 runs (record { value = value; end = end } ∷ [])
     ∙ ap (λ l. values_of runs ++ l) (append-nil (replicate (end - end_from 0 runs) value) ∙ ap (λ (n : ℕ). replicate n value) (omega arith))
 
+-- with one more run, which stands for a value at least, the ends rise
 pub pushed_rising : (runs : List MarkRun) (value count end : ℕ) → AreRising 0 runs → 0 < count → end ≡ end_from 0 runs + count → AreRising 0 (runs ++ record { value = value; end = end } ∷ [])
 pushed_rising runs value count end rising some e = rising_joined 0 runs (record { value = value; end = end } ∷ []) rising (omega arith, tt)
 

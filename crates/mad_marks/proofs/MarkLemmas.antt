@@ -13,6 +13,7 @@ use Rattle.mad_mark_runs.specs.declared.mark_runs.MarkRun.{MarkRun}
 
 -- ---- law (a): marks change no character
 
+-- marks change no character
 pub marks_off : (has : Flags → Bool) (runs : List MarkRun) (n : ℕ) (cs : List FlaggedChar) → map (λ c. c.char) (marked has runs n cs) ≡ cs
 marks_off has runs n [] = refl
 marks_off has runs n (c ∷ cs) = ap (λ l. c ∷ l) (marks_off has runs (cond (is_counted has c) (n + 1) n) cs)
@@ -92,6 +93,7 @@ pub are_numbered : (has : Flags → Bool) (runs : List MarkRun) (n : ℕ) (cs : 
 are_numbered has runs n [] = refl
 are_numbered has runs n (x ∷ xs) = number_step has runs n x xs (has x.flags) (is_whitespace x.char) (λ k. are_numbered has runs k xs)
 
+-- two texts have the marks of one, and then those that go on from its length
 pub numbered_joined : (runs : List MarkRun) (n : ℕ) (xs ys : List FlaggedChar) → numbered runs n (xs ++ ys) ≡ numbered runs n xs ++ numbered runs (n + length xs) ys
 numbered_joined runs n [] ys = ap (λ k. numbered runs k ys) (omega arith)
 numbered_joined runs n (x ∷ xs) ys = ap (λ l. record { value = value_at runs n; char = x } ∷ l) (numbered_joined runs (n + 1) xs ys ∙ ap (λ k. numbered runs (n + 1) xs ++ numbered runs k ys) (omega arith))

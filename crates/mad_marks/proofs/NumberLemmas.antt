@@ -25,6 +25,7 @@ row_more (n ∷ ns) (x ∷ xs) zero h = refl
 row_more [] (x ∷ xs) (suc i) h = ap (λ l. 0 ∷ l) (row_more [] xs i (omega arith))
 row_more (n ∷ ns) (x ∷ xs) (suc i) h = ap (λ l. n ∷ l) (row_more ns xs i (omega arith))
 
+-- where no composite is passed, the numbers stay
 pub passed_none : (has : CompositeKind → Flags → Bool) (ns : List ℕ) → passed has ns [] ≡ ns
 passed_none has [] = refl
 passed_none has (n ∷ ns) = refl
@@ -37,6 +38,7 @@ passed_at has (n ∷ ns) [] (suc i) = refl
 passed_at has (n ∷ ns) (x ∷ xs) zero = refl
 passed_at has (n ∷ ns) (x ∷ xs) (suc i) = passed_at has ns xs i
 
+-- one more composite adds what is counted in it to the number of its column
 pub passed_more : (has : CompositeKind → Flags → Bool) (ns : List ℕ) (xs : List FmtComposite) (i : ℕ) (d : FmtComposite) → i < length xs
     → passed has ns (take (suc i) xs) ≡ set (passed has ns (take i xs)) i (get_or (passed has ns (take i xs)) i 0 + count_in has (get_or xs i d))
 passed_more has ns [] i d h = absurd (omega arith)
@@ -65,6 +67,7 @@ holds_more old new rows ns held numbers starts = record {
 
 -- ---- a row, read back
 
+-- each row has one start
 pub starts_long : (at : ℕ) (rows : List (List ℕ)) → length (starts_from at rows) ≡ length rows
 starts_long at [] = refl
 starts_long at (r ∷ rows) = ap suc (starts_long (at + length r) rows)
@@ -82,11 +85,13 @@ front_dropped (x ∷ xs) ys (suc n) k e = front_dropped xs ys n k (omega arith)
 abbrev before_row : ℕ → List (List ℕ) → ℕ
 before_row row rows = length (concat (take row rows))
 
+-- a row starts behind the numbers of the rows before it
 pub start_at : (at row : ℕ) (rows : List (List ℕ)) (d : ℕ) → row < length rows → get_or (starts_from at rows) row d ≡ at + before_row row rows
 start_at at row [] d h = absurd (omega arith)
 start_at at zero (r ∷ rows) d h = omega arith
 start_at at (suc row) (r ∷ rows) d h = start_at (at + length r) row rows d (omega arith) ∙ omega (arith, length-append r (concat (take row rows)))
 
+-- it ends where the next row starts, or where all numbers end
 pub end_at : (at row : ℕ) (rows : List (List ℕ)) (d : ℕ) → row < length rows → d ≡ at + length (concat rows) → get_or (starts_from at rows) (suc row) d ≡ at + before_row (suc row) rows
 end_at at row [] d h e = absurd (omega arith)
 end_at at zero (r ∷ []) d h e = e
@@ -94,6 +99,7 @@ end_at at zero (r ∷ q ∷ rows) d h e = omega (arith, length-append r [])
 end_at at (suc row) (r ∷ rows) d h e =
     end_at (at + length r) row rows d (omega arith) (e ∙ omega (arith, length-append r (concat rows))) ∙ omega (arith, length-append r (concat (take (suc row) rows)))
 
+-- the numbers from there up to there are the row's
 pub slice_at : (row : ℕ) (rows : List (List ℕ)) → row < length rows → take (before_row (suc row) rows - before_row row rows) (drop (before_row row rows) (concat rows)) ≡ get_or rows row []
 slice_at row [] h = absurd (omega arith)
 slice_at zero (r ∷ rows) h = front_taken r (concat rows) (length (r ++ []) - 0) (omega (arith, length-append r []))
@@ -176,6 +182,7 @@ count_next has ks i d count n next t h n_is next_is before =
     ∙ counted_joined has (flagged_of (get_or ks i d)) (flagged_text (drop (i + 1) ks)) ∙ ap (λ (m : ℕ). m + counted has (flagged_text (drop (i + 1) ks))) (sym n_is) in
     omega arith
 
+-- the same where the compounds go by another name
 pub count_at : (has : Flags → Bool) (all ks : List Compound) (i : ℕ) (d : Compound) (count n next t : ℕ) → all ≡ ks → i < length all → n ≡ counted has (flagged_of (get_or all i d)) → next ≡ count + n
     → count + counted has (flagged_text (drop i ks)) ≡ t → next + counted has (flagged_text (drop (i + 1) ks)) ≡ t
 count_at has all ks i d count n next t same h n_is next_is before =
@@ -184,6 +191,7 @@ count_at has all ks i d count n next t same h n_is next_is before =
 
 -- ---- steps of loops
 
+-- one more composite of a row has the number of its column
 pub cell_numbers : (has : CompositeKind → Flags → Bool) (old numbers new ns now : List ℕ) (xs : List FmtComposite) (i n : ℕ) → i < length xs → now ≡ passed has ns (take i xs) → n ≡ get_or now i 0 → numbers ≡ old ++ row_numbers ns (take i xs)
     → new ≡ numbers ++ n ∷ [] → new ≡ old ++ row_numbers ns (take (i + 1) xs)
 cell_numbers has old numbers new ns now xs i n h now_is n_is numbers_are new_is =
@@ -193,6 +201,7 @@ cell_numbers has old numbers new ns now xs i n h now_is n_is numbers_are new_is 
     ∙ ap (λ (k : ℕ). old ++ (row_numbers ns (take i xs) ++ k ∷ [])) same
     ∙ ap (λ l. old ++ l) (sym (row_more ns xs i h)) ∙ ap (λ (k : ℕ). old ++ row_numbers ns (take k xs)) up
 
+-- one more composite is passed, and what is counted in it is added
 pub cell_passed : (has : CompositeKind → Flags → Bool) (ns now next : List ℕ) (xs : List FmtComposite) (i count : ℕ) (x : FmtComposite) → i < length xs → now ≡ passed has ns (take i xs) → x ≡ get_or xs i x → count ≡ count_in has x
     → next ≡ set now i (get_or now i 0 + count) → next ≡ passed has ns (take (i + 1) xs)
 cell_passed has ns now next xs i count x h now_is x_is count_is next_is =
@@ -202,6 +211,7 @@ cell_passed has ns now next xs i count x h now_is x_is count_is next_is =
     ∙ ap (λ (k : ℕ). set (passed has ns (take i xs)) i (get_or (passed has ns (take i xs)) i 0 + k)) same
     ∙ sym (passed_more has ns xs i x h) ∙ ap (λ (k : ℕ). passed has ns (take k xs)) up
 
+-- one more row has its numbers, and those behind it go on from there
 pub row_pushed : (has : CompositeKind → Flags → Bool) (done all : List (List ℕ)) (f next : List ℕ) (rows : List FmtLine) (i : ℕ) (row : FmtLine) → i < length rows → row ≡ get_or rows i row → next ≡ passed has f (cells_of row)
     → done ++ rows_numbers has f (map cells_of (drop i rows)) ≡ all → (done ++ row_numbers f (cells_of row) ∷ []) ++ rows_numbers has next (map cells_of (drop (i + 1) rows)) ≡ all
 row_pushed has done all f next rows i row h row_is next_is before =

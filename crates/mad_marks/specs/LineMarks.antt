@@ -27,9 +27,11 @@ pub record KindText : Type 0 where
   pub kind : CompositeKind
   pub chars : List FlaggedChar
 
+-- the counted characters of a text
 abbrev pub text_counted : (CompositeKind → Flags → Bool) → KindText → List FlaggedChar
 text_counted has t = filter (is_counted (has t.kind)) t.chars
 
+-- the text that a composite has, in a line of its kind
 abbrev pub text_of : FmtComposite → KindText
 text_of l = record { kind = l.kind; chars = flagged_text l.compounds.items }
 
@@ -39,18 +41,21 @@ line_texts (Normal l) = text_of l ∷ []
 line_texts (TableRow row) = map text_of row.cells.items
 line_texts line = []
 
+-- the texts that all lines have, in order
 abbrev pub all_texts : List FmtLine → List KindText
 all_texts lines = flat_map line_texts lines
 
--- the counted characters of a composite, of a line, of all lines in order
+-- the counted characters of a composite
 abbrev pub counted_in : (CompositeKind → Flags → Bool) → FmtComposite → List FlaggedChar
 counted_in has l = text_counted has (text_of l)
 
+-- the counted characters of a line; of a table's row those of each cell
 abbrev pub line_counted : (CompositeKind → Flags → Bool) → FmtLine → List FlaggedChar
 line_counted has (Normal l) = counted_in has l
 line_counted has (TableRow row) = flat_map (counted_in has) row.cells.items
 line_counted has line = []
 
+-- the counted characters of all lines, in order
 abbrev pub all_counted : (CompositeKind → Flags → Bool) → List FmtLine → List FlaggedChar
 all_counted has lines = flat_map (line_counted has) lines
 
@@ -59,10 +64,11 @@ abbrev pub texts_marked : (CompositeKind → Flags → Bool) → List MarkRun �
 texts_marked has runs n [] = []
 texts_marked has runs n (t ∷ ts) = counted_marked (has t.kind) (marked (has t.kind) runs n t.chars) ++ texts_marked has runs (n + counted (has t.kind) t.chars) ts
 
--- the counted characters that a line of a text says
+-- the counted characters that a composite or a cell says
 abbrev pub said_counted : (CompositeKind → Flags → Bool) → StyledRuns → List FlaggedChar
 said_counted has said = filter (is_counted (has (kind_of said.style))) (flat_map (λ (r : Run). flagged r.flags (chars r.text)) said.runs)
 
+-- the counted characters that a line of a text says
 abbrev pub content_counted : (CompositeKind → Flags → Bool) → LineContent → List FlaggedChar
 content_counted has (normal said) = said_counted has said
 content_counted has (table_row cells) = flat_map (said_counted has) cells

@@ -9,6 +9,7 @@ abbrev pub ends_from : Bool → List Gutter → Bool
 ends_from last [] = last
 ends_from last (g ∷ gs) = ends_in_code (g ∷ gs)
 
+-- where no gutter was before, it is as the last one is
 pub ends_none : (gs : List Gutter) → ends_from false gs ≡ ends_in_code gs
 ends_none [] = refl
 ends_none (g ∷ gs) = refl
@@ -17,5 +18,6 @@ next_ends : (last : Bool) (g : Gutter) (gs : List Gutter) → ends_from (is_code
 next_ends last g [] = refl
 next_ends last g (h ∷ gs) = refl
 
+-- with one more gutter it is as that is, and then as those behind it are
 pub ends_on : (last : Bool) (gs : List Gutter) (i : ℕ) (g : Gutter) → i < length gs → ends_from (is_code (get_or gs i g)) (drop (i + 1) gs) ≡ ends_from last (drop i gs)
 ends_on last gs i g inside = next_ends last (get_or gs i g) (drop (i + 1) gs) ∙ sym (at_drop_more (ends_from last) gs i g inside)

@@ -177,6 +177,7 @@ all_sides skin (g ∷ gs) =
     → front_columns skin g + fronts skin gs + (if t then (if is_code g then 1 else 0) + codes gs else 0) ≡ gutter_columns (has_ascii_boxes skin) g + columns_of (has_ascii_boxes skin) gs) (has_boxes skin)
     (λ e a b. omega (arith, a, b)) (λ e a b. omega (arith, a, b)) own more
 
+-- the faces of gutters fill their columns
 pub faces_fill : FacesFill
 faces_fill skin gs fresh h typed =
     let k : ℕ = length gs - fresh in
@@ -188,6 +189,7 @@ faces_fill skin gs fresh h typed =
       all = all_sides skin gs;
     }
 
+-- a row fills a width, where its line fills what its gutters leave
 pub rows_fill : RowsFill
 rows_fill skin width row h typed fits line =
     let g : ℕ = columns_of (has_ascii_boxes skin) row.gutters in
@@ -203,6 +205,7 @@ cells_both ps qs p q =
     ∙ ap (λ (gs : List Glyph). gs ++ pieces_cells qs) (sym (cells_of_pieces ps p))
     ∙ ap (λ (gs : List Glyph). penned_cells (penned_chars ps) ++ gs) (sym (cells_of_pieces qs q))
 
+-- the cells of a row are those of its faces, of its line, and of the sides of boxes
 pub cells_are_behind : CellsAreBehind
 cells_are_behind skin width row h typed shown =
     let ps : List RowPiece = faces skin row.gutters row.fresh in

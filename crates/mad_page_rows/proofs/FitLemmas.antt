@@ -66,6 +66,7 @@ behind_fill : (skin : RowSkin) (width : ℕ) (gs : List Gutter) (fresh : ℕ) (l
 behind_fill skin width gs fresh [] faces typed fits h = tt
 behind_fill skin width gs fresh (l ∷ lines) faces typed fits h = (rows_fill skin width (record { gutters = gs; fresh = fresh; line = l }) faces typed fits h.0, rest_fill skin width gs lines faces typed fits h.1)
 
+-- from three columns on each row of a section fills the width
 pub sections_fill : SectionsFill
 sections_fill skin width section rows three bound faces keeps s =
     let ascii : Bool = has_ascii_boxes skin in
@@ -82,6 +83,7 @@ shown_fill skin width [] rows three bound faces keeps h = subst (AllFill skin wi
 shown_fill skin width (section ∷ sections) rows three bound faces keeps (own, others, joins, here, more) =
     subst (AllFill skin width) (sym joins) (all_joined _ own others (sections_fill skin width section own three bound faces keeps.0 here) (shown_fill skin width sections others three bound faces keeps.1 more))
 
+-- so does each row of a page
 pub pages_fill : PagesFill
 pages_fill skin width [] rows three bound faces keeps h = subst (AllFill skin width) (sym h) tt
 pages_fill skin width (section ∷ page) rows three bound faces keeps (own, others, joins, becomes, more) =

@@ -44,6 +44,7 @@ all_known : (skin : RowSkin) (first : Bool) (gs : List Gutter) → AreKnownFaces
 all_known skin first [] h = tt
 all_known skin first (g ∷ gs) h = known_both (face skin first g) (flat_map (face skin first) gs) (face_known skin first g h) (all_known skin first gs h)
 
+-- the numbers of a row's colors are bytes, where those of its faces and its line are
 pub row_known : (skin : RowSkin) (width : ℕ) (row : RowContent) → AreKnownFaces skin → AreKnown (behind_pieces skin (Some width) true row) → AreKnown (page_row_pieces skin (Some width) true row)
 row_known skin width row h line =
     let k : ℕ = length row.gutters - row.fresh in

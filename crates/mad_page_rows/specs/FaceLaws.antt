@@ -28,6 +28,7 @@ abbrev pub front_columns : RowSkin → Gutter → ℕ
 front_columns skin Code = if has_boxes skin then 1 else 2
 front_columns skin g = gutter_columns (has_ascii_boxes skin) g
 
+-- the columns in front of a row that these gutters take together
 abbrev pub fronts : RowSkin → List Gutter → ℕ
 fronts skin [] = 0
 fronts skin (g ∷ gs) = front_columns skin g + fronts skin gs
@@ -38,6 +39,7 @@ pub record AreFacesFull (skin : RowSkin) (gutters : List Gutter) (fresh : ℕ) :
   pub back : FillsRow (back_columns skin gutters) (backs skin gutters)
   pub all : fronts skin gutters + back_columns skin gutters ≡ columns_of (has_ascii_boxes skin) gutters
 
+-- the faces of gutters fill their columns, where each of their characters takes one
 abbrev pub FacesFill : Type 0
 FacesFill = (skin : RowSkin) (gutters : List Gutter) (fresh : ℕ) → AreFacesShown skin → AllByRecursion IsTypedGutter gutters → AreFacesFull skin gutters fresh
 
@@ -54,6 +56,7 @@ pub record AreCellsBehind (skin : RowSkin) (width : ℕ) (row : RowContent) : Ty
   pub cells : penned_cells (penned_chars (page_row_pieces skin (Some width) true row))
       ≡ penned_cells (penned_chars (faces skin row.gutters row.fresh)) ++ (penned_cells (penned_chars (behind_pieces skin (Some width) true row)) ++ penned_cells (penned_chars (backs skin row.gutters)))
 
+-- the cells of a row are so, where its line is shown and each character of its gutters takes one column
 abbrev pub CellsAreBehind : Type 0
 CellsAreBehind = (skin : RowSkin) (width : ℕ) (row : RowContent) → AreFacesShown skin → AllByRecursion IsTypedGutter row.gutters
     → AreShownPieces (behind_pieces skin (Some width) true row) → AreCellsBehind skin width row

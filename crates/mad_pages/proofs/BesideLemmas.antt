@@ -29,6 +29,7 @@ pub record PagedSoFar (rules : LineRules) (ascii : Bool) (width : Option ℕ) (a
   pub starts_are : starts ≡ front ++ length lines ∷ []
   pub goes : (others : List RowContent) (rest : List ℕ) → BeginIn rules ascii width left (length lines) others rest → BeginIn rules ascii width all 0 (rows ++ others) (front ++ rest)
 
+-- before the first section there are no lines and no fronts
 pub nothing_paged : (rules : LineRules) (ascii : Bool) (width : Option ℕ) (all : List SectionContent) (lines : List FmtLine) (fronts : List Front) (starts : List ℕ) → lines ≡ [] → fronts ≡ [] → starts ≡ 0 ∷ []
     → PagedSoFar rules ascii width all all lines (map front_content fronts) starts
 nothing_paged rules ascii width all lines fronts starts no_line no_front one = record {
@@ -63,6 +64,7 @@ begin_page : (rules : LineRules) (ascii : Bool) (width : Option ℕ) (page : Lis
 begin_page rules ascii width [] row rows starts h = h.0
 begin_page rules ascii width (section ∷ page) row rows starts (own, others, more, are, becomes, begun, rest) = (own, others, are, becomes, begin_page rules ascii width page (row + length own) others more rest)
 
+-- where no section is left, the page is laid out
 pub paged_whole : (rules : LineRules) (ascii : Bool) (width : Option ℕ) (all left : List SectionContent) (paged : PagedPage) → PagedSoFar rules ascii width all left paged.lines.items (map front_content paged.fronts.items) paged.starts.items → left ≡ []
     → IsPagedAt rules ascii width all paged
 paged_whole rules ascii width all left paged h none =
@@ -85,6 +87,7 @@ line_found : (rows : List RowContent) (fronts : List Front) (row : ℕ) (line : 
 line_found rows fronts row line same is =
     row_found (slice_get rows row) (slice_get fronts row) line (sym (slice_get-map front_content fronts row) ∙ ap (λ (l : List FrontContent). slice_get l row) same ∙ slice_get-map front_of rows row) (sym (slice_get-map line_of rows row) ∙ is)
 
+-- the line of a number is behind the front of that number a row of the page
 pub rows_are : RowsAreThePage
 rows_are rules ascii width page paged is row line found =
     line_found is.rows paged.fronts.items row line is.fronts (ap (λ (l : List FmtLine). slice_get l row) (sym is.lines) ∙ found)
@@ -104,6 +107,7 @@ page_text rules ascii width [] rows h = ap (map line_of) h
 page_text rules ascii width (section ∷ page) rows (own, others, are, becomes, rest) =
     (map line_of own, map line_of others, ap (map line_of) are ∙ map-append line_of own others, sections_text rules ascii width (unfolded rules.whole_words ascii width section) own becomes, page_text rules ascii width page others rest)
 
+-- the lines of a page are layouts of its texts, each in the room behind its gutters
 pub lines_are_the_texts : LinesAreTheTexts
 lines_are_the_texts rules ascii width page paged is =
     subst (λ (lines : List FmtLine). EachBecomes (EachBecomes (IsTextAt rules ascii width)) (map (unfolded rules.whole_words ascii width) page) lines) (sym is.lines) (page_text rules ascii width page is.rows is.is_page)

@@ -55,9 +55,11 @@ pub record ItemsLaid (rules : LineRules) (ascii : Bool) (width : Option ℕ) (al
   pub added : rows ≡ before ++ own
   pub layout : EachBecomes (IsSectionAt rules ascii width) front own
 
+-- before the first item no row is put
 pub no_item : (rules : LineRules) (ascii : Bool) (width : Option ℕ) (all : List SectionContent) (before : List RowContent) → ItemsLaid rules ascii width all all before before
 no_item rules ascii width all before = record { front = []; joins = refl; own = []; added = sym (append-nil before); layout = refl }
 
+-- the rows of one more item are put behind the others
 pub item_more : (rules : LineRules) (ascii : Bool) (width : Option ℕ) (all left : List SectionContent) (item : SectionContent) (before rows new own : List RowContent) → ItemsLaid rules ascii width all (item ∷ left) before rows → new ≡ rows ++ own → IsSectionAt rules ascii width item own → ItemsLaid rules ascii width all left before new
 item_more rules ascii width all left item before rows new own h is s = record {
   front = h.front ++ item ∷ [];
@@ -67,6 +69,7 @@ item_more rules ascii width all left item before rows new own h is s = record {
   layout = both_become (IsSectionAt rules ascii width) h.front (item ∷ []) h.own own h.layout (one_section rules ascii width item own s);
 }
 
+-- where no item is left, the rows of all are put
 pub items_whole : (rules : LineRules) (ascii : Bool) (width : Option ℕ) (all left : List SectionContent) (before rows : List RowContent) → ItemsLaid rules ascii width all left before rows → left ≡ []
     → (own : List RowContent) × (rows ≡ before ++ own) × EachBecomes (IsSectionAt rules ascii width) all own
 items_whole rules ascii width all left before rows h none =
@@ -81,9 +84,11 @@ pub record LaidSoFar (rules : LineRules) (ascii : Bool) (width : Option ℕ) (al
   pub joins : all ≡ front ++ left
   pub layout : IsPageAt rules ascii width front rows
 
+-- before the first section no row is laid out
 pub laid_none : (rules : LineRules) (ascii : Bool) (width : Option ℕ) (all : List SectionContent) → LaidSoFar rules ascii width all all []
 laid_none rules ascii width all = record { front = []; joins = refl; layout = refl }
 
+-- the rows of one more section are laid out behind the others
 pub laid_on : (rules : LineRules) (ascii : Bool) (width : Option ℕ) (all left after : List SectionContent) (rows new : List RowContent) → LaidSoFar rules ascii width all left rows → LaidSection rules ascii width left rows after new → LaidSoFar rules ascii width all after new
 laid_on rules ascii width all left after rows new h p =
     let one : IsPageAt rules ascii width (p.first ∷ []) p.own = (p.own, [], sym (append-nil p.own), p.layout, refl) in
@@ -93,9 +98,11 @@ laid_on rules ascii width all left after rows new h p =
       layout = subst (IsPageAt rules ascii width (h.front ++ p.first ∷ [])) (sym p.added) (both_become (BecomesAt rules ascii width) h.front (p.first ∷ []) rows p.own h.layout one);
     }
 
+-- behind a section fewer are left
 pub laid_shorter : (rules : LineRules) (ascii : Bool) (width : Option ℕ) (left after : List SectionContent) (rows new : List RowContent) → LaidSection rules ascii width left rows after new → length after < length left
 laid_shorter rules ascii width left after rows new p = omega (arith, ap length p.joins)
 
+-- where no section is left, the rows are the page's
 pub laid_whole : (rules : LineRules) (ascii : Bool) (width : Option ℕ) (all left : List SectionContent) (rows new : List RowContent) → LaidSoFar rules ascii width all left rows → left ≡ [] → new ≡ rows → IsPageAt rules ascii width all new
 laid_whole rules ascii width all left rows new h none same =
     let front : h.front ≡ all = sym (h.joins ∙ ap (λ (s : List SectionContent). h.front ++ s) none ∙ append-nil h.front) in
@@ -120,6 +127,7 @@ gutters_behind : (gutters : List Gutter) (fresh : ℕ) (lines : List FmtLine) �
 gutters_behind gutters fresh [] = tt
 gutters_behind gutters fresh (line ∷ lines) = (refl, rest_gutters gutters lines)
 
+-- the lines of a section's rows are a layout, and each row is behind the shown gutters
 pub sections_are_layouts : SectionsAreLayouts
 sections_are_layouts rules ascii width section rows s =
     let ends = shown ascii width section.gutters in
@@ -142,9 +150,11 @@ only_first : (gutters : List Gutter) (fresh : ℕ) (lines : List FmtLine) → On
 only_first gutters fresh [] = tt
 only_first gutters fresh (line ∷ lines) = (refl, rest_fresh gutters lines)
 
+-- no row of a section has first faces but its first one
 pub later_rows : LaterRowsAreOther
 later_rows rules ascii width section first others s = subst (OnlyFirst section.fresh) (sym s.rows_are) (only_first (shown ascii width section.gutters) section.fresh s.lines)
 
+-- the rows of two pages are those of both together
 pub pages_join : PagesJoin
 pages_join rules ascii width page more rows others h m = both_become (BecomesAt rules ascii width) page more rows others h m
 
@@ -180,6 +190,7 @@ plain_first rules ascii width text texts rows own others joins (one, none, own_i
       laid = (s.lines, rest.lines, refl, subst (λ (w : Option ℕ). IsLayoutAt rules w text s.lines) (whole_room ascii width) s.layout, rest.laid);
     }
 
+-- a page without gutters has the rows of layouts
 pub plain : PlainIsLayout
 plain rules ascii width [] rows h = record { lines = []; rows_are = h; laid = refl }
 plain rules ascii width (text ∷ texts) rows (own, others, joins, becomes, more) =

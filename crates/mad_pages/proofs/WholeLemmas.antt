@@ -268,6 +268,7 @@ one_layout rules ascii width section rows stays becomes = (sections_are_layouts 
     one_of : EachBecomes (IsSectionAt rules ascii (Some width)) (section ∷ []) rows → IsSectionAt rules ascii (Some width) section rows
     one_of (own, others, joins, here, none) = subst (IsSectionAt rules ascii (Some width) section) (sym (joins ∙ ap (λ (l : List RowContent). own ++ l) none ∙ append-nil own)) here
 
+-- a table is shown as its list, or as a whole table
 pub tables_are_whole : TablesAreWhole
 tables_are_whole rules ascii width section gutters rows bound all some filled list becomes =
     let room = room_at ascii width section.gutters in
@@ -300,6 +301,7 @@ least_sum false (suc n) rows (w ∷ widths) three count keep =
 past_by : (m n : ℕ) → nat_le m n ≡ false → n < m
 past_by m n off = grind (arith, nat_tests, off)
 
+-- where a table has no room, no widths are wide enough that fit side by side
 pub lists_are_needed : ListsAreNeeded
 lists_are_needed whole width lines widths none three fits count keep =
     let n = columns_count lines in

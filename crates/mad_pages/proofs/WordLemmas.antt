@@ -106,6 +106,7 @@ words_are limit ps ts tokens h =
 limit_is : (rules : LineRules) (kind : CompositeKind) (width : ℕ) → kind ≡ Paragraph → token_limit (room_of rules kind width) ≡ width
 limit_is rules kind width is = ap (λ (k : CompositeKind). token_limit (room_of rules k width)) is ∙ omega arith
 
+-- a cell whose words are no wider than its column keeps them whole
 pub cells_keep_words : CellsKeepWords
 cells_keep_words rules width cell lines whole paragraph within laid =
     ⊎_elim inl (λ r. inr (
@@ -238,6 +239,7 @@ lines_whole rules widths columns first (l ∷ ls) lines whole is fit (own, other
     let next = next_widths widths columns l is in
     (own, others, joins, line_whole rules widths (columns_from widths columns l) (position_at first (length ls == 0)) l own whole next fit.0 here, lines_whole rules widths (columns_from widths columns l) false ls others whole next fit.1 more)
 
+-- no word of a whole table is parted
 pub tables_keep_words : TablesKeepWords
 tables_keep_words rules room table lines whole plain h =
     let within = rows_within (columns_count table) (rows_in table) h.widths (h.words whole) in

@@ -23,10 +23,11 @@ front_or_none None = record { gutters = []; fresh = 0 }
 abbrev pub front_at : List Front → ℕ → FrontContent
 front_at fronts row = front_or_none (slice_get fronts row)
 
--- a row is its front and its line
+-- what stands in front of a row
 abbrev pub front_of : RowContent → FrontContent
 front_of row = record { gutters = row.gutters; fresh = row.fresh }
 
+-- the line of a row, without what stands in front
 abbrev pub line_of : RowContent → FmtLine
 line_of row = row.line
 

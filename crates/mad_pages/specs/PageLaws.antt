@@ -25,6 +25,7 @@ pub record ArePlain (rules : LineRules) (width : Option ℕ) (texts : List (List
   pub rows_are : rows ≡ plain_rows lines
   pub laid : EachBecomes (IsLayoutAt rules width) texts lines
 
+-- each page without gutters is so
 abbrev pub PlainIsLayout : Type 0
 PlainIsLayout = (rules : LineRules) (ascii : Bool) (width : Option ℕ) (texts : List (List LineContent)) (rows : List RowContent)
     → IsPageAt rules ascii width (plain_sections texts) rows → ArePlain rules width texts rows
@@ -35,6 +36,7 @@ pub record AreBehind (rules : LineRules) (ascii : Bool) (width : Option ℕ) (se
   pub layout : IsLayoutAt rules (room ascii width section.gutters) section.lines (map (λ (row : RowContent). row.line) rows)
   pub gutters : AllByRecursion (λ (row : RowContent). row.gutters ≡ shown ascii width section.gutters) rows
 
+-- the rows of each section are so
 abbrev pub SectionsAreLayouts : Type 0
 SectionsAreLayouts = (rules : LineRules) (ascii : Bool) (width : Option ℕ) (section : SectionContent) (rows : List RowContent)
     → IsSectionAt rules ascii width section rows → AreBehind rules ascii width section rows

@@ -183,6 +183,7 @@ command_by c cs false false b o h =
     let len : escape_from false 0 (c ∷ cs) ≡ r.0 = r.1 ∙ omega arith in
     inr (inr (record { intermediates = r.2.intermediates; final = r.2.final; are_intermediates = r.2.are; ends = r.2.ends; is = ap (λ k. take k (c ∷ cs)) len ∙ r.2.is }))
 
+-- what is taken for a command is one
 pub is_command : (cs : List ℕ) → 0 < command_len cs → IsCommand (take (command_len cs) cs)
 is_command [] h = absurd (omega (arith, h))
 is_command (c ∷ cs) h = command_by c cs (eqb c 91) (opens_string c) refl refl h

@@ -65,6 +65,7 @@ obeyed_from p (suc n) (c ∷ cs) h =
     let b = both_true (not (c == 10)) (list_all (λ d. not (d == 10)) cs) h in
     ap (λ l. are_plain (said l)) (skip_here p (suc n) c cs (omega arith)) ∙ obeyed_from p (suc n - 1) cs b.1
 
+-- nothing that is shown of a line without newlines is obeyed
 pub nothing_obeyed : (line : List ℕ) → list_all (λ c. not (c == 10)) line ≡ true → are_plain (said (line_chars line)) ≡ true
 nothing_obeyed line h = obeyed_from line_start 0 line h
 
@@ -149,6 +150,7 @@ hidden_from zero p column (c ∷ cs) h same = absurd (omega (arith, h))
 hidden_from (suc fuel) p column (c ∷ cs) h same =
     hidden_here p column c (command_at c cs) cs (eqb (command_at c cs) 0) (is_struck c cs) refl refl refl same (λ q k ds small e. hidden_from fuel q k ds (omega (arith, small, h)) e)
 
+-- nothing of a line is hidden but commands and what overstrikes say
 pub nothing_hidden : (line : List ℕ) → IsShown 0 line (said (line_chars line))
 nothing_hidden line = hidden_from (length line) line_start 0 line (omega arith) refl
 
@@ -194,5 +196,6 @@ written_from before column (c ∷ cs) h =
     ∙ plainly_append (shown_char (plain_place before column) c) rest (shown_plainly before column c (eqb c 9)) (written_from before (column_after column c) cs b.1)
     ∙ ap (λ l. map (styled plain_pen) (said l)) (sym step)
 
+-- a line without ESC and backspaces has no style
 pub styles_written : (line : List ℕ) → list_all (λ c. not ((c == 27) || (c == 8))) line ≡ true → line_chars line ≡ map (styled plain_pen) (said (line_chars line))
 styles_written line h = written_from no_strikes 0 line h

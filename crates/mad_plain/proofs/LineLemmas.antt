@@ -17,11 +17,13 @@ use Rattle.mad_plain.proofs.PenLemmas.{both_true}
 
 -- ---- a step
 
+-- a character that goes with those before shows nothing
 pub skip_here : (p : Place) (n c : ℕ) (cs : List ℕ) → 0 < n → line_from p n (c ∷ cs) ≡ line_from p (n - 1) cs
 unfolding line_from
 skip_here p zero c cs h = absurd (omega (arith, h))
 skip_here p (suc n) c cs h = ap (λ k. line_from p k cs) (omega arith)
 
+-- a character shows nothing or itself, and the line goes on at the place behind it
 pub here_by : (p : Place) (c k : ℕ) (cs : List ℕ) (none struck : Bool) → command_at c cs ≡ k → eqb k 0 ≡ none → is_struck c cs ≡ struck
     → line_from p 0 (c ∷ cs)
     ≡ cond (not none) [] (cond struck [] (shown_char p c))
@@ -37,12 +39,14 @@ here_by p c k cs none struck e n s =
 
 -- ---- the same behind what is shown already
 
+-- past a character that goes with those before, all stays the same
 pub on_skip : (shown all : List StyledChar) (p : Place) (n c : ℕ) (old cs : List ℕ) → 0 < n → old ≡ c ∷ cs → shown ++ line_from p n old ≡ all → shown ++ line_from p (n - 1) cs ≡ all
 on_skip shown all p n c old cs h e k = ap (λ l. shown ++ l) (sym (skip_here p n c cs h) ∙ ap (line_from p n) (sym e)) ∙ k
 
 at_zero : (shown all : List StyledChar) (p : Place) (n c : ℕ) (old cs : List ℕ) → n ≡ 0 → old ≡ c ∷ cs → shown ++ line_from p n old ≡ all → shown ++ line_from p 0 (c ∷ cs) ≡ all
 at_zero shown all p n c old cs z e k = ap (λ l. shown ++ line_from p 0 l) (sym e) ∙ ap (λ j. shown ++ line_from p j old) (sym z) ∙ k
 
+-- past the ESC of a command the pen is what the command makes of it
 pub on_command : (shown all : List StyledChar) (p : Place) (n c k : ℕ) (pen : Pen) (old cs : List ℕ) → n ≡ 0 → old ≡ c ∷ cs → k ≡ command_at c cs → eqb k 0 ≡ false → pen ≡ pen_after p.pen cs
     → shown ++ line_from p n old ≡ all → shown ++ line_from (record p { pen = pen }) k cs ≡ all
 on_command shown all p n c k pen old cs z e is some pen_is h =
@@ -50,6 +54,7 @@ on_command shown all p n c k pen old cs z e is some pen_is h =
     ∙ ap (λ l. shown ++ l) (sym (here_by p c k cs false (is_struck c cs) (sym is) some refl))
     ∙ at_zero shown all p n c old cs z e h
 
+-- past the lower character of an overstrike it is known what that says
 pub on_struck : (shown all : List StyledChar) (p : Place) (n c k : ℕ) (now : Strikes) (old cs : List ℕ) → n ≡ 0 → old ≡ c ∷ cs → k ≡ command_at c cs → k ≡ 0 → is_struck c cs ≡ true → now ≡ strikes_after p.now p.before c (slice_index cs 1)
     → shown ++ line_from p n old ≡ all → shown ++ line_from (record p { now = now }) 1 cs ≡ all
 on_struck shown all p n c k now old cs z e is none struck now_is h =
@@ -57,6 +62,7 @@ on_struck shown all p n c k now old cs z e is none struck now_is h =
     ∙ ap (λ l. shown ++ l) (sym (here_by p c 0 cs true true (sym is ∙ none) refl struck))
     ∙ at_zero shown all p n c old cs z e h
 
+-- past a character that is shown, what is shown has it
 pub on_char : (shown more all : List StyledChar) (p q : Place) (n c k : ℕ) (old cs : List ℕ) → n ≡ 0 → old ≡ c ∷ cs → k ≡ command_at c cs → k ≡ 0 → is_struck c cs ≡ false → more ≡ shown ++ shown_char p c → q ≡ passed p c
     → shown ++ line_from p n old ≡ all → more ++ line_from q n cs ≡ all
 on_char shown more all p q n c k old cs z e is none struck more_is q_is h =
@@ -67,10 +73,12 @@ on_char shown more all p q n c k old cs z e is none struck more_is q_is h =
     ∙ ap (λ l. shown ++ l) (sym (here_by p c 0 cs true false (sym is ∙ none) refl struck))
     ∙ at_zero shown all p n c old cs z e h
 
+-- at the end of a line nothing is shown
 pub line_end : (p : Place) (n : ℕ) → line_from p n [] ≡ []
 unfolding line_from
 line_end p n = refl
 
+-- where no character is left, all is shown
 pub line_whole : (shown all : List StyledChar) (p : Place) (n : ℕ) (cs : List ℕ) → cs ≡ [] → shown ++ line_from p n cs ≡ all → shown ≡ all
 line_whole shown all p n cs e h = sym (append-nil shown) ∙ ap (λ l. shown ++ l) (sym (ap (line_from p n) e ∙ line_end p n)) ∙ h
 
@@ -107,5 +115,6 @@ plain_from before column (c ∷ cs) h =
     ∙ ap (λ l. l ++ line_from (plain_place before (column_after column c)) 0 cs) (as_it_is (plain_place before column) c b.0)
     ∙ ap (λ (l : List StyledChar). styled plain_pen c ∷ l) (plain_from before (column_after column c) cs b.1)
 
+-- a line without tabs and control characters is shown as it is
 pub plain_all : (cs : List ℕ) → are_plain cs ≡ true → line_chars cs ≡ map (styled plain_pen) cs
 plain_all cs h = plain_from no_strikes 0 cs h

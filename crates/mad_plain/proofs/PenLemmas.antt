@@ -12,9 +12,11 @@ use Rattle.mad_plain.specs.declared.pens.Pen.{Pen}
 abbrev same_color : Color → Color → Bool
 same_color = (color_equality.ghosts).eq
 
+-- the code's test says that two pens are equal
 abbrev pub same_pen : Pen → Pen → Bool
 same_pen = (pen_equality.ghosts).eq
 
+-- where both hold, each does
 pub both_true : (a b : Bool) → (a && b) ≡ true → (a ≡ true) × (b ≡ true)
 both_true true b h = (refl, h)
 both_true false b h = absurd (false≢true h)
@@ -92,6 +94,7 @@ pens_same a b h1 h2 h3 h4 h5 h6 h7 h8 h9 h10 h11 h12 =
     ∙ ap (λ x. record a { foreground = b.foreground; background = b.background; underline = b.underline; bold = b.bold; dim = b.dim; italic = b.italic; underlined = b.underlined; blinking = b.blinking; reversed = b.reversed; hidden = b.hidden; crossed_out = x }) h11
     ∙ ap (λ x. record a { foreground = b.foreground; background = b.background; underline = b.underline; bold = b.bold; dim = b.dim; italic = b.italic; underlined = b.underlined; blinking = b.blinking; reversed = b.reversed; hidden = b.hidden; crossed_out = b.crossed_out; overlined = x }) h12
 
+-- pens that compare equal are the same
 pub same_pen_true : (a b : Pen) → same_pen a b ≡ true → a ≡ b
 same_pen_true a b h =
     let h1 = both_true (option_eq same_color a.foreground b.foreground) _ h in

@@ -51,6 +51,7 @@ whole_from width left s at (c ∷ cs) line low len =
     (λ l t more h. whole_from width (left - char_columns c) s (at + 1) cs line h (omega (arith, len, low)))
     (whole_from width (width - char_columns c) at (at + 1) cs (drop (at - s) line) (omega arith) (omega (arith, length-drop (at - s) line, len, low)))
 
+-- wrapped rows, one after the other, are the line
 pub rows_joined : (width : ℕ) (line : List StyledChar) → flat_map (λ row. row) (wrapped width line) ≡ line
 rows_joined width [] = refl
 rows_joined width (c ∷ cs) = whole_from width (width - char_columns c.char) 0 1 (said cs) (c ∷ cs) (omega arith) (omega (arith, said_length cs))
@@ -99,6 +100,7 @@ fit_from width left s at x front (c ∷ rest) e h =
     (λ k. fit_from width (left - char_columns c.char) s (at + 1) x (front ++ c ∷ []) rest (omega (arith, e, length-append front (c ∷ []))) k)
     (fit_from width (width - char_columns c.char) at (at + 1) c [] rest (omega arith) (omega arith))
 
+-- no wrapped row is wider than the width, or than its first character
 pub rows_fit : (width : ℕ) (line : List StyledChar) → AllByRecursion (FitsOrIsOne width) (wrapped width line)
 rows_fit width [] = (tt, tt)
 rows_fit width (c ∷ cs) = fit_from width (width - char_columns c.char) 0 1 c [] cs (omega arith) (omega arith)
@@ -113,6 +115,7 @@ part_by a b at w c false t e = omega (arith, blanks_columns (min b (at + w) - ma
 sum_of : (a b at w p r : ℕ) → p ≤ min b (at + w) - max a at → r ≤ b - max a (at + w) → p + r ≤ b - max a at
 sum_of a b at w p r h k = omega (arith, h, k)
 
+-- a window shows no more columns than it has
 pub window_columns : (a b at : ℕ) (cs : List StyledChar) → columns_of (said (window a b at cs)) ≤ b - max a at
 window_columns a b at [] = omega arith
 window_columns a b at (c ∷ cs) =
@@ -129,6 +132,7 @@ sign_columns false c h = refl
 room_by : (moved total width : ℕ) (m t w1 r w0 : Bool) → nat_lt 1 width ≡ w1 → nat_lt 0 width ≡ w0 → one_if (m && (t && w1)) + one_if (r && w0) ≤ width
 room_by moved total width m t w1 r w0 h k = grind (arith, nat_tests, h, k)
 
+-- a cut row is no wider than the screen
 pub cut_fits : (moved width : ℕ) (line : List StyledChar) → columns_of (said (cut_row moved width line)) ≤ width
 cut_fits moved width line =
     let total = columns_of (said line) in
@@ -159,6 +163,7 @@ window_whole b at (c ∷ cs) h =
     ap (λ (l : List StyledChar). l ++ window 0 b (at + char_columns c.char) cs) (whole_part b at (char_columns c.char) c (omega (arith, h)))
     ∙ ap (λ (l : List StyledChar). c ∷ l) (window_whole b (at + char_columns c.char) cs (omega (arith, h)))
 
+-- a line that fits, and isn't moved, is shown as it is
 pub cut_whole : (width : ℕ) (line : List StyledChar) → columns_of (said line) ≤ width → cut_row 0 width line ≡ line
 cut_whole width line h =
     let none : nat_lt (0 + width) (columns_of (said line)) ≡ false = grind (arith, nat_tests, h) in
@@ -196,6 +201,7 @@ full_from width used left s at x front (c ∷ rest) e late h =
     (λ k. full_from width used (left - char_columns c.char) s (at + 1) x (front ++ c ∷ []) rest (omega (arith, e, length-append front (c ∷ []))) late k)
     (λ k. full_from width (columns_of (said (x ∷ front))) (width - char_columns c.char) at (at + 1) c [] rest (omega arith) k (omega arith))
 
+-- each wrapped row begins where the one before it has no room
 pub rows_full : (width : ℕ) (line : List StyledChar) → AreFull width (width + 1) (wrapped width line)
 rows_full width [] = (tt, tt)
 rows_full width (c ∷ cs) = full_from width (width + 1) (width - char_columns c.char) 0 1 c [] cs (omega arith) (omega arith) (omega arith)

@@ -11,6 +11,7 @@ use Rattle.mad_plain.specs.Rows.{columns_of, is_inside, window, sign_if, one_if,
 
 -- ---- the part of a line
 
+-- one more character is put, and those behind it are to come
 pub taken_more : (count at : ℕ) (c : StyledChar) (old cs all shown new : List StyledChar) → at < count → old ≡ c ∷ cs → new ≡ shown ++ c ∷ [] → shown ++ take (count - at) old ≡ all → new ++ take (count - (at + 1)) cs ≡ all
 taken_more count at c old cs all shown new h e n so =
     let more : count - at ≡ suc (count - (at + 1)) = omega arith in
@@ -20,6 +21,7 @@ taken_more count at c old cs all shown new h e n so =
     ∙ sym (ap (λ (l : List StyledChar). shown ++ take (count - at) l) e)
     ∙ so
 
+-- past one more character the same is left
 pub left_more : (count at : ℕ) (c : StyledChar) (old cs all : List StyledChar) → at < count → old ≡ c ∷ cs → drop (count - at) old ≡ all → drop (count - (at + 1)) cs ≡ all
 left_more count at c old cs all h e so =
     let more : count - at ≡ suc (count - (at + 1)) = omega arith in
@@ -29,6 +31,7 @@ left_more count at c old cs all h e so =
 pub none_left : (count at : ℕ) (old new all : List StyledChar) → old ≡ [] → new ≡ [] → drop (count - at) old ≡ all → new ≡ all
 none_left count at old new all e n so = n ∙ sym (drop-nil (count - at)) ∙ sym (ap (λ (l : List StyledChar). drop (count - at) l) e) ∙ so
 
+-- where no character is left, all are put
 pub none_taken : (count at : ℕ) (old all shown : List StyledChar) → old ≡ [] → shown ++ take (count - at) old ≡ all → shown ≡ all
 none_taken count at old all shown e so = sym (append-nil shown) ∙ ap (λ (l : List StyledChar). shown ++ l) (sym (take-nil (count - at))) ∙ sym (ap (λ (l : List StyledChar). shown ++ take (count - at) l) e) ∙ so
 
@@ -67,6 +70,7 @@ signed left right from to line s0 s1 s2 s3 h0 h1 h2 h3 =
     let front : s1 ≡ sign_if left 60 = h1 ∙ ap (λ l. l ++ sign_if left 60) h0 in
     h3 ∙ ap (λ l. l ++ sign_if right 62) (h2 ∙ ap (λ l. l ++ window from to 0 line) front) ∙ append_assoc (sign_if left 60) (window from to 0 line) (sign_if right 62)
 
+-- a sign, a window and a sign are a cut row, where the line's columns are counted as far as matters
 pub cut_is : (moved width t : ℕ) (line s0 s1 s2 s3 : List StyledChar) (left right : Bool) (from to : ℕ) → min t (moved + width + 1) ≡ min (columns_of (said line)) (moved + width + 1)
     → left ≡ goes_left t moved width → right ≡ goes_right t moved width → from ≡ moved + one_if left → to ≡ moved + width - one_if right
     → s0 ≡ [] → s1 ≡ s0 ++ sign_if left 60 → s2 ≡ s1 ++ window from to 0 line → s3 ≡ s2 ++ sign_if right 62

@@ -14,21 +14,25 @@ use Rattle.mad_plain.specs.Pens.{plain_pen}
 use Rattle.mad_plain.specs.Runs.{StyledChar, styled, said, spread, are_within, next_runs, first_style}
 use Rattle.mad_plain.proofs.PenLemmas.{both_true}
 
+-- a run that has this style and ends at this number
 abbrev pub run : Pen → ℕ → StyleRun
 run style end = record { style = style; end = end }
 
+-- runs within a number begin no later than there
 pub ends_within : (at : ℕ) (rs : List StyleRun) (n : ℕ) → are_within at rs n ≡ true → at ≤ n
 ends_within at [] n h = leb-true at n h
 ends_within at (r ∷ rs) n h =
     let b = both_true (nat_le at r.end) (are_within r.end rs n) h in
     omega (arith, leb-true at r.end b.0, ends_within r.end rs n b.1)
 
+-- runs within a number are within the next one
 pub within_more : (at : ℕ) (rs : List StyleRun) (n : ℕ) → are_within at rs n ≡ true → are_within at rs (n + 1) ≡ true
 within_more at [] n h = le-leb at (n + 1) (omega (arith, leb-true at n h))
 within_more at (r ∷ rs) n h =
     let b = both_true (nat_le at r.end) (are_within r.end rs n) h in
     and_from (nat_le at r.end) (are_within r.end rs (n + 1)) b.0 (within_more r.end rs n b.1)
 
+-- with the open run, which ends at the number, they are within it
 pub closed_within : (d : Pen) (at : ℕ) (rs : List StyleRun) (n : ℕ) → are_within at rs n ≡ true → are_within at (rs ++ run d n ∷ []) n ≡ true
 closed_within d at [] n h = and_from (nat_le at n) (nat_le n n) h (le-leb n n (omega arith))
 closed_within d at (r ∷ rs) n h =
@@ -153,6 +157,7 @@ step_rest at rs new old cs c style h e is first =
     ∙ ap (λ (l : List StyleRun). styled (first_style l) c ∷ spread plain_pen (at + 1) l cs) (sym is)
     ∙ ap (λ (s : Pen). styled s c ∷ spread plain_pen (at + 1) new cs) (sym first)
 
+-- past one more character the runs that are left are within the same number
 pub step_within : (at : ℕ) (rs new : List StyleRun) (old cs : List ℕ) (c : ℕ) → are_within at rs (at + length old) ≡ true → old ≡ c ∷ cs → new ≡ next_runs rs at → are_within (at + 1) new (at + 1 + length cs) ≡ true
 step_within at rs new old cs c h e is =
     let n : at + length old ≡ at + 1 + length cs = omega (arith, ap length e) in
@@ -165,6 +170,7 @@ pub said_styled : (d : Pen) (cs : List ℕ) → said (map (styled d) cs) ≡ cs
 said_styled d [] = refl
 said_styled d (c ∷ cs) = ap (λ (l : List ℕ). c ∷ l) (said_styled d cs)
 
+-- spreading runs over characters changes none of them
 pub said_spread : (d : Pen) (at : ℕ) (rs : List StyleRun) (cs : List ℕ) → said (spread d at rs cs) ≡ cs
 said_spread d at [] cs = said_styled d cs
 said_spread d at (r ∷ rs) cs =

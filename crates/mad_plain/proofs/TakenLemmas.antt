@@ -123,6 +123,7 @@ escape_taken cs rest s =
     ∙ escape_parts s.intermediates s.final rest s.are_intermediates s.ends
     ∙ omega (arith, ap length s.is, length-append s.intermediates (s.final ∷ []))
 
+-- a command is taken for one, whatever is behind it
 pub all_taken : (cs rest : List ℕ) → IsCommand cs → command_len (cs ++ rest) ≡ length cs
 all_taken cs rest (inl s) = sequence_taken cs rest s
 all_taken cs rest (inr (inl s)) = string_taken cs rest s

@@ -8,6 +8,7 @@ use Rattle.mad_md.proofs.PartsLemmas.{first_line, split_is_parts}
 use Rattle.mad_plain.specs.Laws.{AreLinesOf}
 use Rattle.mad_plain.specs.Texts.{is_newline_byte, text_lines}
 
+-- one more line is cut off, and those behind it are to come
 pub cut_more : (rest part after : List ℕ) (all : List (List ℕ)) (lines new : List (Bor (List ℕ))) (line : Bor (List ℕ)) → 0 < length rest
     → part ≡ before_first is_newline_byte rest → after ≡ after_first is_newline_byte rest → new ≡ lines ++ line ∷ [] → line.now ≡ strip_carriage_return part
     → map (λ line. line.now) lines ++ text_lines rest ≡ all → map (λ line. line.now) new ++ text_lines after ≡ all
@@ -21,5 +22,6 @@ cut_more rest part after all lines new line some part_is after_is pushed said h 
     ∙ ap (λ (ps : List (List ℕ)). map (λ line. line.now) lines ++ map strip_carriage_return ps) (sym (first_line rest some))
     ∙ h
 
+-- the lines of a text are what stands between its newlines
 pub are_lines : (text : List ℕ) → AreLinesOf text (text_lines text)
 are_lines text = record { parts = slice_split is_newline_byte text; cut = split_is_parts text; are = refl }

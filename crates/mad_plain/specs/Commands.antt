@@ -3,12 +3,15 @@ use Rattle.std.specs.Prelude.{ℕ, ◌+◌, ◌==◌, ◌&&◌, ◌||◌, not, B
 use Rattle.std.specs.Char.{is_control}
 use Rattle.std.specs.Int.{is_in_range}
 
+-- the character is a parameter's: a digit, or one of : ; < = > ?
 abbrev pub is_parameter : ℕ → Bool
 is_parameter c = is_in_range 0x30 0x3F c
 
+-- the character may stand before the final one: a space, or a sign of ASCII up to /
 abbrev pub is_intermediate : ℕ → Bool
 is_intermediate c = is_in_range 0x20 0x2F c
 
+-- the character ends a control sequence: one from @ up to ~
 abbrev pub is_final : ℕ → Bool
 is_final c = is_in_range 0x40 0x7E c
 
@@ -34,10 +37,11 @@ string_from at (c ∷ cs) =
     else if is_control c then 0
     else string_from (at + 1) cs
 
--- another escape: intermediates, and a character that may stand there
+-- a character that may end another escape, behind intermediates or alone
 abbrev pub ends_escape : Bool → ℕ → Bool
 ends_escape middle c = is_in_range 0x30 0x7E c && (middle || not ((c == 91) || opens_string c))
 
+-- another escape: intermediates, and a character that may end it
 abbrev pub escape_from : Bool → ℕ → List ℕ → ℕ
 escape_from middle at [] = 0
 escape_from middle at (c ∷ cs) = if is_intermediate c then escape_from true (at + 1) cs else if ends_escape middle c then at + 1 else 0

@@ -5,6 +5,7 @@ use Rattle.mad_plain.specs.Pens.{plain_pen}
 use Rattle.mad_plain.specs.Runs.{styled}
 use Rattle.mad_plain.specs.Lines.{line_chars}
 
+-- The definition gives what the model says of these lines.
 pub record Examples : Type 0 where
   pub e0 : line_chars (27 ∷ 91 ∷ 48 ∷ 109 ∷ 97 ∷ []) ≡ (styled plain_pen 97 ∷ [])
   pub e1 : line_chars (27 ∷ 91 ∷ 49 ∷ 109 ∷ 97 ∷ []) ≡ (styled (record plain_pen { bold = true }) 97 ∷ [])

@@ -43,6 +43,7 @@ pub record IsEscape (cs : List ℕ) : Type 0 where
   pub ends : ends_escape (nat_lt 0 (length intermediates)) final ≡ true
   pub is : cs ≡ intermediates ++ final ∷ []
 
+-- what a command is behind its ESC: a control sequence, a string, or another escape
 abbrev pub IsCommand : List ℕ → Type 0
 IsCommand cs = IsSequence cs ⊎ (IsString cs ⊎ IsEscape cs)
 
@@ -79,6 +80,7 @@ pub record AreLinesOf (text : List ℕ) (lines : List (List ℕ)) : Type 0 where
   pub cut : AreParts text parts
   pub are : lines ≡ map strip_carriage_return (without_last_empty parts)
 
+-- the lines of each text are so
 abbrev pub LinesAreLines : Type 0
 LinesAreLines = (text : List ℕ) → AreLinesOf text (text_lines text)
 
@@ -93,6 +95,7 @@ abbrev pub FitsOrIsOne : ℕ → List StyledChar → Type 0
 FitsOrIsOne width [] = Unit {0}
 FitsOrIsOne width (c ∷ cs) = columns_of (said (c ∷ cs)) ≤ max width (char_columns c.char)
 
+-- each wrapped row is so
 abbrev pub RowsFit : Type 0
 RowsFit = (width : ℕ) (line : List StyledChar) → AllByRecursion (FitsOrIsOne width) (wrapped width line)
 
@@ -114,10 +117,12 @@ abbrev pub BeginsLate : (width used : ℕ) → List StyledChar → Type 0
 BeginsLate width used [] = Unit {0}
 BeginsLate width used (c ∷ cs) = width < used + char_columns c.char
 
+-- these rows begin so, the first behind a row of `used` columns
 abbrev pub AreFull : (width used : ℕ) → List (List StyledChar) → Type 0
 AreFull width used [] = Unit {0}
 AreFull width used (row ∷ rows) = BeginsLate width used row × AreFull width (columns_of (said row)) rows
 
+-- wrapped rows begin so; the first has none before it
 abbrev pub RowsAreFull : Type 0
 RowsAreFull = (width : ℕ) (line : List StyledChar) → AreFull width (width + 1) (wrapped width line)
 

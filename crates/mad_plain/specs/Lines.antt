@@ -14,9 +14,11 @@ use Rattle.mad_plain.specs.Runs.{StyledChar, styled}
 -- a character in a style
 -- ---- overstrikes
 
+-- overstrikes say nothing
 abbrev pub no_strikes : Strikes
 no_strikes = record { bold = false; underlined = false }
 
+-- overstrikes say something
 abbrev pub strikes_any : Strikes → Bool
 strikes_any s = s.bold || s.underlined
 
@@ -41,9 +43,11 @@ strikes_after now before c second =
 
 -- ---- a place in a line: the pen, what overstrikes say of the next character, what they said last, and the columns before it
 
+-- a line begins with a plain pen, and nothing is overstruck
 abbrev pub line_start : Place
 line_start = record { pen = plain_pen; now = no_strikes; before = no_strikes; column = 0 }
 
+-- the style of the next character: the pen, and what overstrikes say
 abbrev pub style_at : Place → Pen
 style_at p = record p.pen { bold = p.pen.bold || p.now.bold; underlined = p.pen.underlined || p.now.underlined }
 
@@ -73,12 +77,14 @@ command_at c after = if c == 27 then command_len after else 0
 abbrev pub more_at : ℕ → List ℕ → ℕ
 more_at c after = if not (command_at c after == 0) then command_at c after else if is_struck c after then 1 else 0
 
+-- the place that is past a command, an overstrike, or a character that is shown
 abbrev pub place_after : Place → ℕ → List ℕ → Place
 place_after p c after =
     if not (command_at c after == 0) then record p { pen = pen_after p.pen after }
     else if is_struck c after then record p { now = strikes_after p.now p.before c (slice_index after 1) }
     else passed p c
 
+-- a command shows nothing, nor does the lower character of an overstrike; any other is shown
 abbrev pub shown_at : Place → ℕ → List ℕ → List StyledChar
 shown_at p c after = if not (command_at c after == 0) then [] else if is_struck c after then [] else shown_char p c
 
@@ -96,5 +102,6 @@ line_chars line = line_from line_start 0 line
 abbrev pub is_plain_char : ℕ → Bool
 is_plain_char c = is_printable_char c && not (c == 10)
 
+-- a line shows these characters as they are
 abbrev pub are_plain : List ℕ → Bool
 are_plain cs = list_all is_plain_char cs

@@ -30,6 +30,7 @@ plain_pen = record {
 abbrev pub with_digit : ℕ → ℕ → ℕ
 with_digit n c = min 256 (10 * n + (c - 48))
 
+-- a part that has this number, joined to the one before it or not
 abbrev pub part : Bool → ℕ → Part
 part joined n = record { joined = joined; number = n }
 
@@ -50,6 +51,7 @@ is_setting (c ∷ cs) = if is_ascii_digit c || ((c == 58) || (c == 59)) then is_
 
 -- ---- one number
 
+-- a number below 22: all is reset, or an attribute is set
 abbrev pub set_low : ℕ → Pen → Pen
 set_low n pen =
     if n == 0 then plain_pen
@@ -63,6 +65,7 @@ set_low n pen =
     else if n == 9 then record pen { crossed_out = true }
     else pen
 
+-- a number that ends attributes; 53 sets a line above
 abbrev pub unset : ℕ → Pen → Pen
 unset n pen =
     if n == 22 then record pen { bold = false; dim = false }
@@ -88,6 +91,7 @@ set_color_number n pen =
     else if n == 59 then record pen { underline = None }
     else pen
 
+-- a number that stands alone: an attribute, or a color of the first sixteen
 abbrev pub set_number : ℕ → Pen → Pen
 set_number n pen = if nat_lt n 22 then set_low n pen else if nat_lt n 30 || nat_lt 50 n && nat_lt n 56 then unset n pen else set_color_number n pen
 
@@ -101,6 +105,7 @@ number_at ps i = if nat_lt i (length ps) then (slice_index_or ps i (part false 0
 abbrev pub is_color_kind : ℕ → Bool
 is_color_kind n = (n == 38) || ((n == 48) || (n == 58))
 
+-- the foreground, the background or the line below gets this color
 abbrev pub set_color : ℕ → Color → Pen → Pen
 set_color kind color pen =
     if kind == 38 then record pen { foreground = Some color }
@@ -111,6 +116,7 @@ set_color kind color pen =
 abbrev pub set_palette : ℕ → ℕ → Pen → Pen
 set_palette kind n pen = if nat_lt n 256 then set_color kind (AnsiValue n) pen else pen
 
+-- a color is mixed of red, green and blue, where each is below 256
 abbrev pub set_mixed : (kind r g b : ℕ) → Pen → Pen
 set_mixed kind r g b pen = if nat_lt r 256 && (nat_lt g 256 && nat_lt b 256) then set_color kind (Rgb r g b) pen else pen
 
@@ -125,9 +131,11 @@ are_single zero ps = joined_len ps == 0
 are_single (suc n) [] = false
 are_single (suc n) (p ∷ ps) = not p.joined && are_single n ps
 
+-- the parts behind a kind of color are 5 and a number
 abbrev pub is_palette_color : List Part → Bool
 is_palette_color ps = (number_at ps 0 == 5) && are_single 2 ps
 
+-- the parts behind a kind of color are 2 and three numbers
 abbrev pub is_mixed_color : List Part → Bool
 is_mixed_color ps = (number_at ps 0 == 2) && are_single 4 ps
 
@@ -143,6 +151,7 @@ set_joined joined n ps pen =
     else if (number_at ps 0 == 2) && (joined == 5) then set_mixed n (number_at ps 2) (number_at ps 3) (number_at ps 4) pen
     else pen
 
+-- a number: with those that are joined to it, with the parts of its color, or alone
 abbrev pub set_part : ℕ → List Part → Pen → Pen
 set_part n ps pen =
     if not (joined_len ps == 0) then set_joined (joined_len ps) n ps pen
@@ -160,6 +169,7 @@ taken n ps =
     else if is_mixed_color ps then 4
     else length ps
 
+-- these parts, one after the other; so many of them go with one before
 abbrev pub set_parts : Pen → ℕ → List Part → Pen
 set_parts pen skip [] = pen
 set_parts pen zero (p ∷ ps) = set_parts (set_part p.number ps pen) (taken p.number ps) ps

@@ -30,6 +30,7 @@ abbrev pub rows_by : {A : Type 0} → ℕ → List ℕ → List A → List (List
 rows_by at [] cs = []
 rows_by at (e ∷ es) cs = take (e - at) cs ∷ rows_by e es (drop (e - at) cs)
 
+-- a line as rows that are wrapped at this width
 abbrev pub wrapped : ℕ → List StyledChar → List (List StyledChar)
 wrapped width line = rows_by 0 (row_ends width (said line)) line
 
@@ -50,20 +51,23 @@ abbrev pub window : (a b at : ℕ) → List StyledChar → List StyledChar
 window a b at [] = []
 window a b at (c ∷ cs) = part_shown a b at c ++ window a b (at + char_columns c.char) cs
 
--- the signs that a line goes on: < (60) and > (62)
+-- the style of a sign that a line goes on
 abbrev pub sign_style : Pen
 sign_style = record plain_pen { reversed = true }
 
+-- the sign that a line goes on, < (60) or > (62), where it is there
 abbrev pub sign_if : Bool → ℕ → List StyledChar
 sign_if there c = if there then styled sign_style c ∷ [] else []
 
+-- the column of a sign, where it is there
 abbrev pub one_if : Bool → ℕ
 one_if there = if there then 1 else 0
 
--- of a line of so many columns, moved by some; the one to the left gives way where there is one column
+-- a line of so many columns, moved by some, has the sign to the left; this gives way where there is one column
 abbrev pub goes_left : (total moved width : ℕ) → Bool
 goes_left total moved width = nat_lt 0 moved && (nat_lt 0 total && nat_lt 1 width)
 
+-- it has the sign to the right
 abbrev pub goes_right : (total moved width : ℕ) → Bool
 goes_right total moved width = nat_lt (moved + width) total && nat_lt 0 width
 

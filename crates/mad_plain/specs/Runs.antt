@@ -4,10 +4,12 @@ use Rattle.mad_plain.specs.declared.pens.Pen.{Pen}
 use Rattle.mad_plain.specs.declared.runs.StyleRun.{StyleRun}
 use Rattle.mad_plain.specs.Pens.{plain_pen}
 
+-- A character, and the style that it has.
 pub record StyledChar : Type 0 where
   pub style : Pen
   pub char : ℕ
 
+-- a character that has this style
 abbrev pub styled : Pen → ℕ → StyledChar
 styled style c = record { style = style; char = c }
 

@@ -7,6 +7,7 @@ use Rattle.mad_term.specs.declared.styles.ContentStyle.{ContentStyle}
 use Rattle.mad_term.specs.AttributeSets.{no_attributes, only, united}
 use Rattle.mad_plain.specs.declared.pens.Pen.{Pen}
 
+-- one more attribute, where it is set
 abbrev pub with_if : Bool → Attribute → Attributes → Attributes
 with_if there a s = if there then united s (only a) else s
 
@@ -23,5 +24,6 @@ pen_attributes pen =
     (with_if pen.dim Dim
     (with_if pen.bold Bold no_attributes))))))))
 
+-- a pen as the style that texts are written in
 abbrev pub content_style : Pen → ContentStyle
 content_style pen = record { foreground_color = pen.foreground; background_color = pen.background; underline_color = pen.underline; attributes = pen_attributes pen }

@@ -7,6 +7,7 @@ use Rattle.mad_md.specs.Parts.{without_last_empty}
 use Rattle.mad_plain.specs.Runs.{StyledChar}
 use Rattle.mad_plain.specs.Lines.{line_chars}
 
+-- the byte is a newline
 abbrev pub is_newline_byte : ℕ → Bool
 is_newline_byte b = b == 10
 

@@ -102,6 +102,7 @@ only_cells xs ys [] none h = sym h.1
 only_cells xs ys (z ∷ zs) none h =
     ⊎_elim (λ l. let is : [] ≡ z ∷ l.0 = sym none ∙ l.1 in absurd cc) (λ r. ap (λ (more : List FlaggedChar). z ∷ more) (only_cells xs r.0 zs none r.2) ∙ sym r.1) h
 
+-- a row below heads becomes an item that keeps its cells
 pub keeps_row : (heads cells : List StyledRuns) → KeepsRow heads cells (item_lines heads cells)
 keeps_row heads cells =
     let made : IsMadeOfBoth (labels_text heads cells) (row_text cells) (lines_text (item_lines heads cells)) =
@@ -183,6 +184,7 @@ stays_when whole ascii width section gutters is has =
     ap (λ (list : Option (List Gutter)). unfolded_in whole (Some (room_at ascii width section.gutters)) list section) is
     ∙ ap (λ (t : Bool). if t then as_list (room_at ascii width section.gutters) gutters section else section ∷ []) has
 
+-- a section is shown as it is, or as the list of its table
 pub nothing_is_lost : NothingIsLost
 nothing_is_lost whole ascii width section = kept_in whole (room ascii width section.gutters) section.list section refl
 
@@ -210,6 +212,7 @@ stay_in whole ascii width (Some room) (Some gutters) section =
     (λ lacks. inr (items_stay whole ascii width gutters (min section.fresh (length section.gutters)) (items_of room (rows_in section.lines))))
     (λ has. inl refl)
 
+-- without a width, or without gutters of a list, a section stays, and what it is shown as does
 pub stay : Stay
 stay = record {
   unlimited = λ whole ascii section. refl;
@@ -247,6 +250,7 @@ short_heads room (head ∷ heads) h =
     (λ on k e. let within : 2 * runs_length head.runs ≤ room = grind (arith, nat_tests, e) in let short = runs_are_short head.runs in ((omega (arith, within, short.0), omega (arith, within, short.1)), short_heads room heads k))
     (λ off k e. absurd cc) h refl
 
+-- heads that are said have at most half of the room
 pub labels_are_short : LabelsAreShort
 labels_are_short room heads [] said = absurd cc
 labels_are_short room heads (row ∷ rows) said = short_heads room heads said
@@ -280,6 +284,7 @@ row_short room heads (cell ∷ cells) h =
     let short = label_short room heads h in
     omega (arith, more, row, counted, own, both, short))
 
+-- an item has at most half of the room and two characters more for each cell
 pub items_are_short : ItemsAreShort
 items_are_short room heads cells [] said = absurd cc
 items_are_short room heads cells (row ∷ rows) said = let short = row_short room heads cells said in let same = ap length (blank_says (row_lines heads cells)) in omega (arith, short, same)

@@ -59,11 +59,13 @@ one_more ascii (x ∷ gs) (suc k) g h = one_more ascii gs k g (omega arith)
 
 -- ---- the laws
 
+-- the gutters that are shown take less than half of the width
 pub less_than_half : LessThanHalf
 less_than_half ascii width [] h = omega arith
 less_than_half ascii width (g ∷ gs) h =
     by_less (λ l. 2 * columns_of ascii l < width) (2 * columns_of ascii (g ∷ gs)) width (g ∷ gs) (shown_at ascii width gs) (λ yes. yes) (λ no. less_than_half ascii width gs h)
 
+-- from three columns on a room has three
 pub rooms_last : RoomsLast
 rooms_last ascii width gs h =
     let half : 2 * columns_of ascii (shown_at ascii width gs) < width = less_than_half ascii width gs (omega arith) in
@@ -81,6 +83,7 @@ hidden_ones ascii width (g ∷ gs) =
     by_less (λ l. (hidden : List Gutter) × (g ∷ gs ≡ hidden ++ l)) (2 * columns_of ascii (g ∷ gs)) width (g ∷ gs) (shown_at ascii width gs)
     (λ yes. ([], refl)) (λ no. let more = hidden_ones ascii width gs in (g ∷ more.0, ap (λ l. g ∷ l) more.1))
 
+-- the gutters that are shown are the last ones
 pub shown_are_last : ShownAreLast
 shown_are_last ascii width gs =
     let ones = hidden_ones ascii width gs in
@@ -95,6 +98,7 @@ append_longer : (xs ys : List Gutter) → length ys ≤ length (xs ++ ys)
 append_longer [] ys = omega arith
 append_longer (x ∷ xs) ys = let more = append_longer xs ys in omega (arith, more)
 
+-- no longer end takes less than half of the width
 pub none_longer : NoneLonger
 none_longer ascii width [] end h = omega (arith, ap length (whole_shown ascii width end h))
 none_longer ascii width (g ∷ hidden) end h =
@@ -117,6 +121,7 @@ no_columns : (ascii : Bool) (gs : List Gutter) → columns_of ascii (drop (lengt
 no_columns ascii [] = refl
 no_columns ascii (g ∷ gs) = no_columns ascii gs
 
+-- at first no gutter is taken
 pub none_taken : (ascii : Bool) (width : ℕ) (gs : List Gutter) → AreTaken ascii width gs (length gs) 0
 none_taken ascii width gs = record { inside = omega arith; columns_are = sym (no_columns ascii gs); half = inl (refl, refl) }
 
@@ -125,6 +130,7 @@ taken_at ascii width gs k columns wider g taken is less =
     let more = one_more ascii gs k g (omega (arith, taken.inside)) in
     record { inside = omega (arith, taken.inside); columns_are = omega (arith, more, is, taken.columns_are); half = inr less }
 
+-- one more gutter is taken, where all then take less than half of the width
 pub taken_one : (ascii : Bool) (width : ℕ) (gs : List Gutter) (first columns wider : ℕ) (g : Gutter) → AreTaken ascii width gs first columns → 0 < first → wider ≡ columns + gutter_columns ascii (get_or gs (first - 1) g) → 2 * wider < width → AreTaken ascii width gs (first - 1) wider
 taken_one ascii width gs zero columns wider g taken some is less = absurd (omega arith)
 taken_one ascii width gs (suc k) columns wider g taken some is less =
@@ -136,12 +142,14 @@ none_before ascii width gs k columns wider g taken is half =
     let more = one_more ascii gs k g (omega (arith, taken.inside)) in
     record { more = λ n less. let longer = longer_columns ascii gs n k (omega arith) in omega (arith, longer, more, is, half, taken.columns_are) }
 
+-- where one more would take half of the width, each longer end does
 pub no_more : (ascii : Bool) (width : ℕ) (gs : List Gutter) (first columns wider : ℕ) (g : Gutter) → AreTaken ascii width gs first columns → 0 < first → wider ≡ columns + gutter_columns ascii (get_or gs (first - 1) g) → width ≤ 2 * wider → NoMore ascii width gs first
 no_more ascii width gs zero columns wider g taken some is half = absurd (omega arith)
 no_more ascii width gs (suc k) columns wider g taken some is half =
     let back : suc k - 1 ≡ k = omega arith in
     none_before ascii width gs k columns wider g taken (rw back at is) half
 
+-- where no gutter is left, there is no longer end
 pub none_left : (ascii : Bool) (width : ℕ) (gs : List Gutter) (first : ℕ) → first ≤ 0 → NoMore ascii width gs first
 none_left ascii width gs first h = record { more = λ n less. absurd (omega arith) }
 
@@ -157,6 +165,7 @@ last_ones ascii width (g ∷ gs) (suc n) inside half more =
     ap (λ t. if t then g ∷ gs else shown_at ascii width gs) (not_less (2 * columns_of ascii (g ∷ gs)) width first_half)
     ∙ last_ones ascii width gs n (omega arith) (⊎_elim (λ e. inl (omega (arith, e))) (λ l. inr l) half) (λ m less. more (suc m) (omega arith))
 
+-- the gutters that are taken, where no more can be, are shown
 pub are_shown : (ascii : Bool) (width : ℕ) (gs : List Gutter) (first columns : ℕ) → AreTaken ascii width gs first columns → NoMore ascii width gs first → shown_at ascii width gs ≡ drop first gs
 are_shown ascii width gs first columns taken none =
     last_ones ascii width gs first taken.inside (⊎_elim (λ e. inl e.0) (λ l. inr (omega (arith, l, taken.columns_are))) taken.half) none.more
@@ -166,9 +175,11 @@ pub rest_shown : (ascii : Bool) (width : ℕ) (gs : List Gutter) (first columns 
 rest_shown ascii width gs first columns taken none =
     ap (λ n. take n (drop first gs)) (sym (length-drop first gs)) ∙ take-length (drop first gs) ∙ sym (are_shown ascii width gs first columns taken none)
 
+-- the room is what they leave of the width
 pub room_left : (ascii : Bool) (width : ℕ) (gs : List Gutter) (first columns : ℕ) → AreTaken ascii width gs first columns → NoMore ascii width gs first → room_at ascii width gs ≡ width - columns
 room_left ascii width gs first columns taken none =
     ap (λ l. width - columns_of ascii l) (are_shown ascii width gs first columns taken none) ∙ ap (λ n. width - n) (sym taken.columns_are)
 
+-- they take no more than the width
 pub leaves_some : (ascii : Bool) (width : ℕ) (gs : List Gutter) (first columns : ℕ) → AreTaken ascii width gs first columns → columns ≤ width
 leaves_some ascii width gs first columns taken = ⊎_elim (λ e. omega (arith, e.1)) (λ l. omega (arith, l)) taken.half

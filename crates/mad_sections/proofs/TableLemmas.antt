@@ -16,6 +16,7 @@ use Rattle.mad_sections.proofs.Choices.{by_bool}
 
 -- ---- line by line
 
+-- the longest word that the cells of a column have
 abbrev pub longest_at : ℕ → List LineContent → ℕ
 longest_at column lines = longest_in (flat_map (take 1) (map (drop column) (rows_in lines)))
 
@@ -45,6 +46,7 @@ longest_on column i before word lines line inside is words =
     let more = longest_more column (content_of line) (map content_of (drop (i + 1) lines)) in
     omega (arith, next, more, words)
 
+-- one more line counts with the columns that it has
 pub count_on : (i before own : ℕ) (lines : List Line) (line : Line) → i < length lines → line ≡ get_or lines i line → own ≡ columns_in (content_of line)
     → max (max before own) (columns_count (map content_of (drop (i + 1) lines))) ≡ max before (columns_count (map content_of (drop i lines)))
 count_on i before own lines line inside is columns =
@@ -54,10 +56,12 @@ count_on i before own lines line inside is columns =
 
 -- ---- cells
 
+-- the text of compounds is what they say
 pub text_is_said : (ps : List Compound) → flagged_text ps ≡ runs_text (map run_of ps)
 text_is_said [] = refl
 text_is_said (p ∷ ps) = ap (λ xs. flagged_of p ++ xs) (text_is_said ps)
 
+-- the longest word of a cell is the longest that its row has in the column
 pub word_at : (cells : List Composite) (column word : ℕ) (cell : Composite) → column < length cells → cell ≡ get_or cells column cell → word ≡ capped (longest_word (flagged_text cell.compounds.items))
     → word ≡ capped (longest_in (flat_map (take 1) (map (drop column) (map styled_runs cells ∷ []))))
 word_at cells column word cell inside is words =
@@ -74,6 +78,7 @@ nothing_left zero (x ∷ xs) h = absurd (omega arith)
 nothing_left (suc n) [] h = refl
 nothing_left (suc n) (x ∷ xs) h = nothing_left n xs (omega arith)
 
+-- where a row has no cell in a column, it has no word there
 pub no_cell_at : (cells : List Composite) (column : ℕ) → length cells ≤ column → longest_in (flat_map (take 1) (map (drop column) (map styled_runs cells ∷ []))) ≡ 0
 no_cell_at cells column past =
     ap (λ (xs : List StyledRuns). longest_in (take 1 xs ++ [])) (drop-map styled_runs column cells ∙ ap (map styled_runs) (nothing_left column cells past))
@@ -86,6 +91,7 @@ drop_one zero (x ∷ xs) = refl
 drop_one (suc k) [] = refl
 drop_one (suc k) (x ∷ xs) = drop_one k xs
 
+-- rows without one more column are those from the next column on
 pub rows_on : (k : ℕ) (rows : List (List StyledRuns)) → map (drop 1) (map (drop k) rows) ≡ map (drop (k + 1)) rows
 rows_on k [] = refl
 rows_on k (row ∷ rows) =
@@ -96,6 +102,7 @@ rows_all : (rows : List (List StyledRuns)) → map (drop 0) rows ≡ rows
 rows_all [] = refl
 rows_all (row ∷ rows) = ap (λ (more : List (List StyledRuns)). row ∷ more) (rows_all rows)
 
+-- each column has a least width
 pub widths_count : (whole : Bool) (n : ℕ) (rows : List (List StyledRuns)) → length (least_widths whole n rows) ≡ n
 widths_count whole zero rows = refl
 widths_count whole (suc n) rows = ap suc (widths_count whole n (map (drop 1) rows))
@@ -122,6 +129,7 @@ same_test a b c d to back =
     by_bool (λ t. t ≡ nat_le c d) (nat_le a b) (λ on. sym (is_within c d (to (within_by a b on))))
     (λ off. sym (by_bool (λ t. t ≡ false) (nat_le c d) (λ on. let less = past_by a b off in let more = back (within_by c d on) in absurd (omega (arith, less, more))) (λ e. refl)))
 
+-- all columns fit where they stand side by side in the room
 pub fit_first : (whole : Bool) (count room : ℕ) (rows : List (List StyledRuns)) → 0 < room → fit_from whole count rows 0 (room - 1) ≡ stand_in room (least_widths whole count rows)
 unfolding fit_from
 fit_first whole count room rows some =
@@ -132,9 +140,11 @@ fit_first whole count room rows some =
     same_test (sum (least_widths whole (count - 0) (map (drop 0) rows)) + (count - 0)) (room - 1) (sum (least_widths whole count rows) + length (least_widths whole count rows) + 1) room
     (λ h. omega (arith, total, n, h)) (λ h. omega (arith, total, n, h))
 
+-- no columns stand where there is no room
 pub fits_never : (ws : List ℕ) (room : ℕ) → room ≡ 0 → stand_in room ws ≡ false
 fits_never ws room none = not_within (sum ws + length ws + 1) room (omega arith)
 
+-- behind the last column all columns fit
 pub fit_last : (whole : Bool) (count column left : ℕ) (rows : List (List StyledRuns)) → count ≤ column → fit_from whole count rows column left ≡ true
 unfolding fit_from
 fit_last whole count column left rows past =
@@ -152,6 +162,7 @@ one_column whole count column rows inside =
     let rest = ap (λ (rest : List (List StyledRuns)). sum (least_widths whole (count - (column + 1)) rest)) (rows_on column rows) in
     omega (arith, first, both, rest)
 
+-- where a column and its border have room, those behind it fit in what is left exactly where all do
 pub fit_on : (whole : Bool) (count column left width : ℕ) (rows : List (List StyledRuns)) → column < count → left < 2 ^ 64 → width ≡ capped (least_width whole (flat_map (take 1) (map (drop column) rows))) → width < left
     → fit_from whole count rows (column + 1) (left - (width + 1)) ≡ fit_from whole count rows column left
 unfolding fit_from
@@ -160,6 +171,7 @@ fit_on whole count column left width rows inside bound is some =
     same_test (sum (least_widths whole (count - (column + 1)) (map (drop (column + 1)) rows)) + (count - (column + 1))) (left - (width + 1)) (sum (least_widths whole (count - column) (map (drop column) rows)) + (count - column)) left
     (λ h. omega (arith, one, is, h)) (λ h. omega (arith, one, is, h))
 
+-- where a column leaves nothing for its border, the columns don't fit
 pub fit_no_more : (whole : Bool) (count column left width : ℕ) (rows : List (List StyledRuns)) → column < count → width ≡ capped (least_width whole (flat_map (take 1) (map (drop column) rows))) → left ≤ width
     → fit_from whole count rows column left ≡ false
 unfolding fit_from

@@ -26,6 +26,7 @@ no_h b h = grind (arith, nat_tests)
 no_f : (b : ℕ) → may_begin_web b ≡ false → eqb 102 (to_ascii_lowercase b) ≡ false
 no_f b h = grind (arith, nat_tests)
 
+-- where the first byte can't begin an address of the web, none begins
 pub web_none : (bytes : List ℕ) → may_begin_web (first bytes) ≡ false → web_of bytes ≡ None
 web_none bytes h =
     four _ _ _ _ _ _ _ _ (front_no 119 (codes "ww.") bytes (no_w (first bytes) h)) (front_no 104 (codes "ttps://") bytes (no_h (first bytes) h))
@@ -35,6 +36,7 @@ either_none : (t : Bool) (o : Option Bare) → cond (t || not false) None o ≡ 
 either_none true o = refl
 either_none false o = refl
 
+-- without an at sign no address of mail begins
 pub mail_none : (bytes : List ℕ) → HasNoAt bytes → mail_of bytes ≡ None
 mail_none bytes h =
     let local : ℕ = prefix_len is_mail_byte bytes in
@@ -47,9 +49,11 @@ not_mail bytes n e o t = ap (λ k. cond (eqb k 0 || t) None o) e
 no_local : (b : ℕ) (bs : List ℕ) → is_mail_byte b ≡ false → prefix_len is_mail_byte (b ∷ bs) ≡ 0
 no_local b bs h = ap (λ t. cond t (1 + prefix_len is_mail_byte bs) 0) h
 
+-- nor does one begin with a byte that can't be of it
 pub mail_first : (b : ℕ) (bs : List ℕ) → is_mail_byte b ≡ false → mail_of (b ∷ bs) ≡ None
 mail_first b bs h = not_mail (b ∷ bs) (prefix_len is_mail_byte (b ∷ bs)) (no_local b bs h) _ _
 
+-- an address that isn't there isn't found in either case
 pub cond_none : (t : Bool) (o : Option Bare) → o ≡ None → cond t o None ≡ None
 cond_none true o e = e
 cond_none false o e = refl

@@ -8,6 +8,7 @@ use Rattle.markdown_addresses.specs.declared.addresses.Domain.TheVariants.{On, E
 use Rattle.markdown_addresses.specs.declared.addresses.Scheme.{Scheme}
 use Rattle.markdown_addresses.specs.declared.addresses.Scheme.TheVariants.{Itself, Mail}
 
+-- the byte is a letter, a digit, or one of the signs + . -
 abbrev pub is_scheme_byte : ℕ → Bool
 is_scheme_byte b = is_ascii_alphanumeric b || b == 43 || b == 46 || b == 45
 
@@ -15,6 +16,7 @@ is_scheme_byte b = is_ascii_alphanumeric b || b == 43 || b == 46 || b == 45
 abbrev pub is_address_byte : ℕ → Bool
 is_address_byte b = nat_lt 32 b && not (b == 127) && not (b == 60) && not (b == 62)
 
+-- punctuation that can't stand before the at sign
 abbrev pub is_other_mark : ℕ → Bool
 is_other_mark b = b == 34 || b == 40 || b == 41 || b == 44 || b == 58 || b == 59 || b == 60 || b == 62 || b == 64 || b == 91 || b == 92 || b == 93
 
@@ -26,6 +28,7 @@ is_local_byte b = is_ascii_alphanumeric b || (is_ascii_punctuation b && not (is_
 abbrev pub has_scheme : List ℕ → ℕ → Bool
 has_scheme bytes len = is_ascii_alphabetic (first bytes) && nat_le 2 len && nat_le len 32 && first (drop len bytes) == 58
 
+-- so many bytes, where the closing angle bracket follows them
 abbrev pub ended_at : ℕ → List ℕ → Option ℕ
 ended_at len bytes = if first (drop len bytes) == 62 then Some len else None
 
@@ -37,6 +40,7 @@ uri_len bytes =
 
 -- ---- a domain: labels of at most 63 letters, digits and hyphens, with no hyphen at their ends
 
+-- a label may end here: it has bytes, and its last is no hyphen
 abbrev pub may_end : ℕ → Bool → Bool
 may_end count hyphen = nat_lt 0 count && not hyphen
 
@@ -53,6 +57,7 @@ abbrev pub IsFew : Domain → Type 0
 IsFew (On count hyphen) = count ≤ 63
 IsFew _ = Unit {0}
 
+-- the domain goes on, or it ends and this follows, or it is none
 abbrev pub domain_next : Domain → Option (List ℕ) → (ℕ → Bool → Option (List ℕ)) → Option (List ℕ)
 domain_next (On count hyphen) ends on = on count hyphen
 domain_next Ends ends on = ends
@@ -70,6 +75,7 @@ email_len bytes =
     if local == 0 || not (first (drop local bytes) == 64) then None
     else option_map (λ after. (length bytes - length after) - 1) (after_domain 0 false (drop (local + 1) bytes))
 
+-- the first length, if there is one, or else the second
 abbrev pub or_len : Option ℕ → Option ℕ → Option ℕ
 or_len None otherwise = otherwise
 or_len (Some len) otherwise = Some len
@@ -78,6 +84,7 @@ or_len (Some len) otherwise = Some len
 abbrev pub address_len : List ℕ → Option ℕ
 address_len bytes = or_len (uri_len bytes) (email_len bytes)
 
+-- an address that has a scheme keeps it; any other is of mail
 abbrev pub scheme_by : Option ℕ → Scheme
 scheme_by None = Mail
 scheme_by (Some len) = Itself

@@ -12,6 +12,7 @@ use Rattle.markdown_addresses.specs.declared.bare.Trim.TheVariants.{Stays, Goes}
 
 -- ---- domains
 
+-- the byte is a letter, a digit, an underscore or a hyphen
 abbrev pub is_domain_byte : ℕ → Bool
 is_domain_byte b = is_ascii_alphanumeric b || (b == 95) || (b == 45)
 
@@ -24,6 +25,7 @@ unfoldable pub domain_len : List ℕ → ℕ
 domain_len [] = 0
 domain_len (b ∷ bs) = if goes_on b bs then suc (domain_len bs) else 0
 
+-- the byte is a period
 abbrev pub is_period : ℕ → Bool
 is_period b = b == 46
 
@@ -41,9 +43,11 @@ web_domain dotted bytes =
 
 -- ---- the end of an address
 
+-- the byte is no blank, no newline and no sign <
 abbrev pub is_path_byte : ℕ → Bool
 is_path_byte b = not ((b == 32) || (b == 9) || (b == 10) || (b == 60))
 
+-- how many of these bytes are this one
 unfoldable pub count_of : ℕ → List ℕ → ℕ
 count_of b [] = 0
 count_of b (c ∷ cs) = if c == b then suc (count_of b cs) else count_of b cs
@@ -67,6 +71,7 @@ trim_step spare entity n bytes =
     else if b == 59 then Goes spare (ends_name false n bytes)
     else Stays
 
+-- the last byte stays and all before it, or it goes and the one before it is looked at
 abbrev pub trim_next : Trim → ℕ → (ℕ → Bool → ℕ) → ℕ
 trim_next Stays stays goes = stays
 trim_next (Goes spare entity) stays goes = goes spare entity
@@ -84,9 +89,11 @@ address_end bytes =
 
 -- ---- addresses of the web
 
+-- an address of so many bytes, and what its destination begins with
 abbrev pub bare : ℕ → Scheme → Bare
 bare len scheme = record { len = len; scheme = scheme }
 
+-- the address of the web, where a domain follows its scheme
 abbrev pub web_by : (start : ℕ) → Scheme → Option ℕ → List ℕ → Option Bare
 web_by start scheme None bytes = None
 web_by start scheme (Some domain) bytes = Some (bare (start + address_end bytes) scheme)
@@ -95,6 +102,7 @@ web_by start scheme (Some domain) bytes = Some (bare (start + address_end bytes)
 abbrev pub web_from : (start : ℕ) → Bool → Scheme → List ℕ → Option Bare
 web_from start dotted scheme bytes = web_by start scheme (web_domain dotted (drop start bytes)) (drop start bytes)
 
+-- the bytes begin with this name, in any case
 abbrev pub is_in_front : List ℕ → List ℕ → Bool
 is_in_front name bytes = same_letters name (take (length name) bytes)
 
@@ -109,6 +117,7 @@ web_of bytes =
 
 -- ---- addresses of mail
 
+-- the byte is a letter, a digit, or one of . + _ -
 abbrev pub is_mail_byte : ℕ → Bool
 is_mail_byte b = is_ascii_alphanumeric b || (b == 46) || (b == 43) || (b == 95) || (b == 45)
 
@@ -118,10 +127,12 @@ mail_domain bytes =
     let len = domain_len bytes in
     if is_domain_byte (first bytes) && list_any is_period (take len bytes) && is_ascii_alphabetic (first (drop (len - 1) bytes)) then Some len else None
 
+-- the address of mail, where a domain follows its at sign
 abbrev pub mail_by : ℕ → Option ℕ → Option Bare
 mail_by local None = None
 mail_by local (Some domain) = Some (bare (local + 1 + domain) Mail)
 
+-- the address of mail that a rest begins with: a name, an at sign and a domain
 abbrev pub mail_of : List ℕ → Option Bare
 mail_of bytes =
     let local = prefix_len is_mail_byte bytes in
@@ -139,6 +150,7 @@ abbrev pub may_precede_mail : Option ℕ → Bool
 may_precede_mail None = true
 may_precede_mail (Some b) = not (is_mail_byte b)
 
+-- the first address, if there is one, or else the second
 abbrev pub or_bare : Option Bare → Option Bare → Option Bare
 or_bare None otherwise = otherwise
 or_bare (Some bare) otherwise = Some bare

@@ -17,6 +17,7 @@ use Rattle.markdown_anchors.specs.Anchors.{name_char, heading_name, name_bytes, 
 abbrev pub left_bytes : List ℕ → List ℕ
 left_bytes cs = encode_utf8_all (flat_map name_char cs)
 
+-- what is left of two texts together is what is left of one, and then of the other
 pub left_both : (a b : List ℕ) → left_bytes (a ++ b) ≡ left_bytes a ++ left_bytes b
 left_both a b = ap encode_utf8_all (flat_map-append name_char a b) ∙ encodes-append (flat_map name_char a) (flat_map name_char b)
 
@@ -36,9 +37,11 @@ three_are (Some x) None (Some z) = refl
 three_are (Some x) (Some y) None = refl
 three_are (Some x) (Some y) (Some z) = refl
 
+-- a change of case gives a first, a second and a third character, as far as they are there
 pub small_are : (s : _) → case_mapping_chars s ≡ option_to_list (case_mapping_first s) ++ (option_to_list (case_mapping_second s) ++ option_to_list (case_mapping_third s))
 small_are s = three_are s.first s.second s.third
 
+-- what is left of each of these three is put behind the others, and is all that is left of them
 pub three_left : (t u v w : List ℕ) (a b d : Option ℕ) (s : _) (cs : List ℕ) → u ≡ t ++ left_bytes (option_to_list a) → v ≡ u ++ left_bytes (option_to_list b) → w ≡ v ++ left_bytes (option_to_list d)
     → a ≡ case_mapping_first s → b ≡ case_mapping_second s → d ≡ case_mapping_third s → case_mapping_chars s ≡ cs → w ≡ t ++ left_bytes cs
 three_left t u v w a b d s cs p q r e f g same =
@@ -59,6 +62,7 @@ name_step cs n c row new start h before more =
     ap (λ l. l ++ left_bytes rest) more ∙ append_assoc row (left_bytes (to_lowercase c)) (left_bytes rest) ∙ ap (λ l. row ++ l) (sym (left_both (to_lowercase c) rest))
     ∙ ap (λ (l : List ℕ). row ++ encode_utf8_all (heading_name l)) (sym next) ∙ before
 
+-- past the last character the row is the whole name
 pub name_end : (cs : List ℕ) (n : ℕ) (row start : List ℕ) → length cs ≤ n → row ++ encode_utf8_all (heading_name (drop n cs)) ≡ start → row ≡ start
 name_end cs n row start all before = sym (append-nil row) ∙ sym (ap (λ (l : List ℕ). row ++ encode_utf8_all (heading_name l)) (drop_all n cs all)) ∙ before
 
@@ -93,6 +97,7 @@ names_step {S} bytes texts i d names before names' before' all own last empty ot
     ∙ sym (ap (λ (l : List (Bor (List ℕ))). map bytes names ++ names_after B (map (λ (u : Bor (List ℕ)). u.now) l)) (drop_more texts i d below))
     ∙ inv
 
+-- past the last text all names are there
 pub names_end : (texts : List (Bor (List ℕ))) (i : ℕ) (names before all : List (List ℕ)) → length texts ≤ i → names ++ names_after before (map (λ (u : Bor (List ℕ)). u.now) (drop i texts)) ≡ all → names ≡ all
 names_end texts i names before all past inv =
     sym (append-nil names) ∙ sym (ap (λ (l : List (Bor (List ℕ))). names ++ names_after before (map (λ (u : Bor (List ℕ)). u.now) l)) (drop_all i texts past)) ∙ inv

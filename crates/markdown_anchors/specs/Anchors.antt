@@ -37,5 +37,6 @@ names_after before (text ∷ texts) =
     let name = name_bytes text in
     numbered name (times name before) ∷ names_after (before ++ name ∷ []) texts
 
+-- the names of all headings of a text, in order
 abbrev pub heading_names : List (List ℕ) → List (List ℕ)
 heading_names texts = names_after [] texts

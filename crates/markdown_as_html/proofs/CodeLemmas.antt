@@ -105,6 +105,7 @@ parts_printed text indent lines parts =
     ∙ first_printed text (map (taken indent) lines) (definitions_of parts) (outermost (still_to_come parts))
     ∙ ap (λ (bs : List ℕ). html_of_code (language_html (language_in (without_end 32 9 (without_blanks text.bytes)))) bs ++ parts_html parts) (lines_printed indent lines)
 
+-- code between fences is printed line by line, and what comes after as a text of its own
 pub printed : CodeIsPrinted
 unfolding html_of
 printed text after first last fence lines indent sign length are h inside closing =

@@ -64,5 +64,6 @@ unfolding parts_defined parts_read
 same_from [] d r h = h
 same_from (part ∷ parts) d r h = same_from parts _ _ (same_part part d r h)
 
+-- the labels that are defined for html are those that are defined for lines
 pub same_labels : LabelsAreThose
 same_labels parts = same_from parts (record { labels = []; leads = [] }) nothing_defined refl

@@ -135,6 +135,7 @@ told_same (event ∷ events) t g h =
     told_same events (record { gathering = parted event t.around (happened event t.gathering); around = around_after event t.around }) (happened event g)
     (parted_same event t.around (happened event t.gathering) ∙ happened_same event t.gathering ∙ ap (λ (x : Gathering). erased (happened event x)) h ∙ sym (happened_same event g))
 
+-- the parts for html are the parts of the text, but for which are behind blank lines
 pub same_parts : PartsAreThose
 unfolding parted_parts parts_of
 same_parts text =

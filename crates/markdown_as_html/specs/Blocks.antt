@@ -20,16 +20,19 @@ passed_after [] passed = passed
 passed_after (Quote ∷ outer) passed = false
 passed_after (Item sign number content ∷ outer) passed = passed
 
+-- the containers that are open after an event
 abbrev pub around_after : Event → List Container → List Container
 around_after leave around = drop 1 around
 around_after (enter container) around = container ∷ around
 around_after (line deed text) around = around
 
+-- a container that ends says whether blank lines before its end part blocks
 abbrev pub parted : Event → List Container → Gathering → Gathering
 parted leave around g = record g { passed = passed_after around g.passed }
 parted (enter container) around g = g
 parted (line deed text) around g = g
 
+-- the parts so far and the open containers, after these events
 unfoldable pub telling : Telling → List Event → Telling
 telling t [] = t
 telling t (event ∷ events) = telling (record { gathering = parted event t.around (happened event t.gathering); around = around_after event t.around }) events
@@ -64,6 +67,7 @@ still_to_come (begins container apart ∷ parts) = with_container container apar
 still_to_come (ends ∷ parts) = no_more ∷ still_to_come parts
 still_to_come (block b ∷ parts) = with_leaf b (still_to_come parts)
 
+-- the first of these: where no container is open, they are the blocks of the text
 abbrev pub outermost : List Blocks → Blocks
 outermost [] = no_more
 outermost (blocks ∷ others) = blocks

@@ -24,6 +24,7 @@ with_definition defined (Some label) text =
     if list_any (bytes_eq label) defined.labels then defined
     else record { labels = defined.labels ++ label ∷ []; leads = defined.leads ++ defined_leads text ∷ [] }
 
+-- a definition in front is added, and then others; without one all stays
 abbrev pub defined_or : Option (List ℕ) → Defined → List ℕ → (Defined → List ℕ → Defined) → Defined
 defined_or None defined text others = defined
 defined_or (Some rest) defined text others = others (with_definition defined (normal (label_of text)) text) rest
@@ -33,14 +34,17 @@ unfoldable pub defined_in : ℕ → Defined → List ℕ → Defined
 defined_in zero defined text = defined
 defined_in (suc count) defined text = defined_or (after_definition text) defined text (defined_in count)
 
+-- only a leaf of definitions adds some
 abbrev pub leaf_defined : Kind → Defined → List Remaining → Defined
 leaf_defined Definitions defined lines = defined_in (length (joined [] lines)) defined (joined [] lines)
 leaf_defined _ defined lines = defined
 
+-- a part that is a leaf adds what it defines
 abbrev pub part_defined : Defined → PartContent → Defined
 part_defined defined (block leaf) = leaf_defined leaf.kind defined leaf.lines
 part_defined defined _ = defined
 
+-- each of these parts adds what it defines, in order
 unfoldable pub parts_defined : Defined → List PartContent → Defined
 parts_defined defined [] = defined
 parts_defined defined (part ∷ parts) = parts_defined (part_defined defined part) parts

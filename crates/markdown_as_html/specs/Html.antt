@@ -17,11 +17,13 @@ use Rattle.markdown_as_html.specs.Escaped.{escaped, end_tag, within, attribute}
 use Rattle.markdown_as_html.specs.Inlines.{inline_html}
 use Rattle.markdown_as_html.specs.Lists.{Listing, is_in, list_of, are_seen, begins_line}
 
+-- the newline that ends a line
 abbrev pub line_end : List ℕ
 line_end = 10 ∷ []
 
 -- ---- leaves
 
+-- the html of a leaf's lines, which are one text
 abbrev pub words_html : Defined → List Remaining → List ℕ
 words_html defined lines = inline_html defined (leaf_text lines)
 
@@ -29,6 +31,7 @@ words_html defined lines = inline_html defined (leaf_text lines)
 abbrev pub paragraph_html : (tight more : Bool) → List ℕ → List ℕ
 paragraph_html tight more words = if tight then words ++ (if more then line_end else []) else within (codes "p") words ++ line_end
 
+-- the name of a heading's element, which has its level
 abbrev pub heading_name : ℕ → List ℕ
 heading_name level = 104 ∷ decimal level
 
@@ -36,12 +39,15 @@ heading_name level = 104 ∷ decimal level
 abbrev pub line_bytes : Remaining → List ℕ
 line_bytes line = replicate line.pending 32 ++ line.bytes
 
+-- a line of code, in which some bytes are entities
 abbrev pub code_line : Remaining → List ℕ
 code_line line = escaped (line_bytes line) ++ line_end
 
+-- a block of code, whose language is an attribute
 abbrev pub html_of_code : (language lines : List ℕ) → List ℕ
 html_of_code language lines = codes "<pre><code" ++ (language ++ (codes ">" ++ (lines ++ codes "</code></pre>\n")))
 
+-- a block of code that has these lines
 abbrev pub code_html : List ℕ → List Remaining → List ℕ
 code_html language lines = html_of_code language (flat_map code_line lines)
 
@@ -49,29 +55,35 @@ code_html language lines = html_of_code language (flat_map code_line lines)
 abbrev pub language_in : List ℕ → List ℕ
 language_in info = take_while (λ b. not (is_space_byte b)) (decoded true info)
 
+-- a language is an attribute; without one there is none
 abbrev pub language_html : List ℕ → List ℕ
 language_html [] = []
 language_html (b ∷ bs) = attribute (codes "class") (codes "language-" ++ escaped (b ∷ bs))
 
+-- the attribute of the language that is named behind a fence
 abbrev pub fence_language : List Remaining → List ℕ
 fence_language [] = []
 fence_language (info ∷ lines) = language_html (language_in info.bytes)
 
+-- a line of html, which stays as it is
 abbrev pub raw_line : Remaining → List ℕ
 raw_line line = line_bytes line ++ line_end
 
 -- ---- tables, as GitHub's specification prints them
 
+-- what html calls an alignment; it has no name where none is said
 abbrev pub alignment_name : Alignment → List ℕ
 alignment_name Unspecified = []
 alignment_name Left = codes "left"
 alignment_name Center = codes "center"
 alignment_name Right = codes "right"
 
+-- an alignment is an attribute; without one there is none
 abbrev pub alignment_html : List ℕ → List ℕ
 alignment_html [] = []
 alignment_html (b ∷ bs) = attribute (codes "align") (b ∷ bs)
 
+-- a cell of this element, which says how it is aligned
 abbrev pub cell_html : List ℕ → Alignment → List ℕ → List ℕ
 cell_html name alignment words = 60 ∷ (name ++ (alignment_html (alignment_name alignment) ++ (62 ∷ (words ++ (end_tag name ++ line_end)))))
 
@@ -80,17 +92,21 @@ unfoldable pub cells_html : Defined → List ℕ → List Alignment → List ℕ
 cells_html defined name [] row = []
 cells_html defined name (alignment ∷ others) row = cell_html name alignment (inline_html defined (cell_text row)) ++ cells_html defined name others (after_cell row)
 
+-- a row that has a cell for each column
 abbrev pub row_html : Defined → List ℕ → List Alignment → Remaining → List ℕ
 row_html defined name columns line = codes "<tr>\n" ++ (cells_html defined name columns (row_of line.bytes) ++ codes "</tr>\n")
 
+-- the rows below a table's head; where there are none, there is no body
 abbrev pub body_html : Defined → List Alignment → List Remaining → List ℕ
 body_html defined columns [] = []
 body_html defined columns (row ∷ rows) = codes "<tbody>\n" ++ (flat_map (row_html defined (codes "td") columns) (row ∷ rows) ++ codes "</tbody>\n")
 
+-- a table that has this head and these rows
 abbrev pub table_of : Defined → List Alignment → Remaining → List Remaining → List ℕ
 table_of defined columns head rows =
     codes "<table>\n<thead>\n" ++ (row_html defined (codes "th") columns head ++ (codes "</thead>\n" ++ (body_html defined columns rows ++ codes "</table>\n")))
 
+-- the table that these lines are: a head, delimiters and rows
 abbrev pub table_html : Defined → ℕ → List Remaining → List ℕ
 table_html defined columns (head ∷ (delimiters ∷ rows)) = table_of defined (alignments columns (row_of delimiters.bytes)) head rows
 table_html defined columns _ = []
@@ -109,9 +125,11 @@ leaf_html defined tight more Definitions lines = []
 
 -- ---- containers
 
+-- a list whose items have this sign is one of numbers
 abbrev pub is_number : ℕ → Bool
 is_number sign = (sign == 46) || (sign == 41)
 
+-- the name of a list's element, by whether it has numbers
 abbrev pub list_name : ℕ → List ℕ
 list_name sign = if is_number sign then codes "ol" else codes "ul"
 
@@ -119,9 +137,11 @@ list_name sign = if is_number sign then codes "ol" else codes "ul"
 abbrev pub start_html : ℕ → ℕ → List ℕ
 start_html sign number = if is_number sign && not (number == 1) then attribute (codes "start") (decimal number) else []
 
+-- a list begins, and says its first number where that isn't 1
 abbrev pub list_begin : ℕ → ℕ → List ℕ
 list_begin sign number = 60 ∷ (list_name sign ++ (start_html sign number ++ (62 ∷ line_end)))
 
+-- a list that has begun ends
 abbrev pub list_end : Option Listing → List ℕ
 list_end None = []
 list_end (Some list) = end_tag (list_name list.sign) ++ line_end
@@ -130,9 +150,11 @@ list_end (Some list) = end_tag (list_name list.sign) ++ line_end
 abbrev pub before_item : Option Listing → ℕ → ℕ → List ℕ
 before_item list sign number = if is_in list sign then [] else list_end list ++ list_begin sign number
 
+-- an item around its blocks, which begin a line of their own or don't
 abbrev pub item_html : Bool → List ℕ → List ℕ
 item_html own_line inner = codes "<li>" ++ ((if own_line then line_end else []) ++ (inner ++ codes "</li>\n"))
 
+-- a quote's element, which is around its blocks
 abbrev pub quote_html : List ℕ → List ℕ
 quote_html inner = codes "<blockquote>\n" ++ (inner ++ codes "</blockquote>\n")
 
@@ -149,6 +171,7 @@ blocks_html defined tight list (holds (Item sign number content) apart inner aft
 
 -- ---- a text
 
+-- the html that these parts are
 abbrev pub parts_html : List PartContent → List ℕ
 parts_html parts = blocks_html (definitions_of parts) false None (tree_of parts)
 

@@ -29,9 +29,11 @@ pub record Span : Type 0 where
   pub image : Bool
   pub leads : Leads
 
+-- where a link leads that has no destination and no title
 abbrev pub nowhere : Leads
 nowhere = record { destination = []; title = [] }
 
+-- what is found, or nowhere
 abbrev pub or_nowhere : Option Leads → Leads
 or_nowhere None = nowhere
 or_nowhere (Some leads) = leads
@@ -61,27 +63,33 @@ pub record Words : Type 0 where
   pub pairs : List Pair
   pub spans : List Span
 
--- In an image all is text: it is the image's alternative.
+-- A piece is between the brackets of this image, where all is text: it is the image's alternative.
 abbrev pub is_around : ℕ → Span → Bool
 is_around index span = span.image && nat_lt span.opener index && nat_lt index span.closer
 
+-- a piece is in one of the images
 abbrev pub is_in_image : Words → ℕ → Bool
 is_in_image words index = list_any (is_around index) words.spans
 
+-- the links and images that begin at a piece
 abbrev pub opened_at : Words → ℕ → List Span
 opened_at words index = filter (λ span. span.opener == index) words.spans
 
+-- the links and images that end at a piece
 abbrev pub closed_at : Words → ℕ → List Span
 closed_at words index = filter (λ span. span.closer == index) words.spans
 
+-- the bytes of a second character, if there is one
 abbrev pub second_bytes : Option ℕ → List ℕ
 second_bytes None = []
 second_bytes (Some c) = encode_utf8 c
 
+-- an opening bracket is text where no link or image begins there
 abbrev pub bracket_text : Bool → List Span → List ℕ
 bracket_text image [] = if image then codes "![" else codes "["
 bracket_text image (span ∷ spans) = []
 
+-- a closing bracket is text where it closes none
 abbrev pub closing_text : Option Link → List ℕ
 closing_text None = codes "]"
 closing_text (Some link) = []
@@ -104,9 +112,11 @@ said (Closing link) text at more left opens = closing_text link
 abbrev pub pair_name : Pair → List ℕ
 pair_name pair = if is_strikeout pair then codes "del" else if is_bold pair then codes "strong" else codes "em"
 
+-- the tag that begins a pair
 abbrev pub pair_tag : Pair → List ℕ
 pair_tag pair = tag (pair_name pair)
 
+-- the tag that ends a pair
 abbrev pub pair_end : Pair → List ℕ
 pair_end pair = end_tag (pair_name pair)
 
@@ -115,6 +125,7 @@ abbrev pub run_html : List Pair → ℕ → List ℕ → List ℕ
 run_html pairs index left =
     flat_map pair_end (filter (λ pair. pair.closer == index) pairs) ++ (left ++ flat_map pair_tag (reverse (filter (λ pair. pair.opener == index) pairs)))
 
+-- a title is an attribute; without one there is none
 abbrev pub title_html : List ℕ → List ℕ
 title_html [] = []
 title_html (b ∷ bs) = attribute (codes "title") (escaped (b ∷ bs))
@@ -125,6 +136,7 @@ span_begin span =
     if span.image then codes "<img" ++ (attribute (codes "src") (addressed span.leads.destination) ++ codes " alt=\"")
     else codes "<a" ++ (attribute (codes "href") (addressed span.leads.destination) ++ (title_html span.leads.title ++ codes ">"))
 
+-- what ends a link, or an image with its title
 abbrev pub span_end : Span → List ℕ
 span_end span = if span.image then codes "\"" ++ (title_html span.leads.title ++ codes " />") else codes "</a>"
 
@@ -145,6 +157,7 @@ marked words at index more (Opening image) says = says ++ flat_map span_begin (o
 marked words at index more (Closing link) says = says ++ flat_map span_end (closed_at words index)
 marked words at index more _ says = escaped says
 
+-- the html of a piece; in an image it is only its text
 abbrev pub piece_html : Words → (at index : ℕ) → Piece → List ℕ
 piece_html words at index p =
     let says = said p.kind words.text at p.more (piece_marks p - taken_at words.pairs index) (opened_at words index) in
@@ -157,9 +170,11 @@ pieces_html words at index (p ∷ ps) = piece_html words at index p ++ pieces_ht
 
 -- ---- a text
 
+-- a text that was cut, with the pairs, links and images that were found
 abbrev pub words_of : List Leads → List ℕ → CutText → Words
 words_of defined text cut = record { text = text; pairs = cut.pairs; spans = spans_from defined text 0 0 cut.pieces }
 
+-- the html of a text that was cut
 abbrev pub cut_html : List Leads → List ℕ → CutText → List ℕ
 cut_html defined text cut = pieces_html (words_of defined text cut) 0 0 cut.pieces
 

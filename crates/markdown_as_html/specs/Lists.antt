@@ -17,6 +17,7 @@ parts_item nothing sign = false
 parts_item (item before) sign = not (before == sign)
 parts_item other sign = true
 
+-- nothing is before the block in its container
 abbrev pub is_first : Before → Bool
 is_first nothing = true
 is_first _ = false
@@ -46,10 +47,12 @@ pub record Listing : Type 0 where
   pub sign : ℕ
   pub tight : Bool
 
+-- an item with this sign goes on with the list
 abbrev pub is_in : Option Listing → ℕ → Bool
 is_in None sign = false
 is_in (Some list) sign = list.sign == sign
 
+-- the list that begins with an item, tight or loose by the blocks in it and after it
 abbrev pub begun_list : ℕ → Blocks → Blocks → Listing
 begun_list sign inner after = record { sign = sign; tight = not (is_loose sign inner after) }
 
@@ -60,6 +63,7 @@ list_of (Some list) sign inner after = if list.sign == sign then list else begun
 
 -- ---- what is seen
 
+-- a leaf of this kind shows something
 abbrev pub is_seen : Kind → Bool
 is_seen Nothing = false
 is_seen Definitions = false
@@ -71,6 +75,7 @@ are_seen no_more = false
 are_seen (leaf b after) = is_seen b.kind || are_seen after
 are_seen (holds container apart inner after) = true
 
+-- a paragraph of a tight list, which has no tags of its own
 abbrev pub is_tight_paragraph : Bool → Kind → Bool
 is_tight_paragraph tight Paragraph = tight
 is_tight_paragraph tight _ = false

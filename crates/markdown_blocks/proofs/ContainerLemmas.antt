@@ -13,6 +13,7 @@ pub matched_cons : (bare : Bool) (container : Container) (inner : List Container
 unfolding matched
 matched_cons bare container inner rest = refl
 
+-- without containers none goes on, and the whole rest is left
 pub matched_nil : (bare : Bool) (rest : Remaining) → matched bare [] rest ≡ record { count = 0; rest = rest }
 unfolding matched
 matched_nil bare rest = refl
@@ -34,6 +35,7 @@ goes_on_more bare bare_here containers at d rest next within here is =
 
 -- ---- opening
 
+-- a container that is put behind some is in front of those that follow
 pub pushed : (xs : List Container) (x : Container) (ys : List Container) → (xs ++ x ∷ []) ++ ys ≡ xs ++ x ∷ ys
 pushed xs x ys = append_assoc xs (x ∷ []) ys
 
@@ -41,23 +43,28 @@ pushed xs x ys = append_assoc xs (x ∷ []) ys
 pub front_pushed : (front xs new : List Container) (x : Container) → new ≡ xs ++ x ∷ [] → length front ≤ length xs → HasFront front xs → HasFront front new
 front_pushed front xs new x new_is more h = ap (take (length front)) new_is ∙ take-append-le (length front) xs (x ∷ []) more ∙ h
 
+-- a container that begins is the first, and then come those that begin behind it
 pub opened_next : (room more : ℕ) (in_paragraph : Bool) (rest : Remaining) (found : Opened) → more ≡ suc room → container_start in_paragraph rest ≡ Some found
     → opened more in_paragraph rest ≡ record { containers = found.container ∷ (opened room false found.rest).containers; rest = (opened room false found.rest).rest }
 unfolding opened
 opened_next room more in_paragraph rest found e is = ap (λ n. opened n in_paragraph rest) e ∙ ap (λ o. open_more o rest (opened room false)) is
 
+-- where no container begins, the whole rest is left
 pub opened_none : (room more : ℕ) (in_paragraph : Bool) (rest : Remaining) → more ≡ suc room → container_start in_paragraph rest ≡ None → opened more in_paragraph rest ≡ record { containers = []; rest = rest }
 unfolding opened
 opened_none room more in_paragraph rest e is = ap (λ n. opened n in_paragraph rest) e ∙ ap (λ o. open_more o rest (opened room false)) is
 
+-- where there is no room for one, the whole rest is left
 pub opened_full : (more : ℕ) (in_paragraph : Bool) (rest : Remaining) → more ≡ 0 → opened more in_paragraph rest ≡ record { containers = []; rest = rest }
 unfolding opened
 opened_full more in_paragraph rest e = ap (λ n. opened n in_paragraph rest) e
 
+-- with a container in front it decides, unless others are in it
 pub ends_cons : (bare : Bool) (container : Container) (inner : List Container) → ends_in_item bare (container ∷ inner) ≡ ends_in_item (is_item container) inner
 unfolding ends_in_item
 ends_cons bare container inner = refl
 
+-- without containers it is as was known before
 pub ends_nil : (bare : Bool) → ends_in_item bare [] ≡ bare
 unfolding ends_in_item
 ends_nil bare = refl

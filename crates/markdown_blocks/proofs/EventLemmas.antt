@@ -27,6 +27,7 @@ pub events_none : (before : Unread) → before.text ≡ [] → events_of before 
 unfolding events_of
 events_none before e = lines_none before.state before.text e
 
+-- a text without bytes is the empty one
 pub is_none : (text : List ℕ) → (length text == 0) ≡ true → text ≡ []
 is_none [] e = refl
 is_none (b ∷ bs) e = absurd (grind (arith, nat_tests))

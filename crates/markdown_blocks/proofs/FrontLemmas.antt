@@ -14,6 +14,7 @@ use Rattle.markdown_blocks.specs.declared.containers.Container.{Container}
 use Rattle.markdown_blocks.specs.declared.containers.Container.TheVariants.{Quote, Item}
 use Rattle.markdown_blocks.specs.KeptLines.{IsEndOf, is_markup}
 
+-- what holds in both cases holds of what a condition chooses
 pub by_cond : {X : Type 0} (P : X → Type 0) (t : Bool) (x y : X) → (t ≡ true → P x) → (t ≡ false → P y) → P (cond t x y)
 by_cond P true x y f g = f refl
 by_cond P false x y f g = g refl
@@ -60,9 +61,11 @@ all_joined : (xs ys : List ℕ) → AllMarkup xs → AllMarkup ys → AllMarkup 
 all_joined [] ys h k = k
 all_joined (x ∷ xs) ys h k = (h.0, all_joined xs ys h.1 k)
 
+-- a line is an end of itself
 pub end_same : (bytes : List ℕ) → IsEndOf bytes bytes
 end_same bytes = record { front = []; whole = refl; markup = tt }
 
+-- an end of an end is one
 pub end_then : (a b c : List ℕ) → IsEndOf a b → IsEndOf b c → IsEndOf a c
 end_then a b c h k = record {
   front = h.front ++ k.front;
@@ -121,6 +124,7 @@ with_end : (rest : Remaining) (o : Option Remaining) (on : Remaining → Remaini
 with_end rest None on h f = end_same rest.bytes
 with_end rest (Some next) on h f = end_then rest.bytes next.bytes (on next).bytes h (f next)
 
+-- without some columns in front an end is left
 pub take_end : (n : ℕ) (rest : Remaining) → IsEndOf rest.bytes (take_columns n rest).bytes
 unfolding take_columns
 take_end zero rest = end_same rest.bytes
@@ -154,6 +158,7 @@ match_end : (rest : Remaining) (o : Option Remaining) (others : Remaining → Ma
 match_end rest None others h f = end_same rest.bytes
 match_end rest (Some next) others h f = end_then rest.bytes next.bytes (others next).rest.bytes h (f next)
 
+-- what containers that go on leave is an end
 pub matched_end : (bare : Bool) (containers : List Container) (rest : Remaining) → IsEndOf rest.bytes (matched bare containers rest).rest.bytes
 unfolding matched
 matched_end bare [] rest = end_same rest.bytes
@@ -222,6 +227,7 @@ open_end : (rest : Remaining) (o : Option Opened) (others : Remaining → Opens)
 open_end rest None others h f = end_same rest.bytes
 open_end rest (Some found) others h f = end_then rest.bytes found.rest.bytes (others found.rest).rest.bytes h (f found.rest)
 
+-- what containers that begin leave is an end
 pub opened_end : (room : ℕ) (in_paragraph : Bool) (rest : Remaining) → IsEndOf rest.bytes (opened room in_paragraph rest).rest.bytes
 unfolding opened
 opened_end zero in_paragraph rest = end_same rest.bytes
@@ -229,8 +235,10 @@ opened_end (suc room) in_paragraph rest = open_end rest (container_start in_para
 
 -- ---- blanks, and runs of a sign
 
+-- without the blanks in front an end is left
 pub blanks_end : (bytes : List ℕ) → IsEndOf bytes (drop (prefix_len is_blank_byte bytes) bytes)
 blanks_end bytes = end_prefix is_blank_byte blank_markup bytes
 
+-- without a run of a sign in front an end is left
 pub run_end : (sign : ℕ) (bytes : List ℕ) → is_markup sign ≡ true → IsEndOf bytes (drop (prefix_len (λ b. eqb b sign) bytes) bytes)
 run_end sign bytes h = end_prefix (λ b. eqb b sign) (λ b k. ap is_markup (eqb-true b sign k) ∙ h) bytes

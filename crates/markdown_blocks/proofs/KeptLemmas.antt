@@ -36,6 +36,7 @@ line_kept bytes state found h =
     by_cond (λ (s : Step). KeepsLine bytes s.line) (eqb found.count (length state.containers)) (matched_line (going_on state.leaf found.rest) state found) (begun_line state found)
     (λ k. matched_kept bytes (going_on state.leaf found.rest) state found h (going_may state.leaf found.rest)) (λ k. begun_kept bytes state found h)
 
+-- no step loses anything of its line but blanks and signs
 pub nothing_lost : NothingIsLost
 unfolding step
 nothing_lost state bytes =

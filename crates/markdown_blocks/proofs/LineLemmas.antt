@@ -30,6 +30,7 @@ apart_keeps Words cells text count all = refl
 abbrev pub joins_where : (none table paragraph joins all : Bool) → Joining
 joins_where none table paragraph joins all = joining_or_row (table && none && all) (paragraph && none && joins) all
 
+-- a line in which a container begins joins neither a paragraph nor a table
 pub not_joined : (table paragraph joins all : Bool) → joins_where false table paragraph joins all ≡ Apart
 not_joined true true joins all = refl
 not_joined true false joins all = refl
@@ -60,6 +61,7 @@ abbrev pub made : List Container → Leaf → List ℕ → ℕ → ℕ → ℕ �
 made items leaf defining cells kept opened deed text =
     record { state = record { containers = items; leaf = leaf; defining = defining; cells = cells }; line = record { kept = kept; opened = opened; deed = deed; text = text } }
 
+-- a step is that of a line which begins something, where each of its parts is
 pub begun_line_is : (state : State) (count : ℕ) (rest left : Remaining) (in_paragraph may_join row all defines bare : Bool) (joining : Joining) (start : Start) (text : Remaining) (deed : Deed) (leaf : Leaf) (defining : List ℕ) (cells kept begun : ℕ) (items : List Container)
     → all ≡ (count == length state.containers) → in_paragraph ≡ (is_paragraph state.leaf && all)
     → begun ≡ length (opened (64 - count) in_paragraph rest).containers → bare ≡ ends_in_item false (opened (64 - count) in_paragraph rest).containers → left ≡ (opened (64 - count) in_paragraph rest).rest

@@ -22,6 +22,7 @@ more_within : (o : Option Remaining) (rest : Remaining) (others : Remaining → 
 more_within None rest others n h = omega arith
 more_within (Some next) rest others n h = omega (arith, h next)
 
+-- no more containers go on than are open
 pub matched_within : (bare : Bool) (containers : List Container) (rest : Remaining) → (matched bare containers rest).count ≤ length containers
 unfolding matched
 matched_within bare [] rest = omega arith

@@ -102,6 +102,7 @@ code_end : (joining : Joining) (rest : Remaining) → IsEndOf rest.bytes (code_s
 unfolding without_blanks
 code_end joining rest = by_cond (λ (r : Remaining). IsEndOf rest.bytes r.bytes) (joins joining) (unindented rest) (take_columns 4 rest) (λ h. blanks_end rest.bytes) (λ h. take_end 4 rest)
 
+-- what the rest of a line begins as is such a beginning
 pub leaf_begun : (joining : Joining) (rest : Remaining) → IsBegun rest.bytes (leaf_start joining rest)
 unfolding leaf_start
 leaf_begun joining rest =
@@ -120,6 +121,7 @@ words_alone Fully cells text =
     (λ h. eqb-true (delimited_columns text.bytes) cells (and_parts (not (eqb cells 0)) (eqb (delimited_columns text.bytes) cells) h).1) (λ h. tt)
 words_alone InTable cells text = tt
 
+-- a line that no leaf keeps is markup alone
 pub deed_alone : (joining : Joining) (cells : ℕ) (text : Remaining) (start : Start) → StartIs start text → IsMarkupAlone (deed_at joining cells text start) text
 deed_alone joining cells text Blank h = h
 deed_alone joining cells text Code h = by_cond (λ (d : Deed). IsMarkupAlone d text) (joins joining) GoesOn (Begins Indented) (λ k. tt) (λ k. tt)
@@ -142,6 +144,7 @@ html_may ending rest =
     by_cond (MayEnd rest) (ends_by_blank ending) (cond (is_blank rest.bytes) No On) _ (λ h. by_cond (MayEnd rest) (is_blank rest.bytes) No On (λ k. tt) (λ k. tt))
     (λ h. by_cond (MayEnd rest) (ends_html ending rest.bytes) Last On (λ k. tt) (λ k. tt))
 
+-- the open leaf takes a line as its end only so
 pub going_may : (leaf : Leaf) (rest : Remaining) → MayEnd rest (going_on leaf rest)
 unfolding going_on
 going_may (Fenced sign length indent) rest = by_cond (MayEnd rest) (closes_fence sign length rest) Ends On (λ h. (sign, length, h)) (λ h. tt)

@@ -36,6 +36,7 @@ pub record Matched : Type 0 where
   pub count : ℕ
   pub rest : Remaining
 
+-- a container that goes on counts, and then those in it; else none does
 abbrev pub match_more : Option Remaining → Remaining → (Remaining → Matched) → Matched
 match_more None rest others = record { count = 0; rest = rest }
 match_more (Some next) rest others = record { count = 1 + (others next).count; rest = (others next).rest }
@@ -52,6 +53,7 @@ pub record Opened : Type 0 where
   pub container : Container
   pub rest : Remaining
 
+-- the container that the code says begins, and what is left for its content
 abbrev pub opened_by : Opening → Opened
 opened_by opening = record { container = opening.container; rest = remaining opening.rest }
 
@@ -63,6 +65,7 @@ gap_after rest = if is_blank rest.bytes || nat_lt 4 (columns_in_front 5 rest) th
 abbrev pub item_before : ℕ → Marker → Remaining → Opened
 item_before indent marker rest = record { container = Item marker.sign marker.number (indent + marker.length + gap_after rest); rest = take_columns (gap_after rest) rest }
 
+-- the item that a marker begins, unless it may not interrupt a paragraph
 abbrev pub item_of : Bool → ℕ → Remaining → Option Marker → Option Opened
 item_of in_paragraph indent rest None = None
 item_of in_paragraph indent rest (Some marker) = if in_paragraph && not (may_interrupt marker rest.bytes) then None else Some (item_before indent marker (skip marker.length rest))
@@ -86,6 +89,7 @@ pub record Opens : Type 0 where
   pub containers : List Container
   pub rest : Remaining
 
+-- a container that begins, and then those that begin behind it
 abbrev pub open_more : Option Opened → Remaining → (Remaining → Opens) → Opens
 open_more None rest others = record { containers = []; rest = rest }
 open_more (Some found) rest others = record { containers = found.container ∷ (others found.rest).containers; rest = (others found.rest).rest }
@@ -95,6 +99,7 @@ unfoldable pub opened : ℕ → Bool → Remaining → Opens
 opened zero in_paragraph rest = record { containers = []; rest = rest }
 opened (suc room) in_paragraph rest = open_more (container_start in_paragraph rest) rest (opened room false)
 
+-- the container is an item
 abbrev pub is_item : Container → Bool
 is_item Quote = false
 is_item (Item sign number content) = true

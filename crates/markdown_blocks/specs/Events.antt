@@ -38,6 +38,7 @@ pub record Unread : Type 0 where
   pub text : List ℕ
   pub state : State
 
+-- what a cursor hasn't read yet
 abbrev pub unread : BlockCursor → Unread
 unread cursor = record { text = cursor.rest.now; state = state_of cursor.reader }
 

@@ -24,14 +24,17 @@ use Rattle.markdown_blocks.specs.declared.leaves.Deed.TheVariants.{Blank as Blan
 
 -- ---- the open leaf
 
+-- the leaf is a paragraph
 abbrev pub is_paragraph : Leaf → Bool
 is_paragraph Paragraph = true
 is_paragraph _ = false
 
+-- the leaf is a table
 abbrev pub is_table : Leaf → Bool
 is_table Table = true
 is_table _ = false
 
+-- no leaf is open, and an item began whose first line was blank
 abbrev pub is_bare : Leaf → Bool
 is_bare Bare = true
 is_bare _ = false
@@ -85,6 +88,7 @@ underlines rest = nat_lt (columns_in_front 4 rest) 4 && is_some (underline_level
 abbrev pub only_defines : List ℕ → Bool → Remaining → Bool
 only_defines defining all rest = if (length defining == 0) || not all then false else underlines rest && are_definitions (length defining) defining
 
+-- the line may be a paragraph's next one
 abbrev pub joins : Joining → Bool
 joins Apart = false
 joins Lazily = true
@@ -96,9 +100,11 @@ pub record Beginning : Type 0 where
   pub start : Start
   pub text : Remaining
 
+-- what the code says a rest of a line begins as
 abbrev pub beginning : Begun → Beginning
 beginning begun = record { start = begun.start; text = remaining begun.text }
 
+-- a rest of a line begins as this, and then has this text
 abbrev pub begins : Start → Remaining → Beginning
 begins start text = record { start = start; text = text }
 
@@ -114,6 +120,7 @@ code_start joining rest = begins Code (if joins joining then unindented rest els
 abbrev pub rule_start : Remaining → Beginning
 rule_start rest = if is_rule rest.bytes then begins Rule rest else begins Words rest
 
+-- a rest begins an underline of this level, or else is a thematic break or text
 abbrev pub or_rule : Option ℕ → Remaining → Beginning
 or_rule None rest = rule_start rest
 or_rule (Some level) rest = begins (Underline level) rest
@@ -128,10 +135,12 @@ abbrev pub or_underline : Option Ending → Joining → Remaining → Remaining 
 or_underline None joining uncut rest = underline_start joining rest
 or_underline (Some ending) joining uncut rest = begins (HtmlStart ending (ends_html ending rest.bytes)) uncut
 
+-- a rest begins a fence, or else html, an underline, a thematic break or text
 abbrev pub or_html : Option Fence → Joining → ℕ → Remaining → Remaining → Beginning
 or_html None joining indent uncut rest = or_underline (html_start (joins joining) rest.bytes) joining uncut rest
 or_html (Some fence) joining indent uncut rest = begins (FenceStart fence.sign fence.length indent) (skip fence.length rest)
 
+-- a rest begins a heading of this level, or else what the others say
 abbrev pub or_fence : Option ℕ → Joining → ℕ → Remaining → Remaining → Beginning
 or_fence None joining indent uncut rest = or_html (fence_start rest.bytes) joining indent uncut rest
 or_fence (Some level) joining indent uncut rest = begins (Heading level) (skip level rest)

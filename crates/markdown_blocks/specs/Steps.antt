@@ -22,6 +22,7 @@ pub record State : Type 0 where
   pub defining : List ℕ
   pub cells : ℕ
 
+-- the state that the code's reader is in
 abbrev pub state_of : BlockReader → State
 state_of reader = record { containers = reader.containers.items; leaf = reader.leaf; defining = reader.defining.items; cells = reader.cells }
 
@@ -32,9 +33,11 @@ pub record Line : Type 0 where
   pub deed : Deed
   pub text : Remaining
 
+-- what the code says a line is
 abbrev pub line_of : LineRead → Line
 line_of read = record { kept = read.kept; opened = read.opened; deed = read.deed; text = remaining read.text }
 
+-- What one line does: the state after it, and what the line is.
 pub record Step : Type 0 where
   pub state : State
   pub line : Line

@@ -37,6 +37,7 @@ marked_kill d n (b ∷ bs) h =
     ap (marked_as b (marked n bs)) (below (length bs) n (omega arith))
     ∙ ap (λ (os : List Open). marked_as b os true) (marked_kill d n bs (omega arith))
 
+-- with the number of all brackets each of them has a link inside
 pub marked_all : (d n : ℕ) (xs : List Bracket) → n ≡ length xs → marked n (reverse xs) ≡ map kill (marked d (reverse xs))
 marked_all d n xs e = let same : length (reverse xs) ≡ length xs = length-reverse xs in marked_kill d n (reverse xs) (omega (arith, same))
 
@@ -46,5 +47,6 @@ marked_none dead (suc n) [] e = absurd (omega (arith, e))
 marked_none dead zero (b ∷ bs) e = absurd (omega (arith, e))
 marked_none dead (suc n) (b ∷ bs) e = grind (arith, nat_tests)
 
+-- no bracket is open where none is kept
 pub marked_free : (dead count : ℕ) (bs : List Bracket) → count ≡ length bs → (count == 0) ≡ is_free (marked dead (reverse bs))
 marked_free dead count bs e = marked_none dead count (reverse bs) (length-reverse bs ∙ sym e)

@@ -5,9 +5,11 @@ use Rattle.std.specs.Str.{is_utf8, bytes_eq}
 use Rattle.caseless.specs.Caseless.{default_case_fold}
 use Rattle.markdown_spans.specs.Words.{words}
 
+-- the bytes, where they are UTF-8
 abbrev pub text_of : List ℕ → Option (List ℕ)
 text_of bytes = if is_utf8 bytes then Some bytes else None
 
+-- a text as Unicode's case folding makes it
 abbrev pub folded : List ℕ → List ℕ
 folded text = encode_utf8_all (default_case_fold (chars text))
 
@@ -15,6 +17,7 @@ folded text = encode_utf8_all (default_case_fold (chars text))
 abbrev pub normal : List ℕ → Option (List ℕ)
 normal label = option_map folded (text_of (words false false label))
 
+-- the first of these labels that is this one
 abbrev pub index_of : List (List ℕ) → Option (List ℕ) → Option ℕ
 index_of labels None = None
 index_of labels (Some label) = position (bytes_eq label) labels

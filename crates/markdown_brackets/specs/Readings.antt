@@ -10,6 +10,7 @@ abbrev pub marked : ℕ → List Bracket → List Open
 marked dead [] = []
 marked dead (b ∷ bs) = record { bracket = b; dead = nat_lt (length bs) dead } ∷ marked dead bs
 
+-- the reading that the code keeps
 abbrev pub reading_of : Brackets → Reading
 reading_of b = record { brackets = marked b.dead (reverse b.brackets.items); runs = b.runs.items; pairs = b.pairs.items }
 

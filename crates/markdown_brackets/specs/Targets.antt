@@ -5,6 +5,7 @@ use Rattle.markdown_marks.specs.Definitions.{after, or_else, after_label, after_
 use Rattle.markdown_brackets.specs.Labels.{label_index}
 use Rattle.markdown_brackets.specs.declared.targets.Target.{Target}
 
+-- what follows a closing parenthesis that is in front
 abbrev pub closed_paren : List ℕ → Option (List ℕ)
 closed_paren [] = None
 closed_paren (b ∷ bs) = if b == 41 then Some bs else None
@@ -34,11 +35,12 @@ label_len text = option_map (λ after. (length text - length after) - 1) (after_
 abbrev pub full_label_len : List ℕ → Option ℕ
 full_label_len rest = if first rest == 91 then label_len (drop 1 rest) else None
 
--- of a label that ends where so many bytes are left
+-- of a label that ends, with its bracket, behind so many bytes
 abbrev pub if_ends : ℕ → Option ℕ → Option ℕ
 if_ends count None = None
 if_ends count (Some len) = if count == len + 1 then Some len else None
 
+-- of a label that is all that is between the brackets
 abbrev pub shortcut_len : List ℕ → ℕ → Option ℕ
 shortcut_len inside rest = if_ends (length inside - rest) (label_len inside)
 
@@ -46,6 +48,7 @@ shortcut_len inside rest = if_ends (length inside - rest) (label_len inside)
 abbrev pub collapsed_len : List ℕ → ℕ
 collapsed_len rest = if (first rest == 91) && (first (drop 1 rest) == 93) then 2 else 0
 
+-- a target that is the definition of this index, and takes so many bytes
 abbrev pub defined_as : ℕ → ℕ → Target
 defined_as len index = record { definition = Some index; len = len }
 

@@ -18,14 +18,17 @@ pub record Leads : Type 0 where
   pub destination : List ℕ
   pub title : List ℕ
 
+-- what stands before an address in its destination
 abbrev pub scheme_text : Scheme → List ℕ
 scheme_text Itself = []
 scheme_text Mail = codes "mailto:"
 scheme_text Web = codes "http://"
 
+-- where a link leads that says so itself
 abbrev pub inline_leads : List ℕ → Leads
 inline_leads link = record { destination = text_of (inline_destination link); title = text_of (inline_title link) }
 
+-- where a definition leads
 abbrev pub defined_leads : List ℕ → Leads
 defined_leads definition = record { destination = text_of (defined_destination definition); title = text_of (defined_title definition) }
 

@@ -27,24 +27,30 @@ behind (Some rest) = after_space rest
 
 -- ---- of a link: (destination "title")
 
+-- what follows the opening parenthesis and blanks
 abbrev pub inline_text : List ℕ → List ℕ
 inline_text link = after_space (drop 1 link)
 
+-- the destination that stands there
 abbrev pub inline_destination : List ℕ → List ℕ
 inline_destination link = destination_in (inline_text link)
 
+-- the title that follows the destination
 abbrev pub inline_title : List ℕ → List ℕ
 inline_title link = title_in (behind (after_destination (inline_text link)))
 
 -- ---- of a definition: [label]: destination "title"
 
+-- what follows the colon behind a label, and blanks
 abbrev pub label_behind : Option (List ℕ) → List ℕ
 label_behind None = []
 label_behind (Some rest) = after_space (drop 1 rest)
 
+-- what is left of a definition from its destination on
 abbrev pub defined_text : List ℕ → List ℕ
 defined_text definition = label_behind (after_label 0 false false (drop 1 definition))
 
+-- the destination that a definition has
 abbrev pub defined_destination : List ℕ → List ℕ
 defined_destination definition = destination_in (defined_text definition)
 
@@ -53,6 +59,7 @@ abbrev pub ends_line : List ℕ → Bool
 ends_line [] = true
 ends_line (b ∷ bs) = b == 10
 
+-- nothing but blanks follows a title in its line
 abbrev pub is_title : Option (List ℕ) → Bool
 is_title None = false
 is_title (Some rest) = ends_line (without_blanks rest)
@@ -61,9 +68,11 @@ is_title (Some rest) = ends_line (without_blanks rest)
 abbrev pub defined_title_in : List ℕ → List ℕ → List ℕ
 defined_title_in rest text = if (length text == length rest) then [] else if is_title (title_after text) then title_in text else []
 
+-- the title that follows a destination, if there is one
 abbrev pub defined_title_by : Option (List ℕ) → List ℕ
 defined_title_by None = []
 defined_title_by (Some rest) = defined_title_in rest (after_space rest)
 
+-- the title of a definition, if it has one
 abbrev pub defined_title : List ℕ → List ℕ
 defined_title definition = defined_title_by (after_destination (defined_text definition))

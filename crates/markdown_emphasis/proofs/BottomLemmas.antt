@@ -40,6 +40,7 @@ bottom_pair b d (o ∷ os) c before h = bottom_rest (ltb (taken o c.closer) o.le
 
 -- ---- all of them
 
+-- bottoms stay true behind a pair
 pub bottoms_pair : (place : ℕ) (bottoms : List ℕ) (c : Closing) → AreBottoms place bottoms c.openers → AreBottoms place bottoms (pair_with (nearest c.closer.run c.openers) c).openers
 bottoms_pair place bottoms c h = record {
   count = h.count;
@@ -55,6 +56,7 @@ bottoms_push place bottoms o os h are = record {
   none = λ d. ((λ below. absurd (omega (arith, are.below (key_of d.sign d)))), are.none d);
 }
 
+-- they stay true at a later place
 pub bottoms_later : (place next : ℕ) (bottoms : List ℕ) (os : List Mark) → place ≤ next → AreBottoms place bottoms os → AreBottoms next bottoms os
 bottoms_later place next bottoms os h are = record {
   count = are.count;
@@ -78,6 +80,7 @@ set_none place bottoms c d os h closes none before =
       | inr other ↦ subst (λ (b : ℕ). IsBottom b d os) (sym (get_or-set_other bottoms (key_of c.sign c) (key_of d.sign d) place 0 other)) before
     ]
 
+-- they stay true where one is set to a place before which no opener fits
 pub bottoms_set : (place : ℕ) (bottoms : List ℕ) (c : Run) (os : List Mark) → key_of c.sign c < 16 → c.closes ≡ true → nearest c os ≡ [] → AreBottoms place bottoms os
     → AreBottoms place (set bottoms (key_of c.sign c) place) os
 bottoms_set place bottoms c os h closes none are =

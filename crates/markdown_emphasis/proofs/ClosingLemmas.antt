@@ -10,6 +10,7 @@ use Rattle.markdown_emphasis.proofs.KeyLemmas.{nearest-closes}
 
 -- ---- how many marks a pair takes
 
+-- a pair takes at least one mark where the closer has any
 pub taken_by-some : (s : Sign) (opener closer : ℕ) → 0 < closer → 0 < taken_by s opener closer
 taken_by-some Tilde opener closer h = h
 taken_by-some Star opener closer h = grind (arith, nat_tests)
@@ -26,9 +27,11 @@ once_alone : (b : Bool) (c : Closing) → cond b c c ≡ c
 once_alone true c = refl
 once_alone false c = refl
 
+-- a run for which no opener fits closes no more
 pub once-none : (c : Closing) → nearest c.closer.run c.openers ≡ [] → close_once c ≡ c
 once-none c h = ap (λ found. cond (ltb 0 c.closer.left) (pair_with found c) c) h ∙ once_alone (ltb 0 c.closer.left) c
 
+-- where one try changes nothing, no further one does
 pub times_stay : (n : ℕ) (c : Closing) → close_once c ≡ c → close_times n c ≡ c
 times_stay zero c h = refl
 times_stay (suc n) c h = ap (close_times n) h ∙ times_stay n c h
@@ -60,6 +63,7 @@ times_enough (suc n) (suc m) c h k =
       | inr fewer ↦ times_enough n m (close_once c) (omega arith) (omega arith)
     ]
 
+-- with one try before it a run closes the same
 pub run_once : (c : Closing) → close_run (close_once c) ≡ close_run c
 run_once c =
     elim (once_less c) [
@@ -67,6 +71,7 @@ run_once c =
       | inr fewer ↦ sym (times_enough c.closer.left (suc c.closer.left) c (omega arith) (omega arith) ∙ times_enough c.closer.left (close_once c).closer.left (close_once c) (omega arith) (omega arith))
     ]
 
+-- where one try changes nothing, the run closes nothing
 pub run_done : (c : Closing) → close_once c ≡ c → close_run c ≡ c
 run_done c h = times_stay c.closer.left c h
 

@@ -64,6 +64,7 @@ lengths_by Star o c d h = star_by o c.opens d.opens c.count d.count h
 lengths_by Underscore o c d h = star_by o c.opens d.opens c.count d.count (omega arith)
 lengths_by Tilde o c d h = tilde_small (leb c.count 2) o.count c.count d.count refl h
 
+-- closers of one key fit the same openers
 pub fits_by_key : (o c d : Run) → key_of c.sign c ≡ key_of d.sign d → c.closes ≡ true → d.closes ≡ true → fits o c ≡ fits o d
 fits_by_key o c d h closes ends =
     let same : c.sign ≡ d.sign = same_sign c.sign d.sign c d h in
@@ -77,14 +78,17 @@ no_closer : (a b : Bool) → (a && false && b) ≡ false
 no_closer true b = refl
 no_closer false b = refl
 
+-- no opener fits a run that can't close
 pub fits-closes : (o c : Run) → c.closes ≡ false → fits o c ≡ false
 fits-closes o c h = ap (λ b. is_same_sign o.sign c.sign && o.opens && b && lengths_fit c.sign o c) h ∙ no_closer (is_same_sign o.sign c.sign && o.opens) (lengths_fit c.sign o c)
 
 -- ---- the nearest opener
 
+-- an opener that fits is nearer than all that follow
 pub nearest-fits : (c : Run) (o : Mark) (os : List Mark) → fits o.run c ≡ true → nearest c (o ∷ os) ≡ o ∷ os
 nearest-fits c o os h = ap (λ b. cond b (o ∷ os) (nearest c os)) h
 
+-- where one doesn't fit, the nearest is among those that follow
 pub nearest-other : (c : Run) (o : Mark) (os : List Mark) → fits o.run c ≡ false → nearest c (o ∷ os) ≡ nearest c os
 nearest-other c o os h = ap (λ b. cond b (o ∷ os) (nearest c os)) h
 
@@ -97,6 +101,7 @@ none_first : (b : Bool) (o : Mark) (os rest : List Mark) → cond b (o ∷ os) r
 none_first true o os rest h = absurd (cc)
 none_first false o os rest h = (refl, h)
 
+-- where none fits, neither the first does nor one that follows
 pub nearest-none : (c : Run) (o : Mark) (os : List Mark) → nearest c (o ∷ os) ≡ [] → (fits o.run c ≡ false) × (nearest c os ≡ [])
 nearest-none c o os h = none_first (fits o.run c) o os (nearest c os) h
 

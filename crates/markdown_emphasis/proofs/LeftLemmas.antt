@@ -21,9 +21,11 @@ use Rattle.markdown_emphasis.proofs.PairLemmas.{AreOpeners, openers_nearest}
 
 -- ---- how many marks are taken
 
+-- one more pair takes its marks besides those that are taken
 pub taken_push : (pairs : List Pair) (q : Pair) (i : ℕ) → taken_at (pairs ++ q ∷ []) i ≡ taken_at pairs i + takes i q
 taken_push pairs q i = sum_by_push (takes i) pairs q
 
+-- a pair takes its marks of its opener
 pub takes_opener : (q : Pair) → takes q.opener q ≡ q.count
 takes_opener q = ap (λ b. cond (b || eqb q.closer q.opener) q.count 0) (eq-eqb q.opener q.opener refl)
 
@@ -31,9 +33,11 @@ or_true : (b : Bool) → (b || true) ≡ true
 or_true true = refl
 or_true false = refl
 
+-- it takes as many of its closer
 pub takes_closer : (q : Pair) → takes q.closer q ≡ q.count
 takes_closer q = ap (λ b. cond (eqb q.opener q.closer || b) q.count 0) (eq-eqb q.closer q.closer refl) ∙ ap (λ b. cond b q.count 0) (or_true (eqb q.opener q.closer))
 
+-- it takes none of another run
 pub takes_other : (q : Pair) (i : ℕ) → q.opener ≢ i → q.closer ≢ i → takes i q ≡ 0
 takes_other q i before after = ap (λ b. cond (b || eqb q.closer i) q.count 0) (ne_eqb q.opener i before) ∙ ap (λ b. cond b q.count 0) (ne_eqb q.closer i after)
 
@@ -48,6 +52,7 @@ taken_fresh k (p ∷ ps) within =
 
 -- ---- how many a pair takes
 
+-- if the run is one of tildes, none of its marks is taken
 abbrev pub IsWhole : Mark → Type 0
 IsWhole mark = is_tilde mark.run.sign ≡ true → mark.left ≡ mark.run.count
 
@@ -65,12 +70,14 @@ same_by Underscore Tilde h = absurd (cc)
 same_by Tilde Star h = absurd (cc)
 same_by Tilde Underscore h = absurd (cc)
 
+-- what two runs need that fit: the same sign, one that opens, one that closes, and lengths that allow it
 pub record Fit (o c : Run) : Type 0 where
   pub sign : o.sign ≡ c.sign
   pub opens : o.opens ≡ true
   pub closes : c.closes ≡ true
   pub lengths : lengths_fit c.sign o c ≡ true
 
+-- runs that fit have all that
 pub fit : (o c : Run) → fits o c ≡ true → Fit o c
 fit o c h =
     let a = and_parts (is_same_sign o.sign c.sign && o.opens && c.closes) (lengths_fit c.sign o c) h in
@@ -78,6 +85,7 @@ fit o c h =
     let d = and_parts (is_same_sign o.sign c.sign) o.opens b.0 in
     record { sign = same_by o.sign c.sign d.0; opens = d.1; closes = b.1; lengths = a.1 }
 
+-- a pair takes no more marks of a run than are left
 pub taken_small : (s : Sign) (o c : Mark) → lengths_fit s o.run c.run ≡ true → 0 < o.left → 0 < c.left
     → (is_tilde s ≡ true → o.left ≡ o.run.count) → (is_tilde s ≡ true → c.left ≡ c.run.count) → (taken_by s o.left c.left ≤ o.left) × (taken_by s o.left c.left ≤ c.left)
 taken_small Star o c h some more whole all = some_by o.left c.left some more
@@ -95,10 +103,12 @@ pub record IsEntry (past : List Run) (pairs : List Pair) (o : Mark) : Type 0 whe
   pub some : 0 < o.left
   pub whole : IsWhole o
 
+-- each of these openers is so
 abbrev pub AreEntries : List Run → List Pair → List Mark → Type 0
 AreEntries past pairs [] = Unit {0}
 AreEntries past pairs (o ∷ os) = IsEntry past pairs o × AreEntries past pairs os
 
+-- the run of this index is among these openers
 abbrev pub OnStack : ℕ → List Mark → Type 0
 OnStack i [] = ⊥
 OnStack i (o ∷ os) = (o.place ≡ i) ⊎ OnStack i os
@@ -108,6 +118,7 @@ entries_from : (t : Bool) (past : List Run) (pairs : List Pair) (c : Run) (o : M
 entries_from true past pairs c o os here after = here
 entries_from false past pairs c o os here after = after
 
+-- the openers from the nearest that fits on are so, too
 pub entries_nearest : (past : List Run) (pairs : List Pair) (c : Run) (os : List Mark) → AreEntries past pairs os → AreEntries past pairs (nearest c os)
 entries_nearest past pairs c [] are = tt
 entries_nearest past pairs c (o ∷ os) are = entries_from (fits o.run c) past pairs c o os are (entries_nearest past pairs c os are.1)
@@ -134,6 +145,7 @@ found_low place pairs c f os fs are h =
     let found : AreOpeners place pairs (f ∷ fs) = subst (λ (l : List Mark). AreOpeners place pairs l) h (openers_nearest place pairs c os are) in
     found.0
 
+-- an opener is among those from the nearest that fits on, or its run comes after that one's
 pub stack_split : (place : ℕ) (pairs : List Pair) (c : Run) (f : Mark) (os fs : List Mark) (i : ℕ) → nearest c os ≡ f ∷ fs → AreOpeners place pairs os → OnStack i os → OnStack i (f ∷ fs) ⊎ (f.place < i)
 stack_split place pairs c f [] fs i h are on = absurd on
 stack_split place pairs c f (o ∷ os) fs i h are on =
@@ -153,16 +165,19 @@ first_by : (t : Bool) (c : Run) (o f : Mark) (os fs : List Mark) → fits o.run 
 first_by true c o f os fs e h ih = let same : o ≡ f = cc in ap (λ (m : Mark). fits m.run c) (sym same) ∙ e
 first_by false c o f os fs e h ih = ih h
 
+-- the nearest opener that fits does fit
 pub nearest_first : (c : Run) (f : Mark) (os fs : List Mark) → nearest c os ≡ f ∷ fs → fits f.run c ≡ true
 nearest_first c f [] fs h = absurd (cc)
 nearest_first c f (o ∷ os) fs h = first_by (fits o.run c) c o f os fs refl h (nearest_first c f os fs)
 
 -- ---- some pair over a run
 
+-- what one of some has, one of more has
 pub any_more : {X : Type 0} (P : X → Type 0) (xs : List X) (y : X) → Any P xs → Any P (xs ++ y ∷ [])
 any_more P xs y h =
     let small : h.0 < length xs = h.2 in
     (h.0, h.1, omega (arith, length_push xs y), get_or_append_left xs (y ∷ []) h.1 h.0 small ∙ h.3, h.4)
 
+-- a pair over a run up to a place is so up to a later one
 pub later_over : (i j k : ℕ) (pairs : List Pair) → j ≤ k → Any (IsOverUntil i j) pairs → Any (IsOverUntil i k) pairs
 later_over i j k pairs le h = (h.0, h.1, h.2, h.3, record { before = h.4.before; after = h.4.after; until = let u : h.1.closer ≤ j = h.4.until in omega arith })

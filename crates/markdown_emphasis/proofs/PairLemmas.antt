@@ -21,6 +21,7 @@ abbrev pub AreOpeners : ℕ → List Pair → List Mark → Type 0
 AreOpeners place pairs [] = Unit {0}
 AreOpeners place pairs (o ∷ os) = (o.place < place) × All (IsClear o) pairs × AreOpeners o.place pairs os
 
+-- openers before a place are before a later one
 pub openers_later : (a b : ℕ) (pairs : List Pair) (os : List Mark) → a ≤ b → AreOpeners a pairs os → AreOpeners b pairs os
 openers_later a b pairs [] h are = tt
 openers_later a b pairs (o ∷ os) h are = (omega (arith, are.0), are.1, are.2)
@@ -30,6 +31,7 @@ openers_from : (t : Bool) (place : ℕ) (pairs : List Pair) (c : Run) (o : Mark)
 openers_from true place pairs c o os here after = here
 openers_from false place pairs c o os here after = after
 
+-- the openers from the nearest that fits on are before the place, too
 pub openers_nearest : (place : ℕ) (pairs : List Pair) (c : Run) (os : List Mark) → AreOpeners place pairs os → AreOpeners place pairs (nearest c os)
 openers_nearest place pairs c [] are = tt
 openers_nearest place pairs c (o ∷ os) are =
@@ -47,6 +49,7 @@ openers_more place pairs q (o ∷ os) h are =
 
 -- ---- what is kept
 
+-- what is known at a place: no pair goes over an opener, and the pairs are nested or apart
 pub record Kept (place bound : ℕ) (openers : List Mark) (pairs : List Pair) : Type 0 where
   pub before : AreOpeners place pairs openers
   pub are : ArePairs bound pairs
@@ -82,6 +85,7 @@ same_place : (found : List Mark) (c : Closing) → (pair_with found c).closer.pl
 same_place [] c = refl
 same_place (o ∷ os) c = refl
 
+-- it stays known after a pair
 pub kept_pair : (place : ℕ) (found : List Mark) (c : Closing) → AreOpeners c.closer.place c.pairs found → KeptAt place c → KeptAt place (pair_with found c)
 kept_pair place [] c are at = at
 kept_pair place (o ∷ os) c are at = record { same = at.same; kept = kept_found (o ∷ os) c are at.kept }
@@ -95,6 +99,7 @@ kept_once place c at =
     kept_if (ltb 0 c.closer.left) place (pair_with (nearest c.closer.run c.openers) c) c
     (kept_pair place (nearest c.closer.run c.openers) c (openers_nearest c.closer.place c.pairs c.closer.run c.openers at.kept.before) at) at
 
+-- it stays known after any number of tries
 pub kept_times : (n place : ℕ) (c : Closing) → KeptAt place c → KeptAt place (close_times n c)
 kept_times zero place c at = at
 kept_times (suc n) place c at = kept_times n place (close_once c) (kept_once place c at)
@@ -109,16 +114,19 @@ kept_open true place pairs o os same kept = record {
 }
 kept_open false place pairs o os same kept = record { before = openers_later place (suc place) pairs os (omega arith) kept.before; are = kept.are }
 
+-- pairs of runs before a place are so of runs before a later one
 pub later_pairs : (a b : ℕ) (pairs : List Pair) → a ≤ b → ArePairs a pairs → ArePairs b pairs
 later_pairs a b pairs h are = record {
   within = λ i d small. record { ordered = (are.within i d small).ordered; inside = let k : (get_or pairs i d).closer < a = (are.within i d small).inside in omega arith };
   nested = are.nested;
 }
 
+-- it is known at the next place, where the run may open
 pub kept_opened : (place : ℕ) (c : Closing) → KeptAt place c → Kept (suc place) (suc place) (opened c).openers (opened c).pairs
 kept_opened place c at =
     kept_open (c.closer.run.opens && ltb 0 c.closer.left) place c.pairs c.closer c.openers at.same (subst (λ (k : ℕ). Kept k (suc k) c.openers c.pairs) at.same at.kept)
 
+-- it is known after a run, if it was before
 pub kept_run : (place : ℕ) (m : Matching) (run : Run) → Kept place place m.openers m.pairs → Kept (suc place) (suc place) (after_run m place run).openers (after_run m place run).pairs
 kept_run place m run kept =
     let start : Closing = record { openers = m.openers; closer = record { place = place; run = run; left = run.count }; pairs = m.pairs } in
@@ -133,13 +141,16 @@ kept_all place m (run ∷ runs) kept =
     later_pairs (place + 1 + length runs) (place + suc (length runs)) (matches_from (after_run m place run) (place + 1) runs) (omega arith)
     (kept_all (place + 1) (after_run m place run) runs (subst (λ (k : ℕ). Kept k k (after_run m place run).openers (after_run m place run).pairs) next now))
 
+-- where there are no items, any two are as wanted
 pub no_pair : {X : Type 0} (R : X → X → Type 0) → AllPairs R []
 no_pair R = λ i j d h k. absurd (omega arith)
 
+-- the pairs of runs are nested or apart
 pub matches_nested : (runs : List Run) → ArePairs (length runs) (matches runs)
 matches_nested runs =
     later_pairs (0 + length runs) (length runs) (matches runs) (omega arith)
     (kept_all 0 no_runs runs (record { before = tt; are = record { within = All-nil (IsWithin 0); nested = no_pair AreApart } }))
 
+-- each pair is of two of the runs
 pub matches_within : (runs : List Run) → All (IsWithin (length runs)) (matches runs)
 matches_within runs = (matches_nested runs).within

@@ -51,6 +51,7 @@ ascending_less a b (x ∷ xs) (suc i) (suc j) are h k = ascending_less (x + 1) b
 places_ascend : (pieces : List (Option Run)) → AreAscending 0 (length pieces) (places_of pieces)
 places_ascend pieces = filter_ascends (is_run pieces) (length pieces) 0 (length pieces) (omega arith)
 
+-- there are as many runs as pieces that are runs
 pub same_count : (pieces : List (Option Run)) → length (runs_of pieces) ≡ length (places_of pieces)
 same_count pieces = length-map (places_of pieces) (run_of_piece pieces)
 
@@ -60,9 +61,11 @@ moved_within pieces p within = record {
   inside = ascending_high 0 (length pieces) (places_of pieces) p.closer (places_ascend pieces) within.inside;
 }
 
+-- the pairs of these runs are within them
 pub pairs_within : (pieces : List (Option Run)) → All (IsWithin (length (places_of pieces))) (matches (runs_of pieces))
 pairs_within pieces = subst (λ (n : ℕ). All (IsWithin n) (matches (runs_of pieces))) (same_count pieces) (matches_within (runs_of pieces))
 
+-- the pairs of pieces are within the pieces
 pub pairs_of-within : (pieces : List (Option Run)) → All (IsWithin (length pieces)) (pairs_of pieces)
 pairs_of-within pieces =
     All-map (IsWithin (length pieces)) (moved (places_of pieces)) (matches (runs_of pieces))
@@ -77,12 +80,15 @@ range_more n =
 filter_next : (p : ℕ → Bool) (n : ℕ) → filter p (range_with_len 0 (n + 1)) ≡ filter p (range_with_len 0 n) ++ cond (p n) (n ∷ []) []
 filter_next p n = ap (filter p) (range_more n) ∙ filter-append p (range_with_len 0 n) (n ∷ [])
 
+-- a next number that passes the test is put behind those that pass
 pub filter_yes : (p : ℕ → Bool) (n : ℕ) → p n ≡ true → filter p (range_with_len 0 (n + 1)) ≡ filter p (range_with_len 0 n) ++ n ∷ []
 filter_yes p n h = filter_next p n ∙ ap (λ b. filter p (range_with_len 0 n) ++ cond b (n ∷ []) []) h
 
+-- a next number that doesn't pass it changes nothing
 pub filter_no : (p : ℕ → Bool) (n : ℕ) → p n ≡ false → filter p (range_with_len 0 (n + 1)) ≡ filter p (range_with_len 0 n)
 filter_no p n h = filter_next p n ∙ ap (λ b. filter p (range_with_len 0 n) ++ cond b (n ∷ []) []) h ∙ append-nil _
 
+-- a next piece that is a run is put behind the runs
 pub map_yes : (pieces : List (Option Run)) (n : ℕ) (run : Run) → get_or pieces n None ≡ Some run
     → map (run_of_piece pieces) (filter (is_run pieces) (range_with_len 0 (n + 1))) ≡ map (run_of_piece pieces) (filter (is_run pieces) (range_with_len 0 n)) ++ run ∷ []
 map_yes pieces n run h =
@@ -90,6 +96,7 @@ map_yes pieces n run h =
     ∙ map-append (run_of_piece pieces) (filter (is_run pieces) (range_with_len 0 n)) (n ∷ [])
     ∙ ap (λ o. map (run_of_piece pieces) (filter (is_run pieces) (range_with_len 0 n)) ++ piece_run o ∷ []) h
 
+-- a next piece that is none changes nothing
 pub map_no : (pieces : List (Option Run)) (n : ℕ) → get_or pieces n None ≡ None
     → map (run_of_piece pieces) (filter (is_run pieces) (range_with_len 0 (n + 1))) ≡ map (run_of_piece pieces) (filter (is_run pieces) (range_with_len 0 n))
 map_no pieces n h = ap (map (run_of_piece pieces)) (filter_no (is_run pieces) n (ap is_some h))

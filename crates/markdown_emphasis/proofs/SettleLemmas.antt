@@ -384,5 +384,6 @@ settled_none = record {
   none_left = λ i j h small fit_is first second. absurd (omega arith);
 }
 
+-- no run gives more marks than it has, and nothing that matches is left
 pub matches_exhaust : (runs : List Run) → Exhaust runs (matches runs)
 matches_exhaust runs = settle_all runs [] no_runs 0 refl settled_none

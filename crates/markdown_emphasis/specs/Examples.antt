@@ -6,9 +6,11 @@ use Rattle.markdown_emphasis.specs.declared.runs.Run.{Run}
 use Rattle.markdown_emphasis.specs.declared.runs.Pair.{Pair}
 use Rattle.markdown_emphasis.specs.Matching.{matches}
 
+-- a run that opens and doesn't close
 abbrev pub opening : Sign → ℕ → Run
 opening sign count = record { sign = sign; count = count; opens = true; closes = false }
 
+-- a run that closes and doesn't open
 abbrev pub closing : Sign → ℕ → Run
 closing sign count = record { sign = sign; count = count; opens = false; closes = true }
 
@@ -16,9 +18,11 @@ closing sign count = record { sign = sign; count = count; opens = false; closes 
 abbrev pub inner : Sign → ℕ → Run
 inner sign count = record { sign = sign; count = count; opens = true; closes = true }
 
+-- a pair of these two runs, which takes so many marks of each
 abbrev pub pair : Sign → (opener closer count : ℕ) → Pair
 pair sign opener closer count = record { opener = opener; closer = closer; sign = sign; count = count }
 
+-- The definition gives what the rules of CommonMark and GFM say of their examples.
 pub record FollowsTheRules : Type 0 where
   -- rule 9: `*foo**bar*`
   pub threes : matches (opening Star 1 ∷ inner Star 2 ∷ closing Star 1 ∷ []) ≡ pair Star 0 2 1 ∷ []

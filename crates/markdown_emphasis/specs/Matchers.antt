@@ -14,6 +14,7 @@ matching_of m = record { openers = reverse m.openers.items; pairs = m.pairs.item
 abbrev pub closing_of : Matcher → Mark → Closing
 closing_of m closer = record { openers = reverse m.openers.items; closer = closer; pairs = m.pairs.items }
 
+-- no opener below a key's bottom fits its closers, and no bottom that the code keeps is above this place
 abbrev pub HasBottoms : ℕ → Matcher → Type 0
 HasBottoms place m = AreBottoms place m.bottoms (reverse m.openers.items)
 

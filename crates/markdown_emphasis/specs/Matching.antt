@@ -9,6 +9,7 @@ use Rattle.markdown_emphasis.specs.declared.runs.Pair.{Pair}
 
 -- ---- two runs
 
+-- both signs are the same
 abbrev pub is_same_sign : Sign → Sign → Bool
 is_same_sign Star Star = true
 is_same_sign Underscore Underscore = true
@@ -36,6 +37,7 @@ abbrev pub taken_by : Sign → ℕ → ℕ → ℕ
 taken_by Tilde opener closer = closer
 taken_by _ opener closer = if nat_le 2 opener && nat_le 2 closer then 2 else 1
 
+-- how many marks a pair takes of each of these two, by what is left of them
 abbrev pub taken : Mark → Mark → ℕ
 taken opener closer = taken_by closer.run.sign opener.left closer.left
 
@@ -94,6 +96,7 @@ abbrev pub opened : Closing → Matching
 opened c =
     record { openers = if c.closer.run.opens && nat_lt 0 c.closer.left then c.closer ∷ c.openers else c.openers; pairs = c.pairs }
 
+-- a run closes what it can, and then may open
 abbrev pub after_run : Matching → ℕ → Run → Matching
 after_run m place run =
     opened (close_run (record { openers = m.openers; closer = record { place = place; run = run; left = run.count }; pairs = m.pairs }))

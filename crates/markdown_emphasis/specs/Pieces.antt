@@ -14,16 +14,19 @@ abbrev pub piece_run : Option Run → Run
 piece_run (Some run) = run
 piece_run None = record { sign = Star; count = 0; opens = false; closes = false }
 
--- which pieces are runs
+-- the piece of this index is a run
 abbrev pub is_run : List (Option Run) → ℕ → Bool
 is_run pieces i = is_some (slice_index_or pieces i None)
 
+-- which pieces are runs, in order
 abbrev pub places_of : List (Option Run) → List ℕ
 places_of pieces = filter (is_run pieces) (range_with_len 0 (length pieces))
 
+-- the run that the piece of this index is, or one of no marks
 abbrev pub run_of_piece : List (Option Run) → ℕ → Run
 run_of_piece pieces i = piece_run (slice_index_or pieces i None)
 
+-- the runs that are among pieces, in order
 abbrev pub runs_of : List (Option Run) → List Run
 runs_of pieces = map (run_of_piece pieces) (places_of pieces)
 

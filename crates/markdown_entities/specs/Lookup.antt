@@ -5,13 +5,16 @@ use Rattle.markdown_entities.specs.declared.lookup.Named.{Named}
 use Rattle.markdown_entities.specs.Rows.{Row}
 use Rattle.markdown_entities.specs.Names.{names_with}
 
+-- the first letter of a name, 0 if it is empty
 abbrev pub first_letter : List ℕ → ℕ
 first_letter [] = 0
 first_letter (b ∷ bs) = b
 
+-- a second character; 0 says that there is none
 abbrev pub second_of : ℕ → Option ℕ
 second_of c = if c == 0 then None else Some c
 
+-- what the name of a row stands for
 abbrev pub said_by : Row → Named
 said_by r = record { first = r.first; second = second_of r.second }
 

@@ -19,6 +19,7 @@ ends_tag bytes = is_among raw_names (word bytes) && (first (after_word bytes) ==
 abbrev pub closes_raw : List ℕ → Bool
 closes_raw bytes = begins bytes (codes "</") && ends_tag (drop 2 bytes)
 
+-- such a closing tag is somewhere
 unfoldable pub has_raw_end : List ℕ → Bool
 has_raw_end [] = false
 has_raw_end (b ∷ bs) = closes_raw (b ∷ bs) || has_raw_end bs

@@ -15,6 +15,7 @@ same_letters [] (w ∷ ws) = false
 same_letters (n ∷ ns) [] = false
 same_letters (n ∷ ns) (w ∷ ws) = (n == to_ascii_lowercase w) && same_letters ns ws
 
+-- a word is one of these names, in letters of any case
 abbrev pub is_among : List (List ℕ) → List ℕ → Bool
 is_among names word = list_any (λ name. same_letters name word) names
 
@@ -34,10 +35,11 @@ block_names =
     codes "param" ∷ codes "search" ∷ codes "section" ∷ codes "summary" ∷ codes "table" ∷ codes "tbody" ∷ codes "td" ∷ codes "tfoot" ∷
     codes "th" ∷ codes "thead" ∷ codes "title" ∷ codes "tr" ∷ codes "track" ∷ codes "ul" ∷ []
 
--- the letters and digits in front, and what follows them
+-- the word that letters and digits in front are
 abbrev pub word : List ℕ → List ℕ
 word bytes = take (word_len bytes) bytes
 
+-- what follows the word in front
 abbrev pub after_word : List ℕ → List ℕ
 after_word bytes = drop (word_len bytes) bytes
 

@@ -8,6 +8,7 @@ use Rattle.markdown_html.specs.Names.{is_raw_tag, is_block_tag}
 use Rattle.markdown_html.specs.declared.starts.Ending.{Ending}
 use Rattle.markdown_html.specs.declared.starts.Ending.TheVariants.{RawTag, Comment, Instruction, Declaration, Cdata, BlankLine}
 
+-- the bytes begin with this prefix
 abbrev pub begins : List ℕ → List ℕ → Bool
 begins bytes prefix = starts_with nat_eq bytes prefix
 
@@ -15,6 +16,7 @@ begins bytes prefix = starts_with nat_eq bytes prefix
 abbrev pub without_slash : List ℕ → List ℕ
 without_slash bytes = if first bytes == 47 then drop 1 bytes else bytes
 
+-- html that begins here ends before a blank line
 abbrev pub blank_ending : Bool → Option Ending
 blank_ending begins_html = if begins_html then Some BlankLine else None
 

@@ -9,6 +9,7 @@ shown_skip zero f bs = refl
 shown_skip (suc skip) f [] = refl
 shown_skip (suc skip) f (b ∷ bs) = shown_skip skip f bs
 
+-- a step passes a byte with those that belong to it, and all shows the same
 pub shown_next : (rest after : List ℕ) (f next whole : Flow) (more : ℕ) → 1 ≤ length rest → after ≡ drop 1 rest → shown_from 0 f rest ≡ whole
     → next ≡ (step (get_or rest 0 0) after f).flow → more ≡ (step (get_or rest 0 0) after f).more → shown_from 0 next (drop more after) ≡ whole
 unfolding shown_from
@@ -17,6 +18,7 @@ shown_next (b ∷ bs) after f next whole more some is same flow m =
     sym (shown_skip more next after) ∙ ap (λ (n : ℕ). shown_from n next after) m ∙ ap (λ (g : Flow). shown_from (step b after f).more g after) flow
     ∙ ap (λ (l : List ℕ). shown_from (step b l f).more (step b l f).flow l) is ∙ same
 
+-- where no byte is left, all is shown
 pub shown_all : (rest : List ℕ) (f whole : Flow) → length rest < 1 → shown_from 0 f rest ≡ whole → f ≡ whole
 unfolding shown_from
 shown_all [] f whole none same = same

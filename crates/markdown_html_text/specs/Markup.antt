@@ -20,6 +20,7 @@ use Rattle.markdown_html_text.specs.declared.markup.Markup.{Markup}
 
 -- ---- what isn't a tag
 
+-- the rest that is found, or nothing where the text ends first
 abbrev pub or_end : Option (List ℕ) → List ℕ
 or_end None = []
 or_end (Some rest) = rest
@@ -39,9 +40,11 @@ other_end bytes =
 
 -- ---- tags
 
+-- the name that a tag begins with
 abbrev pub tag_name : List ℕ → List ℕ
 tag_name bytes = take (prefix_len is_name_byte bytes) bytes
 
+-- what follows the name of a tag
 abbrev pub after_name : List ℕ → List ℕ
 after_name bytes = drop (prefix_len is_name_byte bytes) bytes
 
@@ -53,6 +56,7 @@ ends_name b = is_space_byte b || (b == 47) || (b == 62)
 abbrev pub is_tag : List ℕ → Bool
 is_tag bytes = is_ascii_alphabetic (first bytes) && ends_name (first (after_name bytes))
 
+-- the place is in quotes
 abbrev pub is_quoted : Place → Bool
 is_quoted Single = true
 is_quoted Double = true
@@ -63,6 +67,7 @@ unfoldable pub after_tag : Place → List ℕ → List ℕ
 after_tag place [] = []
 after_tag place (b ∷ bs) = if (b == 62) && not (is_quoted place) then bs else after_tag (next_place place (spaced b)) bs
 
+-- the place at which a tag begins, by whether it closes
 abbrev pub place_of : List ℕ → Place
 place_of bytes = if first bytes == 47 then CloseName else Name
 
@@ -84,6 +89,7 @@ tag_end bytes =
 
 -- ---- what is shown
 
+-- the tag is that of a table's cell, below the head or in it
 abbrev pub is_cell : List ℕ → Bool
 is_cell bytes = is_tag_named (codes "td") bytes || is_tag_named (codes "th") bytes
 
@@ -91,6 +97,7 @@ is_cell bytes = is_tag_named (codes "td") bytes || is_tag_named (codes "th") byt
 abbrev pub is_cutting : List ℕ → Bool
 is_cutting bytes = is_among block_names (tag_name bytes) || is_tag_named (codes "pre") bytes
 
+-- what raw html does: nothing, a cut, or an image's alternative text
 abbrev pub effect_by : Html → Effect
 effect_by NothingShown = Nothing
 effect_by Break = Cut
@@ -102,12 +109,15 @@ effect_of tag = if is_cell (without_slash tag) then Gap else if is_cutting (with
 
 -- ---- markup
 
+-- markup that ends where these bytes are left
 abbrev pub markup_up_to : List ℕ → List ℕ → Effect → Markup
 markup_up_to bytes after effect = record { len = length bytes - length after; effect = effect }
 
+-- the markup that a tag is which ends where these bytes are left
 abbrev pub tag_by : List ℕ → List ℕ → Markup
 tag_by bytes after = markup_up_to bytes after (effect_of (take (length bytes - length after) bytes))
 
+-- the markup that isn't a tag, if it is found
 abbrev pub other_by : List ℕ → Option (List ℕ) → Option Markup
 other_by bytes None = None
 other_by bytes (Some after) = Some (markup_up_to bytes after Nothing)

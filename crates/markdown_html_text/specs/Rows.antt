@@ -16,6 +16,7 @@ pub record Flow : Type 0 where
   pub row : List ℕ
   pub gap : Bool
 
+-- before the text no row has begun
 abbrev pub nothing_shown : Flow
 nothing_shown = record { rows = []; row = []; gap = false }
 
@@ -23,9 +24,11 @@ nothing_shown = record { rows = []; row = []; gap = false }
 abbrev pub gapped : Flow → Flow
 gapped f = record f { gap = true }
 
+-- bytes that go on with the row, behind a space where blanks are between
 abbrev pub with_bytes : List ℕ → Flow → Flow
 with_bytes bytes f = record f { row = (f.row ++ gap_of (not (length f.row == 0)) f.gap) ++ bytes; gap = false }
 
+-- a text that goes on with the row; an empty one changes nothing
 abbrev pub with_text : List ℕ → Flow → Flow
 with_text text f = if length text == 0 then f else with_bytes text f
 
@@ -33,6 +36,7 @@ with_text text f = if length text == 0 then f else with_bytes text f
 abbrev pub with_row : List (List ℕ) → List ℕ → List (List ℕ)
 with_row rows row = if length row == 0 then rows else rows ++ utf8_lossy row ∷ []
 
+-- the row that has begun ends
 abbrev pub cut : Flow → Flow
 cut f = record { rows = with_row f.rows f.row; row = []; gap = false }
 
@@ -52,6 +56,7 @@ pub record Step : Type 0 where
 abbrev pub text_step : ℕ → List ℕ → Flow → Step
 text_step b bs f = record { flow = with_bytes (part_of false b bs).bytes f; more = (part_of false b bs).more }
 
+-- the markup that is found; else the sign < is text
 abbrev pub markup_step : Option Markup → ℕ → List ℕ → Flow → Step
 markup_step None b bs f = text_step b bs f
 markup_step (Some markup) b bs f = record { flow = affected markup.effect bs f; more = markup.len }

@@ -11,10 +11,12 @@ use Rattle.markdown_inlines.specs.Links.{links_in, link_count, over_of, stepped_
 abbrev pub no_piece : Piece
 no_piece = record { kind = Plain; more = 0 }
 
+-- the links from a piece on are its own and those behind it
 pub count_cons : (pieces : List Piece) (i : ℕ) (d : Piece) → i < length pieces → link_count (drop i pieces) ≡ links_in (get_or pieces i d).kind + link_count (drop (i + 1) pieces)
 unfolding link_count
 count_cons pieces i d h = ap link_count (drop_more pieces i d h)
 
+-- behind the last piece there is no link
 pub count_nil : (pieces : List Piece) → link_count (drop (length pieces) pieces) ≡ 0
 unfolding link_count
 count_nil [] = refl
@@ -27,6 +29,7 @@ count_drop pieces zero = omega arith
 count_drop [] (suc i) = omega arith
 count_drop (p ∷ ps) (suc i) = let less : link_count (drop i ps) ≤ link_count ps = count_drop ps i in omega (arith, less)
 
+-- behind the last piece no link is over anything
 pub overs_nil : (pieces : List Piece) (index number : ℕ) → overs_from index number (drop (length pieces) pieces) ≡ record { overs = []; ahead = [] }
 unfolding overs_from
 overs_nil [] index number = refl
@@ -36,6 +39,7 @@ overs_cons : (index number : ℕ) (p : Piece) (ps : List Piece) → overs_from i
 unfolding overs_from
 overs_cons index number p ps = refl
 
+-- a step back to the piece before adds what links have to do with it
 pub back_step : (pieces : List Piece) (i index number less : ℕ) (d : Piece) (o next : List Over) (a after : List Ahead) → index ≡ i + 1 → i < length pieces → number ≡ less + links_in (get_or pieces i d).kind
     → record { overs = o; ahead = a } ≡ overs_from index number (drop index pieces) → next ≡ over_of i less (get_or pieces i d).kind a ∷ o → after ≡ stepped_back i less (get_or pieces i d).kind a
     → record { overs = next; ahead = after } ≡ overs_from i less (drop i pieces)
@@ -48,6 +52,7 @@ back_step pieces i index number less d o next a after e h n held x y =
     ap (λ (l : List Over). record { overs = l; ahead = after }) x ∙ ap (λ (l : List Ahead). record { overs = over_of i less p.kind a ∷ o; ahead = l }) y
     ∙ ap (one_back i less p.kind) held ∙ sym (whole ∙ ap (one_back i less p.kind) same)
 
+-- what links have to do with a piece is said once of each
 pub overs_length : (index number : ℕ) (ps : List Piece) → length (overs_from index number ps).overs ≡ length ps
 unfolding overs_from
 overs_length index number [] = refl

@@ -31,9 +31,11 @@ taken_plain bs n inside plain k low high =
     let less : k < n = omega (arith, high, length-take n bs) in
     subst IsPlain (sym (get_or-take n bs k 0 less)) (plain k low less)
 
+-- a character begins where plain bytes end
 pub border : (bs : List ℕ) (n : ℕ) → IsUtf8 bs → n ≤ length bs → ArePlain bs 0 n → IsCharBoundary bs n
 border bs n utf8 inside plain = IsCharBoundary-from_take bs n utf8 inside (IsUtf8-from_ascii (take n bs) (all_ascii (take n bs) (taken_plain bs n inside plain)))
 
+-- plain bytes in front are shown as they are
 pub front_shown : (old new bs front rest : List ℕ) (n : ℕ) → IsUtf8 bs → n ≤ length bs → ArePlain bs 0 n → front ≡ take n bs → rest ≡ drop n bs → new ≡ old ++ front → IsShownUpTo old new bs rest
 front_shown old new bs front rest n utf8 inside plain f r is =
     let t : List ℕ = take n bs in
@@ -53,6 +55,7 @@ front_shown old new bs front rest n utf8 inside plain f r is =
       shown = ap (λ (l : List ℕ). l ++ map shown_char (chars rest)) (chars-IsAscii t ascii) ∙ ap (λ (l : List ℕ). t ++ map shown_char (chars l)) r ∙ sym mapped;
     }
 
+-- the character in front is shown, and what is behind it is left
 pub one_shown : (old new bs rest : List ℕ) (c : ℕ) → IsUtf8 bs → IsUtf8 (encode_utf8 (shown_char c)) → bs ≡ encode_utf8 c ++ rest → new ≡ old ++ encode_utf8 (shown_char c) → IsShownUpTo old new bs rest
 one_shown old new bs rest c utf8 one parts is =
     let e : List ℕ = encode_utf8 (shown_char c) in
@@ -66,6 +69,7 @@ one_shown old new bs rest c utf8 one parts is =
       shown = ap (λ (l : List ℕ). l ++ map shown_char (chars rest)) cs ∙ sym (ap (map shown_char) (chars_past_char bs rest c utf8 parts));
     }
 
+-- what is shown of one part and then of the next is shown of both
 pub both_shown : (old mid new text bs rest : List ℕ) → IsShownUpTo old mid text bs → IsShownUpTo mid new bs rest → IsShownUpTo old new text rest
 both_shown old mid new text bs rest a b = record {
   added = a.added ++ b.added;
@@ -83,6 +87,7 @@ pub record IsTextShown (added text : List ℕ) : Type 0 where
   pub is : chars added ≡ map shown_char (chars text)
   pub some : 0 < length text → 0 < length added
 
+-- where nothing is left, all of the text is shown
 pub all_of : (old new text : List ℕ) (s : IsShownUpTo old new text []) → IsTextShown s.added text
 all_of old new text s = record {
   is = sym (append-nil (chars s.added)) ∙ ap (λ (l : List ℕ). chars s.added ++ map shown_char l) (sym chars-nil) ∙ s.shown;
@@ -91,16 +96,19 @@ all_of old new text s = record {
 
 -- ---- one text more of a text of runs
 
+-- a text that looks as the last run does goes on in it
 pub shown_same : (rs : List TextRun) (old new text : List ℕ) (look : Look) → IsShownUpTo old new text [] → goes_on look rs ≡ true → AreRuns rs old → IsAdded rs rs old new (map (shown_with look) (map shown_char (chars text)))
 shown_same rs old new text look s on are =
     subst (λ (l : List ℕ). IsAdded rs rs old new (map (shown_with look) l)) (all_of old new text s).is (text_same rs old new s.added look s.utf8 s.bytes on are)
 
+-- a text that looks otherwise begins a run
 pub shown_other : (rs more : List TextRun) (old new text : List ℕ) (start : ℕ) (look : Look) → IsShownUpTo old new text [] → 0 < length text → start ≡ length old → more ≡ record { start = start; look = look } ∷ rs
     → goes_on look rs ≡ false → AreRuns rs old → IsAdded rs more old new (map (shown_with look) (map shown_char (chars text)))
 shown_other rs more old new text start look s some at m on are =
     let all = all_of old new text s in
     subst (λ (l : List ℕ). IsAdded rs more old new (map (shown_with look) l)) all.is (text_other rs more old new s.added start look s.utf8 (all.some some) s.bytes at m on are)
 
+-- an empty text adds nothing
 pub shown_none : (now : List Shown) (text : List ℕ) (look : Look) → length text ≡ 0 → now ≡ now ++ map (shown_with look) (map shown_char (chars text))
 shown_none now [] look e = sym (append-nil now) ∙ ap (λ (l : List ℕ). now ++ map (shown_with look) (map shown_char l)) (sym chars-nil)
 shown_none now (b ∷ bs) look e = absurd (omega (arith, e))

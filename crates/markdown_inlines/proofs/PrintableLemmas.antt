@@ -42,6 +42,7 @@ char_by : (blank : Bool) (c : ℕ) → (eqb c 9 || eqb c 10) ≡ blank → is_pr
 char_by true c e = refl
 char_by false c e = picture_by c (is_printable_char c) (nat_lt c 32) (eqb c 127) refl (second (eqb c 9) (eqb c 10) e) refl
 
+-- a character that is shown is printable
 pub shown_is : (c : ℕ) → is_printable (shown_char c) ≡ true
 shown_is c = char_by (eqb c 9 || eqb c 10) c refl
 
@@ -102,6 +103,7 @@ chars_with look (c ∷ cs) = ap (λ (l : List ℕ). c ∷ l) (chars_with look cs
 shown_append : (xs ys : List Shown) → are_shown xs ≡ true → are_shown ys ≡ true → are_shown (xs ++ ys) ≡ true
 shown_append xs ys h k = ap (list_all is_shown) (map-append char_of xs ys) ∙ list_all-append is_shown (map char_of xs) (map char_of ys) ∙ and_from (are_shown xs) (are_shown ys) h k
 
+-- what is shown of pieces is printable, but for breaks of lines
 pub from_shown : (text : List ℕ) (at : ℕ) (ps : List Piece) (fs : List Flags) (ns : List ℕ) (os : List Over) → are_shown (shown_from text at ps fs ns os) ≡ true
 unfolding shown_from
 from_shown text at [] fs ns os = refl

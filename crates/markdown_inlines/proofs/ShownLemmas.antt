@@ -21,6 +21,7 @@ shown_cons : (text : List ℕ) (at : ℕ) (p : Piece) (f : Flags) (n : ℕ) (o :
 unfolding shown_from
 shown_cons text at p f n o ps fs ns os = refl
 
+-- what is shown from a piece on is what it shows, and then what those behind it do
 pub shown_next : (text : List ℕ) (at i : ℕ) (ps : List Piece) (fs : List Flags) (ns : List ℕ) (os : List Over) (dp : Piece) (df : Flags) (dn : ℕ) (dv : Over) → i < length ps → i < length fs → i < length ns → i < length os
     → shown_from text at (drop i ps) (drop i fs) (drop i ns) (drop i os)
     ≡ shown_piece text at (get_or ps i dp) (get_or fs i df) (get_or ns i dn) (get_or os i dv) ++ shown_from text (at + ((get_or ps i dp).more + 1)) (drop (i + 1) ps) (drop (i + 1) fs) (drop (i + 1) ns) (drop (i + 1) os)
@@ -31,17 +32,21 @@ shown_next text at i ps fs ns os dp df dn dv hp hf hn ho =
     ∙ ap (λ (l : List Over). shown_from text at (get_or ps i dp ∷ drop (i + 1) ps) (get_or fs i df ∷ drop (i + 1) fs) (get_or ns i dn ∷ drop (i + 1) ns) l) (drop_more os i dv ho)
     ∙ shown_cons text at (get_or ps i dp) (get_or fs i df) (get_or ns i dn) (get_or os i dv) (drop (i + 1) ps) (drop (i + 1) fs) (drop (i + 1) ns) (drop (i + 1) os)
 
+-- what one part shows joins what is shown so far, and all stays the same
 pub shown_step : (now next part rest whole all : List Shown) → whole ≡ part ++ rest → next ≡ now ++ part → now ++ whole ≡ all → next ++ rest ≡ all
 shown_step now next part rest whole all w n h = ap (λ (l : List Shown). l ++ rest) n ∙ append_assoc now part rest ∙ ap (λ (l : List Shown). now ++ l) (sym w) ∙ h
 
+-- past the last piece all is shown
 pub shown_end : (text : List ℕ) (at i : ℕ) (ps : List Piece) (fs : List Flags) (ns : List ℕ) (os : List Over) (now all : List Shown) → length ps ≤ i → now ++ shown_from text at (drop i ps) fs ns os ≡ all → now ≡ all
 unfolding shown_from
 shown_end text at i ps fs ns os now all over h = sym (append-nil now) ∙ ap (λ (l : List Piece). now ++ shown_from text at l fs ns os) (sym (drop_all i ps over)) ∙ h
 
+-- the links from a piece on are its own, if it has one, and those behind it
 pub links_next : (at i : ℕ) (ps : List Piece) (d : Piece) → i < length ps → links_from at (drop i ps) ≡ with_link (link_target (get_or ps i d).kind at (get_or ps i d).more) (links_from (at + ((get_or ps i d).more + 1)) (drop (i + 1) ps))
 unfolding links_from
 links_next at i ps d h = ap (links_from at) (drop_more ps i d h)
 
+-- past the last piece all links are there
 pub links_end : (at i : ℕ) (ps : List Piece) (now all : List LinkTarget) → length ps ≤ i → now ++ links_from at (drop i ps) ≡ all → now ≡ all
 unfolding links_from
 links_end at i ps now all over h = sym (append-nil now) ∙ ap (λ (l : List Piece). now ++ links_from at l) (sym (drop_all i ps over)) ∙ h
@@ -55,6 +60,7 @@ cut_next text at i ps d h cut = subst (λ (l : List Piece). AreCut text at l) (d
 abbrev pub no_flags : Flags
 no_flags = record { bold = false; italic = false; strikeout = false }
 
+-- what an index reads of links where there is nothing
 abbrev pub no_over : Over
 no_over = record { link = None; opens = false }
 
@@ -67,5 +73,6 @@ shown_all text cut ps fs ns os p f n o =
     ∙ ap (λ (l : List ℕ). shown_from text 0 cut.pieces (flags_of (length cut.pieces) cut.pairs) l os) n
     ∙ ap (λ (l : List Over). shown_from text 0 cut.pieces (flags_of (length cut.pieces) cut.pairs) (left_of cut.pairs cut.pieces) l) o
 
+-- where each number is what is left of its piece, they are those of the definition
 pub left_is : (pairs : List Pair) (pieces : List Piece) (left : List ℕ) → length left ≡ length pieces → ((k : ℕ) → get_or left k 0 ≡ left_at pairs pieces k) → left ≡ left_of pairs pieces
 left_is pairs pieces left size at = fill_by_all (left_at pairs pieces) left (length pieces) 0 size (λ k h. at k)

@@ -52,6 +52,7 @@ same_look a b e =
 
 -- ---- a character alone
 
+-- what makes one text out of another is a text itself
 pub alone : (text new e : List ℕ) → IsUtf8 text → IsUtf8 new → new ≡ text ++ e → IsUtf8 e
 alone text new e f u is =
     let many : length new ≡ length text + length e = ap length is ∙ length-append text e in
@@ -68,10 +69,12 @@ some_bytes c = let len = len_utf8_bounds c in omega (arith, length-encode c, len
 
 -- ---- one more
 
+-- these runs spell one character more, and are runs of the longer text
 pub record IsPushed (rs more : List TextRun) (old new : List ℕ) (shown : Shown) : Type 0 where
   pub spells : spelled more new ≡ spelled rs old ++ shown ∷ []
   pub are : AreRuns more new
 
+-- a character that looks as the last run does goes on in it
 pub push_same : (rs : List TextRun) (old new : List ℕ) (c : ℕ) (look : Look) → IsUtf8 old → IsUtf8 new → new ≡ old ++ encode_utf8 c → goes_on look rs ≡ true → AreRuns rs old → IsPushed rs rs old new (shown_with look c)
 unfolding spelled
 push_same [] old new c look u v is on are = absurd (no on)
@@ -95,6 +98,7 @@ push_same (r ∷ rs) old new c look u v is on are =
       are = (omega (arith, are.0, many), subst IsUtf8 (sym dropped) (IsUtf8-append (drop r.start old) e are.1 w), are.2, subst (λ (l : List ℕ). AreRuns rs l) (sym taken) are.3);
     }
 
+-- a character that looks otherwise begins a run
 pub push_other : (rs more : List TextRun) (old new : List ℕ) (c start : ℕ) (look : Look) → IsUtf8 old → IsUtf8 new → new ≡ old ++ encode_utf8 c → start ≡ length old → more ≡ record { start = start; look = look } ∷ rs
     → goes_on look rs ≡ false → AreRuns rs old → IsPushed rs more old new (shown_with look c)
 unfolding spelled
@@ -113,10 +117,12 @@ push_other rs more old new c start look u v is s m on are =
 
 -- ---- a text more
 
+-- these runs spell some characters more, and are runs of the longer text
 pub record IsAdded (rs more : List TextRun) (old new : List ℕ) (shown : List Shown) : Type 0 where
   pub spells : spelled more new ≡ spelled rs old ++ shown
   pub are : AreRuns more new
 
+-- a text that looks as the last run does goes on in it
 pub text_same : (rs : List TextRun) (old new e : List ℕ) (look : Look) → IsUtf8 e → new ≡ old ++ e → goes_on look rs ≡ true → AreRuns rs old → IsAdded rs rs old new (map (shown_with look) (chars e))
 unfolding spelled
 text_same [] old new e look w is on are = absurd (no on)
@@ -139,6 +145,7 @@ text_same (r ∷ rs) old new e look w is on are =
       are = (omega (arith, are.0, many), subst IsUtf8 (sym dropped) (IsUtf8-append (drop r.start old) e are.1 w), are.2, subst (λ (l : List ℕ). AreRuns rs l) (sym taken) are.3);
     }
 
+-- a text that looks otherwise begins a run
 pub text_other : (rs more : List TextRun) (old new e : List ℕ) (start : ℕ) (look : Look) → IsUtf8 e → 0 < length e → new ≡ old ++ e → start ≡ length old → more ≡ record { start = start; look = look } ∷ rs
     → goes_on look rs ≡ false → AreRuns rs old → IsAdded rs more old new (map (shown_with look) (chars e))
 unfolding spelled
@@ -153,6 +160,7 @@ text_other rs more old new e start look w some is s m on are =
     let runs : AreRuns (r ∷ rs) new = (omega (arith, s, many, some), subst IsUtf8 (sym dropped) w, on, subst (λ (l : List ℕ). AreRuns rs l) (sym taken) are) in
     record { spells = ap (λ (l : List TextRun). spelled l new) m ∙ spells; are = subst (λ (l : List TextRun). AreRuns l new) (sym m) runs }
 
+-- without runs nothing is spelled
 pub nothing : (runs : List TextRun) (text : List ℕ) → runs ≡ [] → spelled (reverse runs) text ≡ []
 unfolding spelled
 nothing [] text e = refl
@@ -163,16 +171,19 @@ nothing (r ∷ rs) text e = absurd (no e)
 
 -- ---- many
 
+-- one more character is shown, and all stays the same
 pub more_chars : (look : Look) (f : ℕ → ℕ) (now next whole : List Shown) (cs rest : List ℕ) (c : ℕ) → cs ≡ c ∷ rest → next ≡ now ++ shown_with look (f c) ∷ [] → now ++ map (shown_with look) (map f cs) ≡ whole → next ++ map (shown_with look) (map f rest) ≡ whole
 more_chars look f now next whole cs rest c e n h =
     ap (λ (l : List Shown). l ++ map (shown_with look) (map f rest)) n ∙ append_assoc now (shown_with look (f c) ∷ []) (map (shown_with look) (map f rest))
     ∙ ap (λ (l : List ℕ). now ++ map (shown_with look) (map f l)) (sym e) ∙ h
 
+-- the same of one character that comes several times
 pub more_times : (look : Look) (now next whole : List Shown) (c left less : ℕ) → left ≡ suc less → next ≡ now ++ shown_with look c ∷ [] → now ++ map (shown_with look) (replicate left c) ≡ whole → next ++ map (shown_with look) (replicate less c) ≡ whole
 more_times look now next whole c left less e n h =
     ap (λ (l : List Shown). l ++ map (shown_with look) (replicate less c)) n ∙ append_assoc now (shown_with look c ∷ []) (map (shown_with look) (replicate less c))
     ∙ ap (λ k. now ++ map (shown_with look) (replicate k c)) (sym e) ∙ h
 
+-- where no character is left, all are shown
 pub all_chars : (look : Look) (f : ℕ → ℕ) (now whole : List Shown) (rest : List ℕ) → length rest ≡ 0 → now ++ map (shown_with look) (map f (chars rest)) ≡ whole → now ≡ whole
 all_chars look f now whole [] e h = sym (append-nil now) ∙ ap (λ (l : List ℕ). now ++ map (shown_with look) (map f l)) (sym chars-nil) ∙ h
 all_chars look f now whole (b ∷ bs) e h = absurd (omega (arith, e))

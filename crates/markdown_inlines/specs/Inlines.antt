@@ -20,6 +20,7 @@ use Rattle.markdown_inlines.specs.Printable.{is_shown}
 use Rattle.markdown_inlines.specs.Parts.{characters}
 use Rattle.markdown_inlines.specs.Styled.{Shown, shown_with}
 
+-- the piece is a code span
 abbrev pub is_code : Kind → Bool
 is_code (CodeKind code) = true
 is_code _ = false
@@ -28,6 +29,7 @@ is_code _ = false
 abbrev pub look_at : Flags → Piece → Over → Look
 look_at flags p over = look_of flags (is_code p.kind) over.link
 
+-- the characters of a piece, which all look the same
 abbrev pub shown_piece : List ℕ → ℕ → Piece → Flags → ℕ → Over → List Shown
 shown_piece text at p flags left over = map (shown_with (look_at flags p over)) (characters text at p left over.opens)
 
@@ -43,6 +45,7 @@ shown_from text at (p ∷ ps) (f ∷ fs) (n ∷ ns) (o ∷ os) = shown_piece tex
 abbrev pub left_of : List Pair → List Piece → List ℕ
 left_of pairs pieces = map (left_at pairs pieces) (range_with_len 0 (length pieces))
 
+-- what is shown of a text that was cut
 abbrev pub shown_cut : CutText → List ℕ → List Shown
 shown_cut cut text = shown_from text 0 cut.pieces (flags_of (length cut.pieces) cut.pairs) (left_of cut.pairs cut.pieces) (overs_of cut.pieces)
 
@@ -50,6 +53,7 @@ shown_cut cut text = shown_from text 0 cut.pieces (flags_of (length cut.pieces) 
 abbrev pub leaf_text : List (List ℕ) → List ℕ → List Shown
 leaf_text labels text = shown_cut (cut_text labels text) text
 
+-- the character, however it looks
 abbrev pub char_of : Shown → ℕ
 char_of s = s.char
 
@@ -59,6 +63,7 @@ are_shown shown = list_all is_shown (map char_of shown)
 
 -- ---- links
 
+-- a definition makes the link, or the bytes behind its closing bracket do
 abbrev pub target_from : Option ℕ → ℕ → ℕ → LinkTarget
 target_from None len after = Inline after len
 target_from (Some index) len after = Definition index
@@ -67,12 +72,14 @@ target_from (Some index) len after = Definition index
 abbrev pub target_by : Target → ℕ → LinkTarget
 target_by target after = target_from target.definition target.len after
 
+-- the link that ends with this piece, if one does; an image is none
 abbrev pub link_target : Kind → (at more : ℕ) → Option LinkTarget
 link_target (Closing (Some link)) at more = if link.image then None else Some (target_by link.target (at + 1))
 link_target (Address len scheme) at more = Some (AddressTarget scheme (at + 1) len)
 link_target (Bare scheme) at more = Some (AddressTarget scheme at (more + 1))
 link_target _ at more = None
 
+-- one more link, if there is one
 abbrev pub with_link : Option LinkTarget → List LinkTarget → List LinkTarget
 with_link None links = links
 with_link (Some link) links = link ∷ links
@@ -82,5 +89,6 @@ unfoldable pub links_from : ℕ → List Piece → List LinkTarget
 links_from at [] = []
 links_from at (p ∷ ps) = with_link (link_target p.kind at p.more) (links_from (at + (p.more + 1)) ps)
 
+-- the links of a leaf's text, in the order in which they end
 abbrev pub leaf_links : List (List ℕ) → List ℕ → List LinkTarget
 leaf_links labels text = links_from 0 (cut_text labels text).pieces

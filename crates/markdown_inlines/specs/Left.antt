@@ -6,10 +6,12 @@ use Rattle.markdown_pieces.specs.declared.pieces.Kind.{Kind}
 use Rattle.markdown_pieces.specs.declared.pieces.Kind.TheVariants.{Run as RunKind}
 use Rattle.markdown_pieces.specs.declared.pieces.Piece.{Piece}
 
+-- how many marks a run has; nothing else has any
 abbrev pub marks_of : Kind → ℕ
 marks_of (RunKind run) = run.count
 marks_of _ = 0
 
+-- how many marks a piece has
 abbrev pub piece_marks : Piece → ℕ
 piece_marks p = marks_of p.kind
 

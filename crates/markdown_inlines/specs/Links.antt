@@ -7,6 +7,7 @@ use Rattle.markdown_pieces.specs.declared.pieces.Piece.{Piece}
 use Rattle.markdown_inlines.specs.declared.links.Over.{Over}
 use Rattle.markdown_inlines.specs.declared.links.Ahead.{Ahead}
 
+-- a link ends with a piece of this kind
 abbrev pub is_link : Kind → Bool
 is_link (Closing (Some link)) = not link.image
 is_link (Address len scheme) = true
@@ -32,6 +33,7 @@ abbrev pub opens_at : ℕ → List Ahead → Bool
 opens_at index [] = false
 opens_at index (a ∷ others) = a.opener == index
 
+-- the piece is an opening bracket
 abbrev pub is_opening : Kind → Bool
 is_opening (Opening image) = true
 is_opening _ = false
@@ -42,10 +44,12 @@ own_link number (Address len scheme) = Some number
 own_link number (Bare scheme) = Some number
 own_link number _ = None
 
+-- the first link, if there is one, or else the second
 abbrev pub or_link : Option ℕ → Option ℕ → Option ℕ
 or_link None otherwise = otherwise
 or_link (Some number) otherwise = Some number
 
+-- the link that is over a piece, and whether a link or an image begins at it
 abbrev pub over_of : ℕ → ℕ → Kind → List Ahead → Over
 over_of index number kind ahead = record { link = or_link (nearest ahead) (own_link number kind); opens = is_opening kind && opens_at index ahead }
 
@@ -64,6 +68,7 @@ pub record Overs : Type 0 where
   pub overs : List Over
   pub ahead : List Ahead
 
+-- one more piece, which stands before those that were seen
 abbrev pub one_back : ℕ → ℕ → Kind → Overs → Overs
 one_back index number kind o = record { overs = over_of index number kind o.ahead ∷ o.overs; ahead = stepped_back index number kind o.ahead }
 
@@ -72,5 +77,6 @@ unfoldable pub overs_from : (index number : ℕ) → List Piece → Overs
 overs_from index number [] = record { overs = []; ahead = [] }
 overs_from index number (p ∷ ps) = one_back index number p.kind (overs_from (index + 1) (number + links_in p.kind) ps)
 
+-- what links have to do with each piece of a text
 abbrev pub overs_of : List Piece → List Over
 overs_of pieces = (overs_from 0 0 pieces).overs

@@ -14,6 +14,7 @@ use Rattle.markdown_pieces.specs.declared.pieces.Kind.TheVariants.{Plain, Shown,
 use Rattle.markdown_pieces.specs.declared.pieces.Piece.{Piece}
 use Rattle.markdown_inlines.specs.Printable.{shown_char}
 
+-- the character that each mark of a run is
 abbrev pub sign_char : Sign → ℕ
 sign_char Star = 42
 sign_char Underscore = 95
@@ -42,9 +43,11 @@ html_shown Nothing text at = []
 html_shown Break text at = 10 ∷ []
 html_shown (Alternative value) text at = shown_text (alternative_text (drop (at + 1) text) value)
 
+-- an opening bracket is shown where no link or image begins there
 abbrev pub opening_shown : (image opens : Bool) → List ℕ
 opening_shown image opens = if opens then [] else if image then 33 ∷ 91 ∷ [] else 91 ∷ []
 
+-- a closing bracket is shown where it closes none
 abbrev pub closing_shown : Option Link → List ℕ
 closing_shown None = 93 ∷ []
 closing_shown (Some link) = []
@@ -63,5 +66,6 @@ kind_characters (RunKind run) text at more left opens = replicate left (sign_cha
 kind_characters (Opening image) text at more left opens = opening_shown image opens
 kind_characters (Closing link) text at more left opens = closing_shown link
 
+-- the characters that are shown of a piece
 abbrev pub characters : List ℕ → ℕ → Piece → ℕ → Bool → List ℕ
 characters text at p left opens = kind_characters p.kind text at p.more left opens

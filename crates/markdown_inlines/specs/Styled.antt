@@ -11,6 +11,7 @@ pub record Shown : Type 0 where
   pub char : ℕ
   pub look : Look
 
+-- a character that looks so
 abbrev pub shown_with : Look → ℕ → Shown
 shown_with look c = record { char = c; look = look }
 
@@ -29,8 +30,10 @@ abbrev pub AreRuns : List TextRun → List ℕ → Type 0
 AreRuns [] text = length text ≡ 0
 AreRuns (r ∷ rs) text = (r.start < length text) × IsUtf8 (drop r.start text) × (goes_on r.look rs ≡ false) × AreRuns rs (take r.start text)
 
+-- what the runs of a text spell
 abbrev pub spelled_of : Styled → List Shown
 spelled_of styled = spelled (reverse styled.runs.items) (string_bytes styled.text)
 
+-- the runs are the whole text
 abbrev pub IsStyled : Styled → Type 0
 IsStyled styled = AreRuns (reverse styled.runs.items) (string_bytes styled.text)

@@ -45,6 +45,7 @@ closed_behind_as (Table columns) before g = ap (λ (ps : List PartContent). with
 closed_behind_as Rule before g = ap (λ (ps : List PartContent). with_parts (closed_as_it_is g) ps) (append_assoc before g.parts _)
 closed_behind_as Definitions before g = ap (λ (ps : List PartContent). with_parts (closed_as_it_is g) ps) (append_assoc before g.parts _)
 
+-- a leaf ends behind these parts as it does without them
 pub closed_behind : (before : List PartContent) (g : Gathering) → closed (behind before g) ≡ behind before (closed g)
 unfolding closed
 closed_behind before g = closed_behind_as g.kind before g
@@ -57,6 +58,7 @@ one_line : (before : List PartContent) (kind : Kind) (text : Remaining) (g : Gat
     → closed_as_it_is (begun kind text (behind before g)) ≡ behind before (closed_as_it_is (begun kind text g))
 one_line before kind text g = ap (λ (h : Gathering). closed_as_it_is (begun_in kind text h)) (closed_behind before g) ∙ single_behind before kind text (closed g)
 
+-- so does a line what it does to the leaves
 pub line_behind : (deed : Deed) (text : Remaining) (before : List PartContent) (g : Gathering) → line_done deed text (behind before g) ≡ behind before (line_done deed text g)
 unfolding line_done
 line_behind Blank text before g = ap blank_in (closed_behind before g)
@@ -76,11 +78,13 @@ entered_behind container before g = ap (λ (ps : List PartContent). with_parts (
 left_behind : (before : List PartContent) (g : Gathering) → left_in (behind before g) ≡ behind before (left_in g)
 left_behind before g = ap (λ (ps : List PartContent). with_parts g ps) (append_assoc before g.parts _)
 
+-- so does any event
 pub happened_behind : (event : Event) (before : List PartContent) (g : Gathering) → happened event (behind before g) ≡ behind before (happened event g)
 happened_behind leave before g = ap left_in (closed_behind before g) ∙ left_behind before (closed g)
 happened_behind (enter container) before g = ap (entered_in container) (closed_behind before g) ∙ entered_behind container before (closed g)
 happened_behind (line deed text) before g = ap (λ (h : Gathering). record h { fresh = false }) (line_behind deed text before g)
 
+-- so do events, one after the other
 pub told_behind : (events : List Event) (before : List PartContent) (g : Gathering) → told (behind before g) events ≡ behind before (told g events)
 unfolding told
 told_behind [] before g = refl

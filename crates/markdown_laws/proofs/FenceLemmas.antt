@@ -29,6 +29,7 @@ tick_or_tilde : (t p q : Bool) (found fence : Fence) → (if not t || p || q the
 tick_or_tilde true p q found fence e = refl
 tick_or_tilde false p q found fence e = let no : None ≡ Some fence = e in absurd (cc)
 
+-- a step in no container, which does this and leaves this leaf open
 abbrev pub made : Leaf → Deed → Remaining → Step
 made leaf deed text = record { state = state_with leaf 0; line = record { kept = 0; opened = 0; deed = deed; text = text } }
 
@@ -68,6 +69,7 @@ some_sign : (b : ℕ) (bs : List ℕ) (fence : Fence) → fence_start (b ∷ bs)
 unfolding fence_start
 some_sign b bs fence e = tick_or_tilde ((b == 96) || (b == 126)) _ _ _ fence e
 
+-- a line that begins code opens a fence
 pub begun_code : (indent sign length : ℕ) (line fence : List ℕ) → BeginsCode line indent sign length fence
     → (text : Remaining) × (text.bytes ≡ drop length fence) × (step (state_with NothingLeaf 0) line ≡ made (FencedLeaf sign length indent) (Begins (FencedLeaf sign length indent)) text)
 begun_code indent sign length line [] h = absurd (no_fence (record { sign = sign; length = length }) h.start)
@@ -77,11 +79,13 @@ begun_code indent sign length line (b ∷ bs) h =
 
 -- ---- lines of code, and the one that closes it
 
+-- a line that doesn't close the fence is one of its code
 pub stays : (indent sign length : ℕ) (line : List ℕ) → closes_fence sign length (whole line) ≡ false
     → step (state_with (FencedLeaf sign length indent) 0) line ≡ made (FencedLeaf sign length indent) GoesOn (take_columns indent (whole line))
 unfolding step line_step matched going_on
 stays indent sign length line e = rw e refl
 
+-- a line that closes the fence ends its code
 pub closes : (indent sign length : ℕ) (line : List ℕ) → closes_fence sign length (whole line) ≡ true
     → step (state_with (FencedLeaf sign length indent) 0) line ≡ made NothingLeaf Closes (whole line)
 unfolding step line_step matched going_on
@@ -89,32 +93,40 @@ closes indent sign length line e = rw e refl
 
 -- ---- what is told
 
+-- all parts that are told where the text ends behind these events
 abbrev pub ended : Gathering → List Event → List PartContent
 ended g events = (closed (told g events)).parts
 
+-- these parts are told, and no leaf is open
 abbrev pub nothing_open : List PartContent → Gathering
 nothing_open parts = record { parts = parts; kind = Nothing; apart = false; lines = []; passed = false; fresh = false }
 
+-- code between fences is open, which has these lines
 abbrev pub code_with : List Remaining → Gathering
 code_with lines = record { parts = []; kind = Fenced; apart = false; lines = lines; passed = false; fresh = false }
 
+-- code between fences that has these lines
 abbrev pub code_of : List Remaining → BlockContent
 code_of lines = record { kind = Fenced; apart = false; lines = lines }
 
+-- what lines tell is what the first does, and then what the others do
 pub line_read : (g after : Gathering) (leaf next : Leaf) (deed : Deed) (text : Remaining) (line : List ℕ) (lines : List (List ℕ))
     → step (state_with leaf 0) line ≡ made next deed text → record (line_done deed text g) { fresh = false } ≡ after
     → ended g (events_from (state_with leaf 0) (line ∷ lines)) ≡ ended after (events_from (state_with next 0) lines)
 unfolding events_from told
 line_read g after leaf next deed text line lines e d = rw e (ap (λ (a : Gathering). ended a (events_from (state_with next 0) lines)) d)
 
+-- code has as its first line what stands behind its fence
 pub begin_told : (sign length indent : ℕ) (text : Remaining) → record (line_done (Begins (FencedLeaf sign length indent)) text nothing_told) { fresh = false } ≡ code_with (trimmed text ∷ [])
 unfolding line_done closed
 begin_told sign length indent text = refl
 
+-- a line of code is put behind the others
 pub line_told : (text : Remaining) (lines : List Remaining) → record (line_done GoesOn text (code_with lines)) { fresh = false } ≡ code_with (lines ++ text ∷ [])
 unfolding line_done
 line_told text lines = refl
 
+-- the line that closes the fence tells the code
 pub end_told : (text : Remaining) (lines : List Remaining) → record (line_done Closes text (code_with lines)) { fresh = false } ≡ nothing_open (block (code_of lines) ∷ [])
 unfolding line_done closed
 end_told text lines = refl
@@ -123,9 +135,11 @@ end_told text lines = refl
 abbrev pub taken : ℕ → List ℕ → Remaining
 taken indent line = take_columns indent (whole line)
 
+-- this fence is open in no container
 abbrev pub open_fence : (sign length indent : ℕ) → State
 open_fence sign length indent = state_with (FencedLeaf sign length indent) 0
 
+-- what doesn't hold is false
 pub not_closing : (t : Bool) → not t ≡ true → t ≡ false
 not_closing true h = sym h
 not_closing false h = refl
@@ -165,6 +179,7 @@ begin_read : (sign length indent : ℕ) (first : List ℕ) (text : Remaining) (l
 begin_read sign length indent first text lines e =
     line_read nothing_told (code_with (trimmed text ∷ [])) NothingLeaf (FencedLeaf sign length indent) (Begins (FencedLeaf sign length indent)) text first lines e (begin_told sign length indent text)
 
+-- the parts of a text are all that its lines tell
 pub read_of : (text : List ℕ) → parts_of text ≡ ended nothing_told (events_from (state_with NothingLeaf 0) (text_lines text))
 unfolding parts_of events_of
 read_of text = refl
@@ -173,12 +188,14 @@ ends_open : (lines : List Remaining) (sign length indent : ℕ) → ended (code_
 unfolding events_from told closed
 ends_open lines sign length indent = refl
 
+-- what is told behind parts stands after them
 pub ended_behind : (before : List PartContent) (events : List Event) → ended (nothing_open before) events ≡ before ++ ended nothing_told events
 ended_behind before events =
     ap (λ (g : Gathering). (closed (told g events)).parts) (ap (λ (ps : List PartContent). nothing_open ps) (sym (append-nil before)))
     ∙ ap (λ (g : Gathering). (closed g).parts) (told_behind events before nothing_told)
     ∙ ap (λ (g : Gathering). g.parts) (closed_behind before (told nothing_told events))
 
+-- a fence that no line closes ends with the text
 pub with_text : FenceEndsWithItsText
 with_text text first fence lines indent sign length are h inside =
     let found = begun_code indent sign length first fence h in (
@@ -190,6 +207,7 @@ with_text text first fence lines indent sign length are h inside =
           ∙ ends_open (lines_of found.0 indent lines) sign length indent,
     )
 
+-- a fence ends at the first line that closes it
 pub at_its_end : FenceEndsAtItsEnd
 at_its_end text after first last fence lines indent sign length are h inside closing =
     let found = begun_code indent sign length first fence h in

@@ -109,12 +109,15 @@ words_on b bs h =
 
 -- ---- the step of a line
 
+-- this leaf is open in no container, and its last line has so many cells
 abbrev pub state_with : Leaf → ℕ → State
 state_with leaf cells = record { containers = []; leaf = leaf; defining = []; cells = cells }
 
+-- a step in no container, which does this with the whole line
 abbrev pub done : Leaf → ℕ → Deed → List ℕ → Step
 done leaf cells deed line = record { state = state_with leaf cells; line = record { kept = 0; opened = 0; deed = deed; text = whole line } }
 
+-- a line that begins with no special sign begins a paragraph where none is open
 pub begun : (b : ℕ) (bs : List ℕ) (cells : ℕ) → is_special b ≡ false → step (state_with Nothing cells) (b ∷ bs) ≡ done Paragraph (cell_count (b ∷ bs)) (Begins Paragraph) (b ∷ bs)
 unfolding step line_step begun_line matched opened going_on ends_in_item
 begun b bs cells h =
@@ -123,15 +126,18 @@ begun b bs cells h =
 not_as_many : (cells : ℕ) → (not (cells == 0) && (0 == cells)) ≡ false
 not_as_many cells = grind (arith, nat_tests)
 
+-- a line that begins with no special sign goes on with a paragraph that is open
 pub gone_on : (b : ℕ) (bs : List ℕ) (cells : ℕ) → is_special b ≡ false → step (state_with Paragraph cells) (b ∷ bs) ≡ done Paragraph (cell_count (b ∷ bs)) GoesOn (b ∷ bs)
 unfolding step line_step begun_line matched opened going_on ends_in_item
 gone_on b bs cells h =
     rw (no_container true b bs h) (rw (words_on b bs h) (rw (no_rule b bs h) (rw (no_delimiters b bs h) (rw (not_as_many cells) refl))))
 
+-- an empty line leaves nothing open where nothing was
 pub blank_outside : (cells : ℕ) → step (state_with Nothing cells) [] ≡ done Nothing 0 Blank []
 unfolding step line_step begun_line matched opened going_on ends_in_item container_start leaf_start columns_in_front take_columns one_column is_blank is_rule underline_level is_run_alone count_in_front
 blank_outside cells = refl
 
+-- an empty line ends a paragraph
 pub blank_inside : (cells : ℕ) → step (state_with Paragraph cells) [] ≡ done Nothing 0 Blank []
 unfolding step line_step begun_line matched opened going_on ends_in_item container_start leaf_start columns_in_front take_columns one_column is_blank is_rule underline_level is_run_alone count_in_front
 blank_inside cells = refl

@@ -160,6 +160,7 @@ line_and_text text line after deed said leaf are stepped told =
     ∙ ended_behind (block leaf ∷ []) (events_from (state_with NothingLeaf 0) (text_lines after))
     ∙ ap (λ (ps : List PartContent). block leaf ∷ ps) (sym (read_of after))
 
+-- a heading is its line, and what comes after is a text of its own
 pub heading : HeadingIsItsLine
 heading text [] after indent level h some = absurd (no_level level some)
 heading text (b ∷ bs) after indent level h some =
@@ -171,11 +172,13 @@ heading text (b ∷ bs) after indent level h some =
       line_and_text text (replicate indent 32 ++ b ∷ bs) after (HeadingDeed level) found.0 leaf h.lines found.2 (heading_told level found.0),
     )
 
+-- a thematic break is its line, and what comes after is a text of its own
 pub thematic_break : BreakIsItsLine
 thematic_break text [] after indent h rule = absurd (no_rule rule)
 thematic_break text (b ∷ bs) after indent h rule =
     let found = by_mark (b == 42) (b == 45) (b == 95) b indent bs refl refl refl h.few rule in
     (leaf_of Rule found.0, refl, line_and_text text (replicate indent 32 ++ b ∷ bs) after RuleDeed found.0 (leaf_of Rule found.0) h.lines found.1 (break_told found.0))
 
+-- texts that have the same lines have the same parts
 pub same_lines : LinesAreAll
 same_lines text other e = read_of text ∙ ap (λ (ls : List (List ℕ)). ended nothing_told (events_from (state_with NothingLeaf 0) ls)) e ∙ sym (read_of other)

@@ -160,6 +160,7 @@ reads ((c ∷ cs) ∷ lines) h =
           ∙ ap (behind parts) (sym (next_line apart ((b ∷ bs) ∷ before) (c ∷ cs) (groups lines))),
     )
 
+-- a plain text is paragraphs
 pub plain : PlainTextIsParagraphs
 unfolding parts_of events_of
 plain text h = (reads (text_lines text) h).0 [] false false 0

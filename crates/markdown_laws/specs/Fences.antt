@@ -25,6 +25,7 @@ text_of line = replicate line.pending 32 ++ line.bytes
 abbrev pub unindented : ℕ → List ℕ → List ℕ
 unindented columns line = text_of (take_columns columns (whole line))
 
+-- bytes without the blanks at both ends
 abbrev pub trimmed : List ℕ → List ℕ
 trimmed bytes = without_end 32 9 (without_blanks bytes)
 

@@ -23,10 +23,12 @@ abbrev pub is_plain : List ℕ → Bool
 is_plain [] = true
 is_plain (b ∷ bs) = not (is_special b)
 
+-- a line that has no byte
 abbrev pub is_empty : List ℕ → Bool
 is_empty [] = true
 is_empty (b ∷ bs) = false
 
+-- a paragraph that has these lines, behind an empty line or not
 abbrev pub paragraph : Bool → List (List ℕ) → PartContent
 paragraph apart lines = block (record { kind = Paragraph; apart = apart; lines = map whole lines })
 

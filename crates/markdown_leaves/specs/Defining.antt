@@ -13,6 +13,7 @@ unfoldable pub joined : List ℕ → List Remaining → List ℕ
 joined text [] = text
 joined text (line ∷ lines) = joined (add_line text line.bytes) lines
 
+-- the definition in front goes, and then others; without one the text stays
 abbrev pub defined_or : Option (List ℕ) → List ℕ → (List ℕ → List ℕ) → List ℕ
 defined_or None text others = text
 defined_or (Some rest) text others = others rest
@@ -26,6 +27,7 @@ after_definitions (suc count) text = defined_or (after_definition text) text (af
 abbrev pub lines_in : ℕ → List ℕ → ℕ
 lines_in most text = if (length text == 0) || (most == 0) then 0 else min (count_by (λ b. b == 10) text) (most - 1) + 1
 
+-- the first line begins with a bracket, as definitions do
 abbrev pub begins_with_bracket : List Remaining → Bool
 begins_with_bracket [] = false
 begins_with_bracket (line ∷ lines) = first line.bytes == 91

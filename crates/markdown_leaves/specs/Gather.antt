@@ -25,20 +25,25 @@ pub record Gathering : Type 0 where
   pub passed : Bool
   pub fresh : Bool
 
+-- what the code has gathered
 abbrev pub gathering_of : Gatherer → Gathering
 gathering_of g = record { parts = map part_of g.parts.items; kind = g.kind; apart = g.apart; lines = map remaining g.lines.items; passed = g.passed; fresh = g.fresh }
 
+-- before a text no leaf is open, and there are no parts
 abbrev pub nothing_told : Gathering
 nothing_told = record { parts = []; kind = Nothing; apart = false; lines = []; passed = false; fresh = false }
 
 -- ---- a leaf ends
 
+-- one more leaf is told
 abbrev pub add_block : Kind → Bool → List Remaining → List PartContent → List PartContent
 add_block kind apart lines parts = parts ++ block (record { kind = kind; apart = apart; lines = lines }) ∷ []
 
+-- one more leaf is told, if it has lines
 abbrev pub add_unless_empty : Kind → Bool → List Remaining → List PartContent → List PartContent
 add_unless_empty kind apart lines parts = if length lines == 0 then parts else add_block kind apart lines parts
 
+-- so many lines are told as definitions, and the others as a leaf of this kind
 abbrev pub words_from : ℕ → Kind → Bool → List Remaining → List PartContent → List PartContent
 words_from cut kind apart lines parts = add_unless_empty kind (apart && (cut == 0)) (drop cut lines) (add_unless_empty Definitions apart (take cut lines) parts)
 
@@ -46,9 +51,11 @@ words_from cut kind apart lines parts = add_unless_empty kind (apart && (cut == 
 abbrev pub add_words : Kind → Bool → List Remaining → List PartContent → List PartContent
 add_words kind apart lines parts = words_from (cut_lines lines) kind apart lines parts
 
+-- no leaf is open now
 abbrev pub emptied : Gathering → Gathering
 emptied g = record g { kind = Nothing; lines = [] }
 
+-- the open paragraph ends, and is told as this kind
 abbrev pub words_closed : Kind → Gathering → Gathering
 words_closed kind g = emptied (record g { parts = add_words kind g.apart g.lines g.parts })
 
@@ -57,6 +64,7 @@ unfoldable pub filled_from : (count filled : ℕ) → List Remaining → ℕ
 filled_from count filled [] = filled
 filled_from count filled (line ∷ lines) = filled_from (count + 1) (if is_blank line.bytes then filled else count + 1) lines
 
+-- indented code ends after so many lines; those behind them are blank
 abbrev pub indented_to : ℕ → Gathering → Gathering
 indented_to count g = emptied (record g { parts = add_block Indented g.apart (take count g.lines) g.parts; passed = nat_lt count (length g.lines) })
 
@@ -64,9 +72,11 @@ indented_to count g = emptied (record g { parts = add_block Indented g.apart (ta
 abbrev pub indented_closed : Gathering → Gathering
 indented_closed g = indented_to (filled_from 0 0 g.lines) g
 
+-- the open leaf is told with all its lines
 abbrev pub closed_as_it_is : Gathering → Gathering
 closed_as_it_is g = emptied (record g { parts = add_block g.kind g.apart g.lines g.parts })
 
+-- a leaf of this kind ends; of none nothing is told
 abbrev pub closed_as : Kind → Gathering → Gathering
 closed_as Nothing g = g
 closed_as Paragraph g = words_closed Paragraph g
@@ -79,6 +89,7 @@ closed g = closed_as g.kind g
 
 -- ---- a line
 
+-- how a leaf is told
 abbrev pub kind_of : Leaf → Kind
 kind_of ParagraphLeaf = Paragraph
 kind_of IndentedLeaf = Indented
@@ -99,6 +110,7 @@ abbrev pub first_text : Leaf → Remaining → Remaining
 first_text (FencedLeaf sign length indent) text = trimmed text
 first_text _ text = text
 
+-- a leaf begins with this line, where none is open
 abbrev pub begun_in : Kind → Remaining → Gathering → Gathering
 begun_in kind text g = record g { kind = kind; apart = g.passed; lines = text ∷ []; passed = false }
 
@@ -110,16 +122,19 @@ begun kind text g = begun_in kind text (closed g)
 abbrev pub single : Kind → Remaining → Gathering → Gathering
 single kind text g = closed_as_it_is (begun kind text g)
 
+-- A blank line passes. A line in which an item begins isn't blank.
 abbrev pub blank_in : Gathering → Gathering
 blank_in g = record g { passed = g.passed || not g.fresh }
 
--- A line in which an item begins isn't blank.
+-- A blank line ends the open leaf.
 abbrev pub blank : Gathering → Gathering
 blank g = blank_in (closed g)
 
+-- the open leaf goes on with this line
 abbrev pub gone_on : Remaining → Gathering → Gathering
 gone_on text g = record g { lines = g.lines ++ text ∷ [] }
 
+-- the lines before this place stay a paragraph, and a table begins with those from there on
 abbrev pub tabulated_at : ℕ → ℕ → Remaining → Gathering → Gathering
 tabulated_at at columns text g = record g {
   parts = add_words Paragraph g.apart (take at g.lines) g.parts;
@@ -146,6 +161,7 @@ line_done RuleDeed text g = single Rule text g
 
 -- ---- containers
 
+-- a container begins, where no leaf is open
 abbrev pub entered_in : Container → Gathering → Gathering
 entered_in container g = record g { parts = g.parts ++ begins container g.passed ∷ []; passed = false; fresh = g.fresh || is_item container }
 
@@ -153,6 +169,7 @@ entered_in container g = record g { parts = g.parts ++ begins container g.passed
 abbrev pub entered : Container → Gathering → Gathering
 entered container g = entered_in container (closed g)
 
+-- the last container ends, where no leaf is open
 abbrev pub left_in : Gathering → Gathering
 left_in g = record g { parts = g.parts ++ ends ∷ [] }
 

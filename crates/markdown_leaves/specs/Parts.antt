@@ -13,6 +13,7 @@ pub record BlockContent : Type 0 where
   pub apart : Bool
   pub lines : List Remaining
 
+-- what a leaf of the code says
 abbrev pub block_of : Block → BlockContent
 block_of leaf = record { kind = leaf.kind; apart = leaf.apart; lines = map remaining leaf.lines.items }
 
@@ -22,6 +23,7 @@ pub data PartContent : Type 0 where
   ends : PartContent
   block : BlockContent → PartContent
 
+-- what a part of the code says
 abbrev pub part_of : Part → PartContent
 part_of (Begins container apart) = begins container apart
 part_of Ends = ends

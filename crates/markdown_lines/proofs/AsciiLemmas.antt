@@ -51,6 +51,7 @@ ascii_from opened (c ∷ cs) h =
     ap (λ (k : Kind). stays (place_at opened) k && are_steady_from (next_place (place_at opened) k c) cs) (kind_by c (is_control c) refl (h 0))
     ∙ step opened t c cs (ascii_from t cs (λ i. h (suc i)))
 
+-- a run of ASCII is steady as it is
 pub ascii_run : (flags : Flags) (text : List ℕ) → IsUtf8 text → IsAscii text → record { flags = flags; text = text } ≡ steady_run (record { flags = flags; text = text })
 ascii_run flags text utf8 ascii =
     ap (λ (t : List ℕ). let r : Run = record { flags = flags; text = t } in r) (whole_stays text utf8 (ap are_steady (chars-IsAscii text ascii) ∙ ascii_from true text ascii))

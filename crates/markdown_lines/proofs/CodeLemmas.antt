@@ -17,6 +17,7 @@ expanded_next : (column c : ℕ) (cs : List ℕ) → expanded column (c ∷ cs) 
 unfolding expanded
 expanded_next column c cs = refl
 
+-- one more space is put, and one less is to come
 pub spaces_more : (done now : List ℕ) (more : ℕ) → 0 < more → now ≡ done ++ encode_utf8 32 → now ++ encode_utf8_all (spaces (more - 1)) ≡ done ++ encode_utf8_all (spaces more)
 spaces_more done now more some is =
     let e : more ≡ suc (more - 1) = omega arith in
@@ -25,10 +26,12 @@ spaces_more done now more some is =
     ∙ ap (λ (bs : List ℕ). done ++ bs) (sym (spaces_next (more - 1)))
     ∙ ap (λ (n : ℕ). done ++ encode_utf8_all (spaces n)) (sym e)
 
+-- where no space is to come, all are put
 pub spaces_done : (now : List ℕ) (more : ℕ) → more ≡ 0 → now ++ encode_utf8_all (spaces more) ≡ now
 unfolding spaces
 spaces_done now more e = ap (λ (n : ℕ). now ++ encode_utf8_all (spaces n)) e ∙ append-nil now
 
+-- one more character is put, and those behind it are to come
 pub expanded_more : (done shown rest more all : List ℕ) (c column next : ℕ) → IsUtf8 rest → rest ≡ encode_utf8 c ++ more → shown ≡ done ++ encode_utf8_all (expanded_char column c) → next ≡ next_column column c
     → done ++ encode_utf8_all (expanded column (chars rest)) ≡ all → shown ++ encode_utf8_all (expanded next (chars more)) ≡ all
 expanded_more done shown rest more all c column next utf8 parts is next_is h =
@@ -42,10 +45,12 @@ expanded_more done shown rest more all c column next utf8 parts is next_is h =
     ∙ ap (λ (cs : List ℕ). done ++ encode_utf8_all (expanded column cs)) (sym (chars_past_char rest more c utf8 parts))
     ∙ h
 
+-- where no character is to come, all are put
 pub expanded_all : (shown rest all : List ℕ) (column : ℕ) → length rest ≡ 0 → shown ++ encode_utf8_all (expanded column (chars rest)) ≡ all → shown ≡ all
 unfolding expanded
 expanded_all shown rest all column none h = sym (append-nil shown) ∙ sym (ap (λ (cs : List ℕ). shown ++ encode_utf8_all (expanded column cs)) (chars_of_empty rest none)) ∙ h
 
+-- the spaces up to the column, those of a tab, and the characters are the text of a line of code
 pub code_is : (zero_text one two three text : List ℕ) (column : ℕ) (line : Remaining) → zero_text ≡ [] → one ≡ zero_text ++ encode_utf8_all (spaces column) → two ≡ one ++ encode_utf8_all (spaces line.pending)
     → text ≡ utf8_lossy line.bytes → three ≡ two ++ encode_utf8_all (expanded line.pending (chars text)) → three ≡ code_text column line
 unfolding code_text

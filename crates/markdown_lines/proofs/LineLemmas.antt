@@ -22,6 +22,7 @@ use Rattle.markdown_lines.specs.declared.places.RunRange.{RunRange}
 test_more : (a m n : ℕ) → m ≤ n → nat_le a m ≡ true → nat_le a n ≡ true
 test_more a m n l e = grind (arith, nat_tests)
 
+-- ranges that are among some runs are among more
 pub ranges_more : (m n : ℕ) (ranges : List RunRange) → m ≤ n → list_all (is_within m) ranges ≡ true → list_all (is_within n) ranges ≡ true
 ranges_more m n [] l e = refl
 ranges_more m n (range ∷ ranges) l e =
@@ -34,6 +35,7 @@ line_more m n (Row cells) l e = ranges_more m n cells.items l e
 line_more m n (Rule alignments) l e = refl
 line_more m n HorizontalRule l e = refl
 
+-- the runs of lines that are among some are among more
 pub within_more : (m n : ℕ) (lines : List MarkdownLine) → m ≤ n → all_within m lines ≡ true → all_within n lines ≡ true
 unfolding all_within
 within_more m n [] l e = refl
@@ -46,6 +48,7 @@ range_same all more range e =
     let within : range.start + range.count ≤ length all = grind (arith, nat_tests) in
     ap (take range.count) (drop-append-le range.start all more (omega arith)) ∙ take-append-le range.count (drop range.start all) more (omega (arith, length-drop range.start all))
 
+-- cells say the same where more runs stand behind
 pub cells_same : (all more : List Run) (cells : List RunRange) → list_all (is_within (length all)) cells ≡ true → map (cell_said (all ++ more)) cells ≡ map (cell_said all) cells
 cells_same all more [] e = refl
 cells_same all more (cell ∷ cells) e =
@@ -59,6 +62,7 @@ line_same all more (Row cells) e = ap table_row (cells_same all more cells.items
 line_same all more (Rule alignments) e = refl
 line_same all more HorizontalRule e = refl
 
+-- so do lines
 pub lines_same : (all more : List Run) (lines : List MarkdownLine) → all_within (length all) lines ≡ true → lines_said (all ++ more) lines ≡ lines_said all lines
 unfolding all_within lines_said
 lines_same all more [] e = refl
@@ -68,10 +72,12 @@ lines_same all more (line ∷ lines) e =
 
 -- ---- a line more
 
+-- one more line says its own behind what the others say
 pub line_pushed : (all : List Run) (lines whole : List MarkdownLine) (line : MarkdownLine) → whole ≡ lines ++ line ∷ [] → lines_said all whole ≡ lines_said all lines ++ line_said all line ∷ []
 unfolding lines_said
 line_pushed all lines whole line e = ap (map (line_said all)) e ∙ map-append (line_said all) lines (line ∷ [])
 
+-- where one more line is put or isn't, the runs of each are among so many
 pub within_by : (b : Bool) (n : ℕ) (lines whole : List MarkdownLine) (line : MarkdownLine) → whole ≡ (if b then lines ++ line ∷ [] else lines) → all_within n lines ≡ true → line_within n line ≡ true → all_within n whole ≡ true
 unfolding all_within
 within_by true n lines whole line e held here =
@@ -80,9 +86,11 @@ within_by false n lines whole line e held here = ap (list_all (line_within n)) e
 
 -- ---- runs, and then a line of them
 
+-- a range that goes up to the last run is among the runs
 pub within_new : (start count len : ℕ) → count ≡ len - start → start ≤ len → nat_le (start + count) len ≡ true
 within_new start count len e l = let h : start + count ≤ len = omega arith in grind (arith, nat_tests)
 
+-- a range behind some runs, up to the last, has those that were added
 pub range_new : (all more whole : List Run) (start count : ℕ) → whole ≡ all ++ more → start ≡ length all → count ≡ length whole - start → take count (drop start whole) ≡ more
 range_new all more whole start count is s e =
     ap (λ (n : ℕ). take count (drop n whole)) s ∙ ap (λ (w : List Run). take count (drop (length all) w)) is ∙ ap (take count) (drop-append_seam all more)
@@ -97,6 +105,7 @@ row_pushed all more whole lines style start count now held is s e now_is =
     ∙ ap (λ (ls : List LineContent). ls ++ normal (record { style = style; runs = take count (drop start whole) }) ∷ []) (ap (λ (w : List Run). lines_said w lines) is ∙ lines_same all more lines held)
     ∙ ap (λ (rs : List Run). lines_said all lines ++ normal (record { style = style; runs = rs }) ∷ []) (range_new all more whole start count is s e)
 
+-- as many lines are said as there are
 pub count_lines : (all : List Run) (lines : List MarkdownLine) → length (lines_said all lines) ≡ length lines
 unfolding lines_said
 count_lines all lines = length-map lines (line_said all)
@@ -109,6 +118,7 @@ row_runs_of all (Row cells) = refl
 row_runs_of all (Rule alignments) = refl
 row_runs_of all HorizontalRule = refl
 
+-- one more row is put in its style, and those behind it are to come
 pub rows_more : (done now : List LineContent) (style others : CompositeStyle) (all : List Run) (line : MarkdownLine) (lines : List MarkdownLine) (range : RunRange) → range ≡ range_of line
     → now ≡ done ++ normal (record { style = style; runs = range_said all range }) ∷ []
     → now ++ restyled others others (lines_said all lines) ≡ done ++ restyled style others (lines_said all (line ∷ lines))
@@ -120,6 +130,7 @@ rows_more done now style others all line lines range is now_is =
     ∙ ap (λ (r : RunRange). done ++ normal (record { style = style; runs = range_said all r }) ∷ rest) is
     ∙ ap (λ (rs : List Run). done ++ normal (record { style = style; runs = rs }) ∷ rest) (row_runs_of all line)
 
+-- the row at an index is put so
 pub rows_next : (done now : List LineContent) (style others : CompositeStyle) (all : List Run) (lines : List MarkdownLine) (index : ℕ) (line : MarkdownLine) (range : RunRange) → index < length lines → line ≡ get_or lines index line
     → range ≡ range_of line → now ≡ done ++ normal (record { style = style; runs = range_said all range }) ∷ []
     → now ++ restyled others others (lines_said all (drop (index + 1) lines)) ≡ done ++ restyled style others (lines_said all (drop index lines))
@@ -128,6 +139,7 @@ rows_next done now style others all lines index line range within is range_is no
     ∙ ap (λ (l : MarkdownLine). done ++ restyled style others (lines_said all (l ∷ drop (index + 1) lines))) is
     ∙ ap (λ (ls : List MarkdownLine). done ++ restyled style others (lines_said all ls)) (sym (drop_more lines index line within))
 
+-- where no row is to come, all are put
 pub rows_done : (now : List LineContent) (style others : CompositeStyle) (all : List Run) (lines : List MarkdownLine) (index : ℕ) → length lines ≤ index → now ++ restyled style others (lines_said all (drop index lines)) ≡ now
 unfolding lines_said restyled
 rows_done now style others all lines index past = ap (λ (ls : List MarkdownLine). now ++ restyled style others (lines_said all ls)) (drop_all index lines past) ∙ append-nil now

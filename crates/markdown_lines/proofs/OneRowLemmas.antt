@@ -29,6 +29,7 @@ no_break bs none k =
     off true h = absurd (h refl)
     off false h = refl
 
+-- no flag is set
 abbrev pub bare_flags : RunFlags
 bare_flags = record { bold = false; italic = false; code = false; strikeout = false; link = false }
 
@@ -145,6 +146,7 @@ spelled_one r text h = ap (λ n. map (shown_with r.look) (chars (drop n text))) 
     start : (r : TextRun) (text : List ℕ) → AreRuns (r ∷ []) text → r.start ≡ 0
     start r text h = omega (arith, h.0, h.3, Rattle.std.proofs.lemmas.List.length-take r.start text)
 
+-- a run without marks, breaks, or spaces at its ends is one row as it is
 pub is_plain_row : (r : TextRun) (text : List ℕ) → IsUtf8 text → AreRuns (r ∷ []) text → IsUnmarked r.look → AreNoSpaces text → HasNoBreak text → rows_of (trimmed (map (glyph_of false) (spelled (r ∷ []) text))) ≡ plain_row text ∷ []
 is_plain_row r text utf8 runs bare ends unbroken =
     let back : encode_utf8_all (chars text) ≡ text = encodes-chars text utf8 in
@@ -156,6 +158,7 @@ only : (runs : List TextRun) (d : TextRun) → length runs ≡ 1 → runs ≡ ge
 only [] d e = absurd (omega (arith, e))
 only (r ∷ rs) d e = ap (λ (l : List TextRun). r ∷ l) (nil_from_length rs (omega (arith, e)))
 
+-- so is a text that is one such run
 pub is_plain_text : (runs : List TextRun) (d : TextRun) (text : List ℕ) → length runs ≡ 1 → IsUtf8 text → AreRuns (reverse runs) text → IsUnmarked (get_or runs 0 d).look → AreNoSpaces text → HasNoBreak text → rows_of (trimmed (map (glyph_of false) (spelled (reverse runs) text))) ≡ plain_row text ∷ []
 is_plain_text runs d text few utf8 are bare ends unbroken =
     let one : reverse runs ≡ get_or runs 0 d ∷ [] = ap (λ (l : List TextRun). reverse l) (only runs d few) in

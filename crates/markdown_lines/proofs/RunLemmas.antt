@@ -23,6 +23,7 @@ border_within n len b e = grind (arith, nat_tests)
 border_begins : (n len b : ℕ) → (nat_le n len && not (nat_le 128 b && nat_lt b 192)) ≡ true → 128 ≤ b → 192 ≤ b
 border_begins n len b e h = grind (arith, nat_tests)
 
+-- where the test says so, a character begins or the text ends
 pub border_means : (text : List ℕ) (at : ℕ) → is_border text at ≡ true → IsCharBoundary text at
 border_means text at e = (border_within at (length text) (get_or text at 0) e, λ within high. border_begins at (length text) (get_or text at 0) e high)
 
@@ -33,6 +34,7 @@ past_by : (text : List ℕ) (at : ℕ) (t : Bool) → nat_lt at (length text) �
 past_by text at true e h high = h.1 (grind (arith, nat_tests)) high
 past_by text at false e h high = let l : length text ≤ at = grind (arith, nat_tests) in absurd (omega (arith, get_or_past text at 0 l, high))
 
+-- where a character begins or the text ends, the test says so
 pub border_from : (text : List ℕ) (at : ℕ) → IsCharBoundary text at → is_border text at ≡ true
 border_from text at h = test_border at (length text) (get_or text at 0) h.0 (past_by text at (nat_lt at (length text)) refl h)
 
@@ -62,6 +64,7 @@ bordered_grows text more place utf8 e =
     let inner = and_parts (nat_le place.start place.end) (is_border text place.start) outer.0 in
     three _ _ _ inner.0 (border_grows text more place.start utf8 inner.1) (border_grows text more place.end utf8 outer.1)
 
+-- runs that begin and end between characters do so in a text that grows
 pub all_grow : (text more : List ℕ) (places : List RunPlace) → IsUtf8 more → are_bordered text places ≡ true → are_bordered (text ++ more) places ≡ true
 unfolding are_bordered
 all_grow text more [] utf8 e = refl
@@ -84,6 +87,7 @@ run_same text more place e =
     let order : place.start ≤ place.end = (let o = inner.0 in grind (arith, nat_tests)) in
     ap (λ (t : List ℕ). record { flags = flags_said place.flags; text = t }) (slice_same text more place.start place.end order (border_means text place.end outer.1).0)
 
+-- runs say the same in a text that grows
 pub runs_same : (text more : List ℕ) (places : List RunPlace) → are_bordered text places ≡ true → runs_said (text ++ more) places ≡ runs_said text places
 unfolding are_bordered runs_said
 runs_same text more [] e = refl
@@ -107,6 +111,7 @@ seam_slice text more start end s e =
     ap (λ (n : ℕ). take n (drop start (text ++ more))) len ∙ ap (λ (n : ℕ). take (length more) (drop n (text ++ more))) s
     ∙ ap (take (length more)) (drop-append_seam text more) ∙ take_all (length more) more (omega arith)
 
+-- one more run says the text that was put behind
 pub runs_pushed : (text more whole : List ℕ) (places all : List RunPlace) (flags : RunFlags) (start end : ℕ) → are_bordered text places ≡ true
     → whole ≡ text ++ more → all ≡ places ++ record { flags = flags; start = start; end = end } ∷ [] → start ≡ length text → end ≡ length whole
     → runs_said whole all ≡ runs_said text places ++ record { flags = flags_said flags; text = more } ∷ []
@@ -118,6 +123,7 @@ runs_pushed text more whole places all flags start end bordered whole_is all_is 
     ∙ ap (λ (rs : List Run). rs ++ run_said (text ++ more) place ∷ []) (runs_kept text more places bordered)
     ∙ ap (λ (t : List ℕ). map (run_said text) places ++ record { flags = flags_said flags; text = t } ∷ []) (seam_slice text more start end start_is (end_is ∙ ap length whole_is))
 
+-- with it each run begins and ends between characters
 pub bordered_pushed : (text more whole : List ℕ) (places all : List RunPlace) (flags : RunFlags) (start end : ℕ) → IsUtf8 more → are_bordered text places ≡ true
     → whole ≡ text ++ more → all ≡ places ++ record { flags = flags; start = start; end = end } ∷ [] → start ≡ length text → end ≡ length whole → are_bordered whole all ≡ true
 unfolding are_bordered
@@ -134,14 +140,17 @@ bordered_pushed text more whole places all flags start end utf8 bordered whole_i
 
 -- ---- the run of a number
 
+-- there are as many runs as places
 pub count_said : (text : List ℕ) (places : List RunPlace) → length (runs_said text places) ≡ length places
 unfolding runs_said
 count_said text places = length-map places (run_said text)
 
+-- the run of a number is the one that is at its place
 pub get_said : (text : List ℕ) (places : List RunPlace) (index : ℕ) (d : RunPlace) → index < length places → Some (run_said text (get_or places index d)) ≡ slice_get (runs_said text places) index
 unfolding runs_said
 get_said text places index d within = sym (slice_get-map (run_said text) places index ∙ ap (option_map (run_said text)) (slice_get-get_or places index d within))
 
+-- past the last place there is no run
 pub get_none : (text : List ℕ) (places : List RunPlace) (index : ℕ) → length places ≤ index → None ≡ slice_get (runs_said text places) index
 unfolding runs_said
 get_none text places index past = sym (slice_get_past (map (run_said text) places) index (omega (arith, length-map places (run_said text), past)))
@@ -150,29 +159,35 @@ by_test : (b all : Bool) → (b ≡ false → all ≡ false) → all ≡ true �
 by_test true all f e = refl
 by_test false all f e = sym (f refl) ∙ e
 
+-- of runs that begin and end between characters each does
 pub bordered_at : (text : List ℕ) (places : List RunPlace) (index : ℕ) (d : RunPlace) → index < length places → are_bordered text places ≡ true → is_bordered text (get_or places index d) ≡ true
 unfolding are_bordered
 bordered_at text places index d within e = by_test (is_bordered text (get_or places index d)) (list_all (is_bordered text) places) (λ f. list_all_at (is_bordered text) places index d within f) e
 
+-- such a run doesn't end before it begins
 pub order_of : (text : List ℕ) (place : RunPlace) → is_bordered text place ≡ true → place.start ≤ place.end
 order_of text place e =
     let outer = and_parts (nat_le place.start place.end && is_border text place.start) (is_border text place.end) e in
     let o = (and_parts (nat_le place.start place.end) (is_border text place.start) outer.0).0 in grind (arith, nat_tests)
 
+-- a character begins where it begins
 pub first_of : (text : List ℕ) (place : RunPlace) → is_bordered text place ≡ true → IsCharBoundary text place.start
 first_of text place e =
     let outer = and_parts (nat_le place.start place.end && is_border text place.start) (is_border text place.end) e in
     border_means text place.start (and_parts (nat_le place.start place.end) (is_border text place.start) outer.0).1
 
+-- a character ends where it ends
 pub last_of : (text : List ℕ) (place : RunPlace) → is_bordered text place ≡ true → IsCharBoundary text place.end
 last_of text place e = border_means text place.end (and_parts (nat_le place.start place.end && is_border text place.start) (is_border text place.end) e).1
 
 -- ---- as the code reads and writes them
 
+-- a place that was read is such a run's
 pub bordered_read : (text whole : List ℕ) (places : List RunPlace) (index : ℕ) (place : RunPlace) → index < length places → place ≡ get_or places index place → are_bordered text places ≡ true → whole ≡ text → is_bordered whole place ≡ true
 bordered_read text whole places index place within is e same =
     ap (λ (t : List ℕ). is_bordered t place) same ∙ ap (is_bordered text) is ∙ bordered_at text places index place within e
 
+-- whether one more run is put or not, each begins and ends between characters
 pub bordered_by : (b : Bool) (text more whole : List ℕ) (places all : List RunPlace) (flags : RunFlags) (start end : ℕ) → IsUtf8 more → are_bordered text places ≡ true
     → whole ≡ text ++ more → all ≡ (if b then places ++ record { flags = flags; start = start; end = end } ∷ [] else places) → start ≡ length text → end ≡ length whole → are_bordered whole all ≡ true
 bordered_by true text more whole places all flags start end utf8 e whole_is all_is start_is end_is = bordered_pushed text more whole places all flags start end utf8 e whole_is all_is start_is end_is

@@ -54,6 +54,7 @@ line_steady all (Row cells) = ap table_row (cells_steady all cells.items)
 line_steady all (Rule alignments) = refl
 line_steady all HorizontalRule = refl
 
+-- lines of steady runs are the lines made steady
 pub lines_steady : (all made : List Run) (lines : List MarkdownLine) → made ≡ map steady_run all → lines_said made lines ≡ steady_lines (lines_said all lines)
 unfolding lines_said steady_lines
 lines_steady all made [] e = refl
@@ -64,11 +65,13 @@ lines_steady all made (line ∷ lines) e =
 
 -- ---- a run more
 
+-- one more run is made steady, and those behind it are to come
 pub run_more : (all made now : List Run) (index : ℕ) (run : Run) → slice_get all index ≡ Some run → now ≡ made ++ steady_run run ∷ [] → now ++ map steady_run (drop (index + 1) all) ≡ made ++ map steady_run (drop index all)
 run_more all made now index run got is =
     let rest : List Run = map steady_run (drop (index + 1) all) in
     ap (λ (rs : List Run). rs ++ rest) is ∙ append_assoc made (steady_run run ∷ []) rest ∙ ap (λ (rs : List Run). made ++ map steady_run rs) (sym (drop_got all index run got))
 
+-- where no run is to come, all are made steady
 pub run_none : (all made : List Run) (index : ℕ) → slice_get all index ≡ None → made ++ map steady_run (drop index all) ≡ made
 run_none all made index none = ap (λ (rs : List Run). made ++ map steady_run rs) (drop_all index all (none_past all index none)) ∙ append-nil made
 
@@ -77,9 +80,11 @@ run_none all made index none = ap (λ (rs : List Run). made ++ map steady_run rs
 abbrev IsUtf8Run : Run → Type 0
 IsUtf8Run run = IsUtf8 run.text
 
+-- each of these runs is a text
 abbrev pub AreTexts : List Run → Type 0
 AreTexts runs = AllByRecursion IsUtf8Run runs
 
+-- runs that begin and end between characters are texts
 pub said_texts : (text : List ℕ) (places : List RunPlace) → IsUtf8 text → are_bordered text places ≡ true → AreTexts (runs_said text places)
 unfolding runs_said are_bordered
 said_texts text [] utf8 e = tt
@@ -116,6 +121,7 @@ line_is all (Row cells) h = cells_are all cells.items h
 line_is all (Rule alignments) h = tt
 line_is all HorizontalRule h = tt
 
+-- lines that are made steady are steady
 pub lines_are : (all : List Run) (lines : List MarkdownLine) → AreTexts all → AreSteadyLines (steady_lines (lines_said all lines))
 unfolding lines_said steady_lines AreSteadyLines
 lines_are all [] h = tt
@@ -171,6 +177,7 @@ line_printed all (Row cells) u h = cells_printed all cells.items u h
 line_printed all (Rule alignments) u h = tt
 line_printed all HorizontalRule u h = tt
 
+-- where no character of lines is obeyed, none is when they are made steady
 pub lines_printed : (all : List Run) (lines : List MarkdownLine) → AreTexts all → ArePrinted (lines_said all lines) → ArePrinted (steady_lines (lines_said all lines))
 unfolding lines_said steady_lines ArePrinted
 lines_printed all [] u h = tt

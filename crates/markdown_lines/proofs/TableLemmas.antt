@@ -21,6 +21,7 @@ alignments_suc : (more : ℕ) (row : List ℕ) → alignments (suc more) row ≡
 unfolding alignments
 alignments_suc more row = refl
 
+-- the alignment of one more column is put, and those behind it are to come
 pub alignments_next : (done now : List Alignment) (x : Alignment) (cell row next : List ℕ) (more : ℕ) → 0 < more → now ≡ done ++ x ∷ [] → x ≡ alignment_of cell → cell ≡ cell_of row → next ≡ after_cell row
     → now ++ alignments (more - 1) next ≡ done ++ alignments more row
 alignments_next done now x cell row next more some now_is x_is cell_is next_is =
@@ -32,6 +33,7 @@ alignments_next done now x cell row next more some now_is x_is cell_is next_is =
     ∙ ap (λ (rs : List Alignment). done ++ rs) (sym (alignments_suc (more - 1) row))
     ∙ ap (λ (n : ℕ). done ++ alignments n row) (sym e)
 
+-- where no column is to come, all are put
 pub alignments_done : (now : List Alignment) (row : List ℕ) (more : ℕ) → more ≡ 0 → now ++ alignments more row ≡ now
 unfolding alignments
 alignments_done now row more e = ap (λ (n : ℕ). now ++ alignments n row) e ∙ append-nil now
@@ -63,6 +65,7 @@ cells_next labels bold all added whole ranges now range row next more some held 
     ∙ ap (λ (cs : List StyledRuns). map (cell_said all) ranges ++ cs) (sym (cells_suc labels bold (more - 1) row))
     ∙ ap (λ (n : ℕ). map (cell_said all) ranges ++ cells labels bold n row) (sym e)
 
+-- with the range of one more cell each is among the runs
 pub ranges_next : (all added whole : List Run) (ranges now : List RunRange) (range : RunRange) → list_all (is_within (length all)) ranges ≡ true
     → whole ≡ all ++ added → range ≡ record { start = length all; count = length added } → now ≡ ranges ++ range ∷ [] → list_all (is_within (length whole)) now ≡ true
 ranges_next all added whole ranges now range held whole_is range_is now_is =
@@ -72,10 +75,12 @@ ranges_next all added whole ranges now range held whole_is range_is now_is =
     ap (list_all (is_within (length whole))) now_is ∙ list_all-append (is_within (length whole)) ranges (range ∷ [])
     ∙ ap (λ (b : Bool). b && (is_within (length whole) range && true)) before ∙ ap (λ (b : Bool). true && (b && true)) here
 
+-- the lines before say the same where runs were added
 pub lines_kept : (all added whole : List Run) (lines now : List MarkdownLine) → all_within (length all) lines ≡ true → whole ≡ all ++ added → now ≡ lines → lines_said whole now ≡ lines_said all lines
 lines_kept all added whole lines now held whole_is now_is =
     ap (λ (ls : List MarkdownLine). lines_said whole ls) now_is ∙ ap (λ (w : List Run). lines_said w lines) whole_is ∙ lines_same all added lines held
 
+-- where no cell is to come, the row is put
 pub row_done : (labels : List (List ℕ)) (bold : Bool) (before now old : List LineContent) (made all : List StyledRuns) (row : List ℕ) (more : ℕ) → more ≡ 0 → now ≡ before ++ table_row made ∷ [] → before ≡ old → made ++ cells labels bold more row ≡ all
     → now ≡ old ++ table_row all ∷ []
 unfolding cells

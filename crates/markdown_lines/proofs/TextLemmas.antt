@@ -12,6 +12,7 @@ lines_suc : (all : List Run) (line : MarkdownLine) (lines : List MarkdownLine) �
 unfolding lines_said
 lines_suc all line lines = refl
 
+-- one more line is made, and those behind it are to come
 pub made_next : (all : List Run) (made now : List Line) (lines : List MarkdownLine) (index : ℕ) (line : MarkdownLine) (new : Line) → index < length lines → line ≡ get_or lines index line → content_of new ≡ line_said all line → now ≡ made ++ new ∷ []
     → map content_of now ++ lines_said all (drop (index + 1) lines) ≡ map content_of made ++ lines_said all (drop index lines)
 made_next all made now lines index line new within is said now_is =
@@ -23,9 +24,11 @@ made_next all made now lines index line new within is said now_is =
     ∙ ap (λ (cs : List LineContent). map content_of made ++ cs) (sym (lines_suc all (get_or lines index line) (drop (index + 1) lines)))
     ∙ ap (λ (ls : List MarkdownLine). map content_of made ++ lines_said all ls) (sym (drop_more lines index line within))
 
+-- where no line is to come, all are made
 pub made_done : (all : List Run) (made : List Line) (lines : List MarkdownLine) (index : ℕ) → length lines ≤ index → map content_of made ++ lines_said all (drop index lines) ≡ map content_of made
 unfolding lines_said
 made_done all made lines index past = ap (λ (ls : List MarkdownLine). map content_of made ++ lines_said all ls) (drop_all index lines past) ∙ append-nil (map content_of made)
 
+-- one more compound is one more run
 pub run_pushed : (compounds now : List Compound) (run : Compound) → now ≡ compounds ++ run ∷ [] → map run_of now ≡ map run_of compounds ++ run_of run ∷ []
 run_pushed compounds now run e = ap (map run_of) e ∙ map-append run_of compounds (run ∷ [])

@@ -21,10 +21,12 @@ leaf_glyphs labels bold text = map (glyph_of bold) (leaf_text labels text)
 abbrev pub is_edge : Glyph → Bool
 is_edge g = (g.c == 10) || ((g.c == 32) && not g.flags.code)
 
+-- without the breaks and spaces that are in front
 unfoldable pub without_front : List Glyph → List Glyph
 without_front [] = []
 without_front (g ∷ gs) = if is_edge g then without_front gs else g ∷ gs
 
+-- without the breaks and spaces that are at the end
 unfoldable pub without_back : List Glyph → List Glyph
 without_back gs = take (length gs - suffix_len is_edge gs) gs
 
@@ -32,6 +34,7 @@ without_back gs = take (length gs - suffix_len is_edge gs) gs
 abbrev pub trimmed : List Glyph → List Glyph
 trimmed gs = without_back (without_front gs)
 
+-- a space that has no flag, but is bold where all are
 abbrev pub space : Bool → Glyph
 space bold = record { c = 32; flags = record { bold = bold; italic = false; code = false; strikeout = false; link = false } }
 
@@ -42,9 +45,11 @@ spaced_from bold shown row (g ∷ gs) = if g.c == 10 then spaced_from bold ((sho
 
 -- ---- characters as runs
 
+-- both have the same flags
 abbrev pub is_same_flags : RunFlags → RunFlags → Bool
 is_same_flags a b = is_same a.bold b.bold && is_same a.italic b.italic && is_same a.code b.code && is_same a.strikeout b.strikeout && is_same a.link b.link
 
+-- a run that has these flags and this text
 abbrev pub run_with : RunFlags → List ℕ → Run
 run_with flags text = record { flags = flags_said flags; text = text }
 

@@ -25,6 +25,7 @@ unfoldable pub rows_from : List Glyph → List Glyph → List LineContent
 rows_from row [] = row_of row ∷ []
 rows_from row (g ∷ gs) = if g.c == 10 then row_of row ∷ rows_from [] gs else rows_from (row ++ g ∷ []) gs
 
+-- the rows that breaks cut characters into; without characters there is none
 abbrev pub rows_of : List Glyph → List LineContent
 rows_of gs = if length gs == 0 then [] else rows_from [] gs
 

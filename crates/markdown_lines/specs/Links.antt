@@ -21,6 +21,7 @@ pub record LinkSaid : Type 0 where
 abbrev pub definition_address : List ℕ → List ℕ
 definition_address text = shown_text (text_of (defined_destination text))
 
+-- the address that is found, or an empty one
 abbrev pub address_or_none : Option (List ℕ) → List ℕ
 address_or_none None = []
 address_or_none (Some address) = address
@@ -44,6 +45,7 @@ address_of addresses text link = address_in (address_by addresses link) (link_le
 abbrev pub leaf_addresses : Defined → List ℕ → List (List ℕ)
 leaf_addresses defined text = map (address_of defined.addresses text) (leaf_links defined.labels text)
 
+-- a link that is in this line and leads to this address
 abbrev pub link_at : ℕ → List ℕ → LinkSaid
 link_at line address = record { line = line; address = address }
 

@@ -5,6 +5,7 @@ use Rattle.mad_md.specs.Flagged.{Flags, Run}
 use Rattle.markdown_lines.specs.declared.places.RunFlags.{RunFlags}
 use Rattle.markdown_lines.specs.declared.places.RunPlace.{RunPlace}
 
+-- the flags that a run has
 abbrev pub flags_said : RunFlags → Flags
 flags_said flags = record { bold = flags.bold; italic = flags.italic; code = flags.code; strikeout = flags.strikeout; link = flags.link }
 

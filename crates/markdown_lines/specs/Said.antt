@@ -5,6 +5,7 @@ use Rattle.markdown_lines.specs.Runs.{runs_said}
 use Rattle.markdown_lines.specs.declared.places.RunRange.{RunRange}
 use Rattle.markdown_lines.specs.declared.runs.Runs.{Runs}
 
+-- what all runs of a text say, in order
 abbrev pub said : Runs → List Run
 said runs = runs_said (string_bytes runs.text) runs.places.items
 

@@ -12,6 +12,7 @@ use Rattle.mad_md.specs.declared.composite.CompositeStyle.TheVariants.{Paragraph
 use Rattle.markdown_lines.specs.Leaf.{cell_runs}
 use Rattle.markdown_lines.specs.Links.{Defined, LinkSaid, leaf_addresses, links_at}
 
+-- a row without the bar that is in front
 abbrev pub without_bar : List ℕ → List ℕ
 without_bar row = if first row == 124 then drop 1 row else row
 
@@ -24,16 +25,19 @@ unfoldable pub cell_len : Bool → List ℕ → ℕ
 cell_len escaped [] = 0
 cell_len escaped (b ∷ bs) = if (b == 124) && not escaped then 0 else 1 + cell_len (b == 92) bs
 
--- the first cell, without blanks at its ends, and the row after it
+-- the first cell, without blanks at its ends
 abbrev pub cell_of : List ℕ → List ℕ
 cell_of row = without_end 32 9 (without_blanks (take (cell_len false row) row))
 
+-- the row behind its first cell and the bar that ends it
 abbrev pub after_cell : List ℕ → List ℕ
 after_cell row = drop 1 (drop (cell_len false row) row)
 
+-- a backslash that waits joins the text
 abbrev pub with_waiting : List ℕ → Bool → List ℕ
 with_waiting text waits = if waits then text ++ 92 ∷ [] else text
 
+-- a byte joins the text, but a backslash waits
 abbrev pub with_byte : List ℕ → ℕ → List ℕ
 with_byte text b = if b == 92 then text else text ++ b ∷ []
 
@@ -46,6 +50,7 @@ unbarred text escaped (b ∷ bs) = unbarred (with_byte (with_waiting text (escap
 abbrev pub cell_text : List ℕ → List ℕ
 cell_text row = utf8_lossy (unbarred [] false (cell_of row))
 
+-- the first cell of a row, in bold or as it is
 abbrev pub cell_said : List (List ℕ) → Bool → List ℕ → StyledRuns
 cell_said labels bold row = record { style = Paragraph; runs = cell_runs labels bold (cell_text row) }
 
@@ -58,15 +63,19 @@ cells labels bold (suc columns) row = cell_said labels bold row ∷ cells labels
 abbrev pub shown_cells : ℕ → List ℕ → ℕ
 shown_cells columns bytes = if nat_lt (cell_count bytes) columns then cell_count bytes else columns
 
+-- a row that shows so many of its cells at most
 abbrev pub row_said : List (List ℕ) → Bool → ℕ → Remaining → LineContent
 row_said labels bold columns line = table_row (cells labels bold (shown_cells columns line.bytes) (row_of line.bytes))
 
+-- the last byte, 0 if there is none
 abbrev pub last_byte : List ℕ → ℕ
 last_byte bytes = slice_index bytes (length bytes - 1)
 
+-- a column with colons on both sides is centered, and one with a colon is aligned to its side
 abbrev pub alignment : Bool → Bool → Alignment
 alignment left right = if left && right then Center else if left then Left else if right then Right else Unspecified
 
+-- what a cell of the row of delimiters says of its column
 abbrev pub alignment_of : List ℕ → Alignment
 alignment_of cell = alignment (first cell == 58) (last_byte cell == 58)
 
@@ -75,10 +84,12 @@ unfoldable pub alignments : ℕ → List ℕ → List Alignment
 alignments zero row = []
 alignments (suc columns) row = alignment_of (cell_of row) ∷ alignments columns (after_cell row)
 
+-- a rule and the rows below the head; where there are no rows, there is no rule
 abbrev pub body : List (List ℕ) → ℕ → List Alignment → List Remaining → List LineContent
 body labels columns rule [] = []
 body labels columns rule (line ∷ lines) = table_rule rule ∷ map (row_said labels false columns) (line ∷ lines)
 
+-- a table between two rules, whose head is in bold
 abbrev pub ruled : List (List ℕ) → ℕ → List Alignment → Remaining → List Remaining → List LineContent
 ruled labels columns rule head lines = table_rule rule ∷ row_said labels true columns head ∷ (body labels columns rule lines ++ table_rule rule ∷ [])
 
@@ -94,6 +105,7 @@ unfoldable pub cells_addresses : Defined → ℕ → List ℕ → List (List ℕ
 cells_addresses defined zero row = []
 cells_addresses defined (suc columns) row = leaf_addresses defined (cell_text row) ++ cells_addresses defined columns (after_cell row)
 
+-- where the links in the cells lead that are shown of a row
 abbrev pub row_addresses : Defined → ℕ → Remaining → List (List ℕ)
 row_addresses defined columns line = cells_addresses defined (shown_cells columns line.bytes) (row_of line.bytes)
 

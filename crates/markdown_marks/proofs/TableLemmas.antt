@@ -15,6 +15,7 @@ is_false : (b : Bool) → (b ≡ true → ⊥) → b ≡ false
 is_false true h = absurd (h refl)
 is_false false h = refl
 
+-- a search that finds no bar says that there is none
 pub none_found : (bytes : List ℕ) → IsFirstByte (is_byte 124) bytes None → HasNoBar bytes
 none_found bytes h k within = is_false (slice_index bytes k == 124) (h k (omega arith) within)
 
@@ -54,6 +55,7 @@ unfolding columns_from
 stays_nowhere count [] = refl
 stays_nowhere count (b ∷ bs) = stays_nowhere count bs
 
+-- where a spot is nowhere, the row has no columns
 pub none_delimited : (spot : Spot) (count : ℕ) (bytes : List ℕ) → is_nowhere spot ≡ true → columns_from spot count bytes ≡ 0
 none_delimited Nowhere count bytes e = stays_nowhere count bytes
 none_delimited Front count bytes e = absurd (cc)

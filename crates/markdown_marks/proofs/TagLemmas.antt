@@ -8,5 +8,6 @@ alone_cons : (place : Place) (b : ℕ) (bs : List ℕ) → ends_alone place (b �
 unfolding ends_alone
 alone_cons place b bs = refl
 
+-- the byte at an index leads to a place, and those behind it go on from there
 pub alone_more : (place : Place) (bytes : List ℕ) (i d : ℕ) → i < length bytes → ends_alone place (drop i bytes) ≡ ends_alone (next_place place (get_or bytes i d)) (drop (i + 1) bytes)
 alone_more place bytes i d within = ap (ends_alone place) (drop_more bytes i d within) ∙ alone_cons place (get_or bytes i d) (drop (i + 1) bytes)

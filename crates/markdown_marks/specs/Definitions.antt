@@ -65,6 +65,7 @@ abbrev pub if_shorter : List ℕ → Option (List ℕ) → Option (List ℕ)
 if_shorter text None = None
 if_shorter text (Some rest) = if length rest == length text then None else Some rest
 
+-- what follows a destination, of either form
 abbrev pub after_destination : List ℕ → Option (List ℕ)
 after_destination text = if first text == 60 then after_angle false (drop 1 text) else if_shorter text (after_bare 0 false text)
 
@@ -87,19 +88,21 @@ title_after text =
     else if first text == 40 then after_title 41 false (drop 1 text)
     else None
 
--- the rest of a line with nothing but blanks, and its end
+-- what follows the end of a line that is in front
 abbrev pub line_ended : List ℕ → Option (List ℕ)
 line_ended [] = Some []
 line_ended (b ∷ bs) = if b == 10 then Some bs else None
 
+-- what follows a line of which nothing but blanks is left
 abbrev pub after_line : List ℕ → Option (List ℕ)
 after_line text = line_ended (without_blanks text)
 
--- without the blanks in front, among which may be the end of one line
+-- without an end of a line in front, and the blanks behind it
 abbrev pub after_newline : List ℕ → List ℕ
 after_newline [] = []
 after_newline (b ∷ bs) = if b == 10 then without_blanks bs else b ∷ bs
 
+-- without the blanks in front, among which may be the end of one line
 abbrev pub after_space : List ℕ → List ℕ
 after_space text = after_newline (without_blanks text)
 
@@ -116,6 +119,7 @@ titled text = if length (after_space text) == length text then None else after (
 abbrev pub after_target : List ℕ → Option (List ℕ)
 after_target text = or_else (titled text) (after_line text)
 
+-- what follows a definition, which is left from its colon on
 abbrev pub after_colon : List ℕ → Option (List ℕ)
 after_colon text = if first text == 58 then after (after_destination (after_space (drop 1 text))) after_target else None
 
@@ -123,6 +127,7 @@ after_colon text = if first text == 58 then after (after_destination (after_spac
 unfoldable pub after_definition : List ℕ → Option (List ℕ)
 after_definition text = if first text == 91 then after (after_label 0 false false (drop 1 text)) after_colon else None
 
+-- a definition is in front, and others are the rest
 abbrev pub defined_then : Option (List ℕ) → (List ℕ → Bool) → Bool
 defined_then None others = false
 defined_then (Some rest) others = others rest

@@ -15,6 +15,7 @@ without_end first second bytes = take (length bytes - suffix_len (is_either firs
 abbrev pub unclosed : List ℕ → List ℕ → List ℕ
 unclosed text front = if (length front == 0) || is_blank_byte (slice_index front (length front - 1)) then without_end 32 9 front else text
 
+-- the text of a heading without the signs that close it
 abbrev pub without_closing : List ℕ → List ℕ
 without_closing text = unclosed text (without_end 35 35 text)
 

@@ -5,9 +5,11 @@ use Rattle.markdown_marks.specs.Bytes.{is_blank_byte, first}
 use Rattle.markdown_marks.specs.declared.tags.Place.{Place}
 use Rattle.markdown_marks.specs.declared.tags.Place.TheVariants.{Name, Gap, Attribute, AfterAttribute, BeforeValue, Plain, Single, Double, AfterValue, Slash, CloseName, CloseGap, After, Nowhere}
 
+-- the byte is a letter, a low line or a colon
 abbrev pub is_attribute_start : ℕ → Bool
 is_attribute_start b = is_ascii_alphabetic b || (b == 95) || (b == 58)
 
+-- the byte is a letter, a digit, or one of _ : . -
 abbrev pub is_attribute_byte : ℕ → Bool
 is_attribute_byte b = is_ascii_alphanumeric b || (b == 95) || (b == 58) || (b == 46) || (b == 45)
 
@@ -27,12 +29,15 @@ gap_place b = if is_blank_byte b then Gap else if is_attribute_start b then Attr
 abbrev pub after_attribute_place : ℕ → Place
 after_attribute_place b = if is_blank_byte b then AfterAttribute else if b == 61 then BeforeValue else if is_attribute_start b then Attribute else ending_place b
 
+-- in an attribute's name: it goes on, or blanks, its value or an end follow
 abbrev pub attribute_place : ℕ → Place
 attribute_place b = if is_attribute_byte b then Attribute else if is_blank_byte b then AfterAttribute else if b == 61 then BeforeValue else ending_place b
 
+-- before a value: blanks, or what it begins with
 abbrev pub before_value_place : ℕ → Place
 before_value_place b = if is_blank_byte b then BeforeValue else if b == 39 then Single else if b == 34 then Double else if is_plain_byte b then Plain else Nowhere
 
+-- after a value: blanks, or an end
 abbrev pub after_value_place : ℕ → Place
 after_value_place b = if is_blank_byte b then Gap else ending_place b
 
@@ -53,6 +58,7 @@ next_place CloseGap b = if is_blank_byte b then CloseGap else if b == 62 then Af
 next_place After b = if is_blank_byte b then After else Nowhere
 next_place Nowhere b = Nowhere
 
+-- the place is behind a tag
 abbrev pub is_after : Place → Bool
 is_after After = true
 is_after _ = false

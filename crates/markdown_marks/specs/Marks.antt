@@ -16,6 +16,7 @@ is_rule bytes = ((first bytes == 42) || (first bytes == 45) || (first bytes == 9
 abbrev pub level_of : ℕ → List ℕ → Option ℕ
 level_of level bytes = if (level == 0) || nat_lt 6 level || not (ends_sign (drop level bytes)) then None else Some level
 
+-- the level of the heading that begins here, if one does
 unfoldable pub heading_level : List ℕ → Option ℕ
 heading_level bytes = level_of (count_in_front 35 bytes) bytes
 
@@ -25,6 +26,7 @@ fence_of sign length bytes =
     if not ((sign == 96) || (sign == 126)) || nat_lt length 3 || ((sign == 96) && list_any (λ b. b == 96) (drop length bytes)) then None
     else Some (record { sign = sign; length = length })
 
+-- the fence that begins here, if one does
 unfoldable pub fence_start : List ℕ → Option Fence
 fence_start bytes = fence_of (first bytes) (count_in_front (first bytes) bytes) bytes
 

@@ -4,10 +4,11 @@ use Rattle.markdown_marks.specs.Bytes.{is_blank_byte, first, is_blank, without_b
 use Rattle.markdown_marks.specs.declared.tables.Spot.{Spot}
 use Rattle.markdown_marks.specs.declared.tables.Spot.TheVariants.{Front, Colon, Hyphens, Back, Nowhere}
 
--- a row without the blanks in front and the bar after them
+-- a row without the bar that is in front
 abbrev pub without_bar : List ℕ → List ℕ
 without_bar bytes = if first bytes == 124 then drop 1 bytes else bytes
 
+-- a row without the blanks in front and the bar after them
 abbrev pub row_of : List ℕ → List ℕ
 row_of bytes = without_bar (without_blanks bytes)
 
@@ -58,6 +59,7 @@ columns_at_end Hyphens count = count + 1
 columns_at_end Back count = count + 1
 columns_at_end _ count = 0
 
+-- so many columns, and those that the rest of the row has, from this spot of a cell on
 unfoldable pub columns_from : Spot → ℕ → List ℕ → ℕ
 columns_from spot count [] = columns_at_end spot count
 columns_from spot count (b ∷ bs) = if ends_cell spot && (b == 124) then columns_from Front (count + 1) bs else columns_from (next_spot spot b) count bs

@@ -45,5 +45,6 @@ steady_plain (table_row row ∷ lines) h = (steady_row_plain row h.0, steady_pla
 steady_plain (table_rule rule ∷ lines) h = steady_plain lines h
 steady_plain (horizontal_rule ∷ lines) h = steady_plain lines h
 
+-- the cells of each table of Markdown are paragraphs
 pub cells_are_plain : CellsArePlain
 cells_are_plain = record { printable = table_plain; steady = λ labels columns lines. steady_plain (table_lines labels columns lines) (table_plain labels columns lines) }

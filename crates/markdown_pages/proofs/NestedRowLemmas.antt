@@ -26,6 +26,7 @@ begun : (rules : LineRules) (ascii : Bool) (width : Option ℕ) (section : Secti
 begun rules ascii width section [] s = tt
 begun rules ascii width section (row ∷ rows) s = later_rows rules ascii width section row rows s
 
+-- where its gutters take less than half of the width, each row of a section is behind all of them
 pub rows_nest : RowsNest
 rows_nest rules ascii width section rows s fit =
     (subst (λ (gutters : List Gutter). AllByRecursion (λ (row : RowContent). row.gutters ≡ gutters) rows) (all_shown ascii width section.gutters fit) (sections_are_layouts rules ascii width section rows s).gutters, begun rules ascii width section rows s)

@@ -96,5 +96,6 @@ all_shown : (whole ascii : Bool) (width : Option ℕ) (sections : List SectionCo
 all_shown whole ascii width [] h = tt
 all_shown whole ascii width (s ∷ sections) h = (shown_in whole (room_of ascii width s.gutters) s.list s h.0.list h.0.fresh, all_shown whole ascii width sections h.1)
 
+-- a section is shown as it is, or as a list that shows its faces
 pub lists_show_faces : ListsShowFaces
 lists_show_faces whole ascii width defined parts = all_shown whole ascii width _ (may_be_listed defined parts)

@@ -22,6 +22,7 @@ pub record IsPlacedBare (bytes : List ℕ) (found : Bare) : Type 0 where
   pub first : get_or bytes 0 0 < 128
   pub ends : EndsWell bytes (found.len - 1)
 
+-- an address that is found is placed so
 abbrev pub GivesBare : List ℕ → Option Bare → Type 0
 GivesBare bytes o = (found : Bare) → o ≡ Some found → IsPlacedBare bytes found
 
@@ -177,6 +178,7 @@ or_ends : (bytes : List ℕ) (o q : Option Bare) → GivesBare bytes o → Gives
 or_ends bytes None q f g = g
 or_ends bytes (Some b) q f g = f
 
+-- a bare address is placed so
 pub bare_ends : (before : Option ℕ) (bytes : List ℕ) → GivesBare bytes (bare_after before bytes)
 bare_ends before bytes =
     or_ends bytes (cond (may_precede_web before) (web_of bytes) None) (cond (may_precede_mail before) (mail_of bytes) None)
@@ -191,5 +193,6 @@ some_first bytes None g h = absurd (no h)
     no e = cc
 some_first bytes (Some b) g h = (g b refl).first
 
+-- a bare address is found at a byte of ASCII only
 pub bare_first : (before : Option ℕ) (bytes : List ℕ) → is_some (bare_after before bytes) ≡ true → get_or bytes 0 0 < 128
 bare_first before bytes h = some_first bytes (bare_after before bytes) (bare_ends before bytes) h

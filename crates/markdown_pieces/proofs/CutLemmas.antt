@@ -9,6 +9,7 @@ use Rattle.markdown_pieces.specs.Cut.{Step, step, Pieces, onto, cut_from}
 abbrev pub with_front : List Piece → Pieces → Pieces
 with_front ps c = record { pieces = ps ++ c.pieces; reading = c.reading }
 
+-- the piece in front stands before those that are cut behind it
 pub cut_cons : (labels : List (List ℕ)) (text : List ℕ) (at index : ℕ) (r : Reading) (b : ℕ) (bs : List ℕ)
     → cut_from labels text 0 at index r (b ∷ bs) ≡ onto (step labels text at index r (b ∷ bs)).piece (cut_from labels text (step labels text at index r (b ∷ bs)).piece.more (at + 1) (index + 1) (step labels text at index r (b ∷ bs)).reading bs)
 unfolding cut_from
@@ -24,6 +25,7 @@ cut_skip labels text (suc skip) at to index r (b ∷ bs) e = cut_skip labels tex
 with_more : (ps : List Piece) (p : Piece) (c : Pieces) → with_front ps (onto p c) ≡ with_front (ps ++ p ∷ []) c
 with_more ps p c = ap (λ (l : List Piece). record { pieces = l; reading = c.reading }) (sym (append_assoc ps (p ∷ []) c.pieces))
 
+-- one more piece is cut, and all pieces are the same
 pub cut_step : (labels : List (List ℕ)) (text : List ℕ) (at to index next d : ℕ) (r : Reading) (ps qs : List Piece) (s : Step) → at < length text → s ≡ step labels text at index r (drop at text)
     → to ≡ at + (s.piece.more + 1) → next ≡ index + 1 → qs ≡ ps ++ s.piece ∷ []
     → with_front qs (cut_from labels text 0 to next s.reading (drop to text)) ≡ with_front ps (cut_from labels text 0 at index r (drop at text))

@@ -16,6 +16,7 @@ last_end : (d c : ℕ) (cs : List ℕ) → last_after d (cs ++ c ∷ []) ≡ c
 last_end d c [] = refl
 last_end d c (x ∷ xs) = last_end x c xs
 
+-- of characters and one more the last is that one
 pub last_push : (c : ℕ) (cs : List ℕ) → last_char (cs ++ c ∷ []) ≡ Some c
 last_push c [] = refl
 last_push c (x ∷ xs) = ap Some (last_end x c xs)
@@ -31,6 +32,7 @@ last_is text front c u f e =
     let one : chars (encode_utf8 c) ≡ c ∷ [] = chars_past_char (encode_utf8 c) [] c alone (sym (append-nil (encode_utf8 c))) ∙ ap (λ (l : List ℕ). c ∷ l) chars-nil in
     sym (ap last_char (ap chars e ∙ chars-append front (encode_utf8 c) f ∙ ap (λ (l : List ℕ). chars front ++ l) one) ∙ last_push c (chars front))
 
+-- an empty text has no last character
 pub last_none : (text : List ℕ) → length text ≡ 0 → None ≡ last_char (chars text)
 last_none [] e = sym (ap last_char chars-nil)
 last_none (b ∷ bs) e = absurd (omega (arith, e))
@@ -63,6 +65,7 @@ well rest more u some ends = ⊎_elim (λ (h : get_or rest more 0 < 128). well_a
 
 -- ---- runs of one byte
 
+-- a byte begins a run of itself
 pub passes_first : (b : ℕ) (bs : List ℕ) (t : Bool) → eqb b b ≡ t → 0 < cond t (1 + prefix_len (λ c. eqb c b) bs) 0
 passes_first b bs true h = omega arith
 passes_first b bs false h = absurd (no (sym (eq-eqb b b refl) ∙ h))
@@ -76,6 +79,7 @@ unfolding count_in_front
 count_some [] h = absurd (omega arith)
 count_some (b ∷ bs) h = passes_first b bs (eqb b b) refl
 
+-- no more bytes are in front than there are
 pub count_le : (b : ℕ) (rest : List ℕ) → count_in_front b rest ≤ length rest
 unfolding count_in_front
 count_le b rest = prefix_len-le-length (λ c. eqb c b) rest
@@ -85,6 +89,7 @@ pub count_is : (b : ℕ) (rest : List ℕ) (k : ℕ) → k < count_in_front b re
 unfolding count_in_front
 count_is b rest k h = eqb-true (get_or rest k 0) b (prefix_len_passes (λ c. eqb c b) rest k 0 h)
 
+-- a byte of what is left is the text's byte at its place
 pub count_within : (rest : List ℕ) (at k : ℕ) (text : List ℕ) → rest ≡ drop at text → get_or rest k 0 ≡ get_or text (at + k) 0
 count_within rest at k text e = ap (λ (l : List ℕ). get_or l k 0) e ∙ get_or-drop at text k 0
 

@@ -78,5 +78,6 @@ other_ends bytes =
     (λ h3. by_cond P (begins bytes (codes "!") && is_ascii_alphabetic (first (drop 1 bytes))) (after_first (codes ">") (drop 1 bytes)) None
     (λ h. behind 1 bytes (after_first (codes ">") (drop 1 bytes)) (found_ends 62 (codes ">") (drop 1 bytes) refl)) (λ h. gives_none (EndsBy 62 bytes)))))
 
+-- raw html ends with a sign >
 pub html_ends : (bytes : List ℕ) → Gives (EndsBy 62 bytes) (html_end bytes)
 html_ends bytes = else_gives (EndsBy 62 bytes) (tag_end bytes) (other_end bytes) (tag_ends bytes) (other_ends bytes)

@@ -159,6 +159,7 @@ read_cut labels text zero at index r (b ∷ bs) read =
     (read_cut labels text s.piece.more (at + 1) (index + 1) s.reading bs (read_step labels text at index r (b ∷ bs) read))
 read_cut labels text (suc skip) at index r (b ∷ bs) read = read_cut labels text skip (at + 1) index r bs read
 
+-- each pair is of two of the pieces
 pub pairs_within : (labels : List (List ℕ)) (text : List ℕ) → All (IsWithin (length (cut_text labels text).pieces)) (cut_text labels text).pairs
 pairs_within labels text =
     let c : Pieces = cut_from labels text 0 0 0 nothing_read text in

@@ -30,12 +30,14 @@ use Rattle.markdown_pieces.proofs.HtmlEnds.{html_ends}
 use Rattle.markdown_pieces.proofs.BareEnds.{bare_ends, bare_first}
 use Rattle.markdown_pieces.proofs.TailLemmas.{by_cond, EndsBy, ends_cons, ends_here, Gives, gives_none, gives_some, GivesLen, len_none, len_some}
 
+-- the piece ends after a byte of ASCII, or before one
 abbrev pub Ends : List ℕ → Piece → Type 0
 Ends rest p = EndsWell rest p.more
 
 byte_small : (rest : List ℕ) (k b : ℕ) → get_or rest k 0 ≡ b → b < 128 → get_or rest k 0 < 128
 byte_small rest k b e h = omega (arith, e)
 
+-- a piece whose last byte is of ASCII ends so
 pub ends_at : (rest : List ℕ) (more b : ℕ) → get_or rest more 0 ≡ b → b < 128 → EndsWell rest more
 ends_at rest more b e h = inl (byte_small rest more b e h)
 
@@ -339,6 +341,7 @@ escape_ends : (rest : List ℕ) → get_or rest 0 0 < 128 → 0 < length rest �
 escape_ends [] h some = absurd (omega arith)
 escape_ends (b ∷ bs) h some = escape_ends_by b bs h
 
+-- each piece that is no bracket ends so
 pub piece_ends : (free : Bool) (b : ℕ) (text : List ℕ) (at : ℕ) (rest : List ℕ) → get_or rest 0 0 ≡ b → 0 < length rest → Ends rest (piece_by free b text at rest)
 piece_ends free b text at rest e some =
     let small : (n : ℕ) → eqb b n ≡ true → n < 128 → get_or rest 0 0 < 128 = λ n h l. let same : b ≡ n = eqb-true b n h in omega (arith, e, same) in

@@ -324,5 +324,6 @@ cut_placed labels text (suc skip) at index r (b ∷ bs) u e within few cut =
     cut_placed labels text skip (at + 1) index r bs u next (omega (arith, many)) (omega (arith, few)) (subst (λ n. IsCharBoundary text n) there cut) in
     subst (λ n. AreCut text n (cut_from labels text skip (at + 1) index r bs).pieces) (sym there) rest
 
+-- a text is cut where it may be: each of its pieces is a text of its own
 pub text_placed : (labels : List (List ℕ)) (text : List ℕ) → IsUtf8 text → AreCut text 0 (cut_text labels text).pieces
 text_placed labels text u = cut_placed labels text 0 0 0 nothing_read text u refl (omega arith) (omega arith) (IsCharBoundary-start text u)

@@ -25,6 +25,7 @@ either_none : (free : Bool) (o : Option Bare) → o ≡ None → is_some (cond f
 either_none true o e = ap is_some e
 either_none false o e = refl
 
+-- behind a byte of a word no address begins
 pub word_none : (free : Bool) (b : ℕ) (rest : List ℕ) → is_word b ≡ true → is_some (bare_if free (Some b) rest) ≡ false
 word_none free b rest h =
     either_none free (bare_after (Some b) rest)
@@ -32,12 +33,14 @@ word_none free b rest h =
 
 -- ---- blanks
 
+-- a blank stands for itself where no end of a line follows the blanks
 pub blank_stays : (b : ℕ) (rest : List ℕ) → is_blank_byte b ≡ true → stays b rest ≡ not (ends_line rest)
 blank_stays b rest h = ap (λ t. t || (is_blank_byte b && not (ends_line rest))) (blank_not_plain b h) ∙ ap (λ t. t && not (ends_line rest)) h
   where
     blank_not_plain : (b : ℕ) → is_blank_byte b ≡ true → is_plain b ≡ false
     blank_not_plain b h = grind (arith, nat_tests)
 
+-- any other byte stands for itself where it is plain
 pub other_stays : (b : ℕ) (rest : List ℕ) → is_blank_byte b ≡ false → stays b rest ≡ is_plain b
 other_stays b rest h = ap (λ t. is_plain b || (t && not (ends_line rest))) h ∙ or_no (is_plain b)
   where
@@ -45,6 +48,7 @@ other_stays b rest h = ap (λ t. is_plain b || (t && not (ends_line rest))) h �
     or_no true = refl
     or_no false = refl
 
+-- with one more blank in front a line ends as without it
 pub ends_next : (b : ℕ) (bs : List ℕ) → is_blank_byte b ≡ true → ends_line (b ∷ bs) ≡ ends_line bs
 ends_next b bs h = ap (λ n. eqb (first (drop n (b ∷ bs))) 10) (one_more h ∙ swap (prefix_len is_blank_byte bs))
   where
@@ -63,9 +67,11 @@ still_inside b bs rest next e f h blank =
     off true h = sym h
     off false h = refl
 
+-- where no byte is an at sign, none is behind the first
 pub no_at_next : (b : ℕ) (bs : List ℕ) → HasNoAt (b ∷ bs) → HasNoAt bs
 no_at_next b bs h k = h (suc k)
 
+-- nor is one behind any of them
 pub no_at_drop : (n : ℕ) (bs : List ℕ) → HasNoAt bs → HasNoAt (drop n bs)
 no_at_drop n bs h k = ap (λ b. eqb b 64) (get_or-drop n bs k 0) ∙ h (n + k)
 
@@ -85,6 +91,7 @@ no_at bs none k =
 
 -- ---- bytes that stand for themselves
 
+-- a byte that stands for itself counts, and then those behind it
 pub plain_step : (free : Bool) (last b : ℕ) (rest next : List ℕ) → rest ≡ b ∷ next → stays b rest ≡ true → is_some (bare_if free (Some last) rest) ≡ false → plain_from free (Some last) rest ≡ suc (plain_from free (Some b) next)
 unfolding plain_from
 plain_step free last b rest next e s h =
@@ -94,11 +101,13 @@ plain_step free last b rest next e s h =
     ∙ ap (λ t. cond (t && not (is_some (bare_if free (Some last) (b ∷ next)))) (suc (plain_from free (Some b) next)) 0) s
     ∙ ap (λ t. cond (not t) (suc (plain_from free (Some b) next)) 0) h
 
+-- bytes that stand for themselves go up to one that doesn't
 pub plain_stays_not : (free : Bool) (last b : ℕ) (rest next : List ℕ) → rest ≡ b ∷ next → stays b rest ≡ false → plain_from free (Some last) rest ≡ 0
 unfolding plain_from
 plain_stays_not free last b rest next e s =
     ap (plain_from free (Some last)) e ∙ ap (λ t. cond (t && not (is_some (bare_if free (Some last) (b ∷ next)))) (suc (plain_from free (Some b) next)) 0) (ap (stays b) (sym e) ∙ s)
 
+-- they go up to a bare address
 pub plain_is_bare : (free : Bool) (last b : ℕ) (rest next : List ℕ) → rest ≡ b ∷ next → is_some (bare_if free (Some last) rest) ≡ true → plain_from free (Some last) rest ≡ 0
 unfolding plain_from
 plain_is_bare free last b rest next e h =
@@ -110,6 +119,7 @@ plain_is_bare free last b rest next e h =
     none true = refl
     none false = refl
 
+-- without bytes none stands for itself
 pub plain_no_more : (free : Bool) (before : Option ℕ) (rest : List ℕ) → length rest ≡ 0 → plain_from free before rest ≡ 0
 unfolding plain_from
 plain_no_more free before [] e = refl
@@ -148,6 +158,7 @@ plain_same free before other (b ∷ bs) web mail =
     ap (λ o. cond (stays b (b ∷ bs) && not (is_some o)) (suc (plain_from free (Some b) bs)) 0) (none_after free before (b ∷ bs) (web 0) mail)
     ∙ ap (λ n. cond (stays b (b ∷ bs) && true) (suc n) 0) (plain_same free (Some b) (Some b) bs (no_web_next b bs web) (no_at_next b bs mail))
 
+-- where there is no address, the piece is the same whether one is looked for or not
 pub plain_piece_same : (free : Bool) (before : Option ℕ) (b : ℕ) (rest : List ℕ) → HasNoWeb rest → HasNoAt rest → plain_piece false before b rest ≡ plain_piece free before b rest
 unfolding plain_piece
 plain_piece_same free before b rest web mail =
@@ -159,6 +170,7 @@ plain_piece_same free before b rest web mail =
     drop_drop (suc k) [] = refl
     drop_drop k (b ∷ bs) = refl
 
+-- where no address is looked for, what stands before doesn't matter
 pub plain_before : (free : Bool) (before other : Option ℕ) (rest : List ℕ) → free ≡ false → plain_from false before rest ≡ plain_from free other rest
 unfolding plain_from
 plain_before free before other [] e = refl

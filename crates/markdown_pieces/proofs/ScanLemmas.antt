@@ -81,12 +81,14 @@ stays_before bs e m k standing high low most solid other =
     (no_end (m - k) (drop k bs) (λ j from to. ap stands (get_or-drop k bs j 0) ∙ standing (k + j) (omega arith) (omega (arith, to, most, low)))
     (ap is_blank_byte at ∙ solid) (ap (λ c. eqb c 10) at ∙ other))
 
+-- the first byte behind some is the one of that number
 pub first_drop : (n : ℕ) (bs : List ℕ) → first (drop n bs) ≡ get_or bs n 0
 first_drop zero [] = refl
 first_drop zero (b ∷ bs) = refl
 first_drop (suc n) [] = refl
 first_drop (suc n) (b ∷ bs) = first_drop n bs
 
+-- past the last byte 0 is read
 pub beyond : (xs : List ℕ) (i : ℕ) → length xs ≤ i → get_or xs i 0 ≡ 0
 beyond [] i h = refl
 beyond (x ∷ xs) zero h = absurd (omega (arith, h))

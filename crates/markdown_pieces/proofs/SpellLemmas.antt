@@ -22,5 +22,6 @@ spell_from labels text zero at index r (b ∷ bs) few all =
     ap (λ (l : List ℕ). b ∷ (take s.piece.more bs ++ l)) rest ∙ ap (λ (l : List ℕ). b ∷ l) (take-append-drop s.piece.more bs)
 spell_from labels text (suc skip) at index r (b ∷ bs) few all = spell_from labels text skip (at + 1) index r bs (omega (arith, few)) (omega (arith, all))
 
+-- the pieces of a text spell it
 pub spells : (labels : List (List ℕ)) (text : List ℕ) → spell text (cut_text labels text).pieces ≡ text
 spells labels text = spell_from labels text 0 0 0 nothing_read text (omega arith) (omega arith)

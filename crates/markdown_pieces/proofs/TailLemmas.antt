@@ -8,6 +8,7 @@ use Rattle.markdown_marks.specs.Bytes.{first, is_blank_byte, without_blanks}
 use Rattle.markdown_marks.specs.Definitions.{after, or_else, is_space_byte, is_mark_byte, counted, after_label, after_angle, bare_end, after_bare, if_shorter, after_destination, after_title, title_after, after_newline, after_space}
 use Rattle.markdown_brackets.specs.Targets.{closed_paren, target_end, after_target, after_inline}
 
+-- what holds in both cases holds of what a condition chooses
 pub by_cond : {X : Type 0} (P : X → Type 0) (t : Bool) (x y : X) → (t ≡ true → P x) → (t ≡ false → P y) → P (cond t x y)
 by_cond P true x y f g = f refl
 by_cond P false x y f g = g refl
@@ -45,9 +46,11 @@ tail_then a b c t u = record {
   is = sym (drop-drop u.n t.n a) ∙ ap (drop u.n) t.is ∙ u.is;
 }
 
+-- with one more byte in front it is such an end still
 pub ends_cons : (b c : ℕ) (text rest : List ℕ) → EndsBy b text rest → EndsBy b (c ∷ text) rest
 ends_cons b c text rest t = record { n = suc t.n; few = omega (arith, t.few); byte = t.byte; is = t.is }
 
+-- what follows this byte is such an end
 pub ends_here : (b c : ℕ) (text : List ℕ) → c ≡ b → EndsBy b (c ∷ text) text
 ends_here b c text e = record { n = 0; few = omega arith; byte = e; is = refl }
 
@@ -57,6 +60,7 @@ tail_from zero text = tail_self text
 tail_from (suc k) [] = tail_self []
 tail_from (suc k) (b ∷ bs) = tail_cons b bs (drop k bs) (tail_from k bs)
 
+-- such an end of an end is one of the text
 pub ends_then : (b : ℕ) (x y z : List ℕ) → IsTail x y → EndsBy b y z → EndsBy b x z
 ends_then b x y z t u = record {
   n = t.n + u.n;
@@ -82,24 +86,30 @@ none_some a e = absurd (no e)
     no : None ≡ Some a → ⊥
     no e = cc
 
+-- what is found has this property
 abbrev pub Gives : (List ℕ → Type 0) → Option (List ℕ) → Type 0
 Gives P o = (a : List ℕ) → o ≡ Some a → P a
 
+-- where nothing is found, nothing is asked of it
 pub gives_none : (P : List ℕ → Type 0) → Gives P None
 gives_none P a e = none_some a e
 
+-- where this is found, and has the property, what is found has it
 pub gives_some : (P : List ℕ → Type 0) (a : List ℕ) → P a → Gives P (Some a)
 gives_some P a p b e = subst P (some_same a b e) p
 
+-- a length that is found has this property
 abbrev pub GivesLen : (ℕ → Type 0) → Option ℕ → Type 0
 GivesLen P o = (len : ℕ) → o ≡ Some len → P len
 
+-- where no length is found, nothing is asked of it
 pub len_none : (P : ℕ → Type 0) → GivesLen P None
 len_none P len e = absurd (no e)
   where
     no : None ≡ Some len → ⊥
     no e = cc
 
+-- where this length is found, and has the property, what is found has it
 pub len_some : (P : ℕ → Type 0) (n : ℕ) → P n → GivesLen P (Some n)
 len_some P n p len e = let same : n ≡ len = cc in subst P same p
 
@@ -117,6 +127,7 @@ newline_tail (b ∷ bs) =
 space_tail : (text : List ℕ) → IsTail text (after_space text)
 space_tail text = tail_then text (without_blanks text) (after_space text) (blanks_tail text) (newline_tail (without_blanks text))
 
+-- a label ends with a closing bracket
 pub label_ends : (count : ℕ) (some escaped : Bool) (text : List ℕ) → Gives (EndsBy 93 text) (after_label count some escaped text)
 unfolding after_label
 label_ends count some escaped [] = gives_none (EndsBy 93 [])
@@ -197,6 +208,7 @@ paren_ends (b ∷ bs) =
 target_ends : (text : List ℕ) → Gives (EndsBy 41 text) (target_end text)
 target_ends text a e = ends_then 41 text (after_space text) a (space_tail text) (paren_ends (after_space text) a e)
 
+-- the first, or else the second, has what both have
 pub else_gives : (P : List ℕ → Type 0) (o q : Option (List ℕ)) → Gives P o → Gives P q → Gives P (or_else o q)
 else_gives P None q f g = g
 else_gives P (Some rest) q f g = f
@@ -215,6 +227,7 @@ titled_ends text =
     (λ h. gives_none (EndsBy 41 text))
     (λ h. spaced_gives 41 text (after (title_after (after_space text)) target_end) (after_gives 41 (after_space text) (title_after (after_space text)) target_end (title_tail (after_space text)) target_ends)))
 
+-- what is in parentheses behind a link ends with a closing parenthesis
 pub inline_ends : (text : List ℕ) → Gives (EndsBy 41 text) (after_inline text)
 inline_ends text =
     else_gives (EndsBy 41 text) (target_end text) (after (after_destination (after_space text)) after_target) (target_ends text)

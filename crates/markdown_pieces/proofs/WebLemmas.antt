@@ -86,6 +86,7 @@ period_of text k h =
     leb_two : (k : ℕ) → leb 2 (k + 3) ≡ true
     leb_two k = grind (arith, nat_tests)
 
+-- where no sign of an address of the web is, none begins
 pub no_web : (text : List ℕ) → ((k : ℕ) → k < length text → sign_at text k ≡ false) → HasNoWeb text
 no_web text none k =
     four _ _ _ _ _ _ _ _ (no_www (drop k text) (period_of text k (all (k + 3)))) (no_scheme (codes "https://") (drop k text) 5 (omega arith) refl refl (colon_of text k 5 (all (k + 5))))
@@ -114,9 +115,11 @@ signless_no text at b e h =
 abbrev pub NoSigns : List ℕ → ℕ → Type 0
 NoSigns text at = (k : ℕ) → k < at → sign_at text k ≡ false
 
+-- bytes without colons and periods have no such sign in front
 pub first_signless : (text : List ℕ) (at : ℕ) → AreSignless text 0 at → NoSigns text at
 first_signless text at are k few = signless_no text k (get_or text k 0) refl (are k (omega arith) few)
 
+-- with no sign up to a place and there, and no colon or period up to another, none is up to that
 pub more_signless : (text : List ℕ) (at end : ℕ) → NoSigns text at → sign_at text at ≡ false → AreSignless text (at + 1) end → NoSigns text end
 more_signless text at end none here are k few =
     ⊎_elim (λ (low : k < at). none k low)

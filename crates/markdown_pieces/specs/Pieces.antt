@@ -22,6 +22,7 @@ use Rattle.markdown_pieces.specs.declared.pieces.Kind.{Kind}
 use Rattle.markdown_pieces.specs.declared.pieces.Kind.TheVariants.{Plain, Shown, Code as CodeKind, Address, Bare as BareKind, Html as HtmlKind, Soft, Hard, Run as RunKind}
 use Rattle.markdown_pieces.specs.declared.pieces.Piece.{Piece}
 
+-- a piece of this kind, which has so many bytes after its first
 abbrev pub piece : Kind → ℕ → Piece
 piece kind more = record { kind = kind; more = more }
 
@@ -29,31 +30,36 @@ piece kind more = record { kind = kind; more = more }
 abbrev pub is_plain : ℕ → Bool
 is_plain b = not ((b == 96) || (b == 42) || (b == 95) || (b == 126) || (b == 92) || (b == 38) || (b == 60) || (b == 91) || (b == 93) || (b == 33) || (b == 10) || (b == 32) || (b == 9))
 
--- the last character, and the first
+-- the last of these characters, the first of which stands before the others
 abbrev pub last_after : ℕ → List ℕ → ℕ
 last_after c [] = c
 last_after c (d ∷ ds) = last_after d ds
 
+-- the last character, if there is one
 abbrev pub last_char : List ℕ → Option ℕ
 last_char [] = None
 last_char (c ∷ cs) = Some (last_after c cs)
 
+-- the first character, if there is one
 abbrev pub first_char : List ℕ → Option ℕ
 first_char [] = None
 first_char (c ∷ cs) = Some c
 
--- what stands before a place, and after it
+-- what stands before a place
 abbrev pub before_at : List ℕ → ℕ → Neighbor
 before_at text at = beside (last_char (chars (take at text)))
 
+-- what stands after a place
 abbrev pub after_at : List ℕ → ℕ → Neighbor
 after_at text at = beside (first_char (chars (drop at text)))
 
+-- a run, which is all marks of this sign that are in front
 abbrev pub run_piece : Sign → List ℕ → ℕ → List ℕ → Piece
 run_piece sign text at rest =
     let count = count_in_front (first rest) rest in
     piece (RunKind (run_of sign count (before_at text at) (after_at text (at + count)))) (count - 1)
 
+-- the code span that is found; else the backquotes in front are text
 abbrev pub code_by : List ℕ → Option Code → Piece
 code_by rest None = piece Plain (count_in_front 96 rest - 1)
 code_by rest (Some code) = piece (CodeKind code) ((code.marks + code.len + code.marks) - 1)
@@ -62,21 +68,26 @@ code_by rest (Some code) = piece (CodeKind code) ((code.marks + code.len + code.
 abbrev pub code_piece : List ℕ → Piece
 code_piece rest = code_by rest (code_of rest)
 
+-- a sign that is shown, a break, or the backslash itself
 abbrev pub escape_by : Escape → Piece
 escape_by (SignEscape b) = piece (Shown b None) 1
 escape_by Break = piece Hard 1
 escape_by Itself = piece Plain 0
 
+-- the piece is a backslash and what it escapes
 abbrev pub escape_piece : List ℕ → Piece
 escape_piece after = escape_by (escape_of after)
 
+-- the entity that is found; else the sign & is text
 abbrev pub entity_by : Option Entity → Piece
 entity_by None = piece Plain 0
 entity_by (Some entity) = piece (Shown entity.shown entity.second) entity.len
 
+-- the piece is an entity, or a sign &
 abbrev pub entity_piece : List ℕ → Piece
 entity_piece after = entity_by (entity_of after)
 
+-- the raw html that is found; else the angle bracket is text
 abbrev pub html_by : List ℕ → Option ℕ → Piece
 html_by after None = piece Plain 0
 html_by after (Some len) = piece (HtmlKind (html_shown (take len after))) len
@@ -85,6 +96,7 @@ html_by after (Some len) = piece (HtmlKind (html_shown (take len after))) len
 unfoldable pub html_piece : List ℕ → Piece
 html_piece after = html_by after (html_len after)
 
+-- the address that is found, or else raw html or an angle bracket
 abbrev pub angle_by : List ℕ → Option ℕ → Piece
 angle_by after None = html_piece after
 angle_by after (Some len) = piece (Address len (scheme_of after)) (len + 1)
@@ -122,6 +134,7 @@ unfoldable pub plain_from : (free : Bool) → Option ℕ → List ℕ → ℕ
 plain_from free before [] = 0
 plain_from free before (b ∷ bs) = if stays b (b ∷ bs) && not (is_some (bare_if free before (b ∷ bs))) then suc (plain_from free (Some b) bs) else 0
 
+-- the bare address that is found, or else bytes that stand for themselves
 abbrev pub plain_by : Option Bare → Bool → ℕ → List ℕ → Piece
 plain_by None free b rest = piece Plain (plain_from free (Some b) (drop 1 rest))
 plain_by (Some bare) free b rest = piece (BareKind bare.scheme) (bare.len - 1)
@@ -130,9 +143,11 @@ plain_by (Some bare) free b rest = piece (BareKind bare.scheme) (bare.len - 1)
 unfoldable pub plain_piece : Bool → Option ℕ → ℕ → List ℕ → Piece
 plain_piece free before b rest = plain_by (bare_if free before rest) free b rest
 
+-- where no mark is: the end of a line, a bare address, or bytes that stand for themselves
 abbrev pub no_mark_piece : Bool → Option ℕ → ℕ → List ℕ → Piece
 no_mark_piece free before b rest = if ends_line rest then break_piece rest else plain_piece free before b rest
 
+-- the byte before a place, if there is one
 abbrev pub byte_before : List ℕ → ℕ → Option ℕ
 byte_before text at = if at == 0 then None else Some (slice_index text (at - 1))
 
@@ -148,5 +163,6 @@ piece_by free b text at rest =
     else if b == 60 then angle_piece (drop 1 rest)
     else no_mark_piece free (byte_before text at) b rest
 
+-- what the text from a place on begins with, by the byte that is there
 unfoldable pub piece_at : Bool → List ℕ → ℕ → List ℕ → Piece
 piece_at free text at rest = piece_by free (slice_index text at) text at rest

@@ -20,6 +20,7 @@ first_set mask n = if mask == 0 then n else trailing_zeros w64 mask
 abbrev pub HasNoWeb : List ℕ → Type 0
 HasNoWeb text = (k : ℕ) → web_of (drop k text) ≡ None
 
+-- the byte is a letter w, in any case
 abbrev pub is_w : ℕ → Bool
 is_w b = (b == 119) || (b == 87)
 

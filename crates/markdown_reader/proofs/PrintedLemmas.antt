@@ -49,6 +49,7 @@ unfolding expanded
 none_expanded column [] = tt
 none_expanded column (c ∷ cs) = none_append (expanded_char column c) (expanded (next_column column c) cs) (none_char (c == 9) _ c) (none_expanded (next_column column c) cs)
 
+-- no character of a text is obeyed as it is shown
 pub text_printed : (text : List ℕ) → NoCharPasses is_obeyed (shown_text text)
 unfolding shown_text
 text_printed text = (map shown_char (chars text), refl, none_shown (chars text))

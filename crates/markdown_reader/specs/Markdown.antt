@@ -9,6 +9,7 @@ pub use Rattle.markdown_lines.specs.Steady.{steady_lines, AreSteadyLines}
 use Rattle.markdown_reader.specs.Definitions.{definitions_of}
 use Rattle.markdown_reader.specs.Mapping.{Mapping, nothing_shown, shown_parts}
 
+-- what parts are shown as, by all definitions among them
 abbrev pub parts_shown : List PartContent → Mapping
 parts_shown parts = shown_parts (definitions_of parts) parts nothing_shown
 

@@ -17,10 +17,11 @@ is_blank c = c == 9 || c == 10 || c == 12 || c == 13 || (general_category_number
 abbrev pub is_punctuation : ℕ → Bool
 is_punctuation c = in_group PunctuationGroup (general_category c) || in_group Symbol (general_category c)
 
--- what a character is beside a run; the ends of the text count as whitespace
+-- what a character is beside a run
 abbrev pub beside_char : ℕ → Neighbor
 beside_char c = if is_blank c then Blank else if is_punctuation c then Punctuation else Other
 
+-- what is beside a run; the ends of the text count as whitespace
 abbrev pub beside : Option ℕ → Neighbor
 beside None = Blank
 beside (Some c) = beside_char c
@@ -32,6 +33,7 @@ is_flanking Blank outer = false
 is_flanking Punctuation Other = false
 is_flanking _ outer = true
 
+-- the neighbor is punctuation
 abbrev pub is_mark : Neighbor → Bool
 is_mark Punctuation = true
 is_mark _ = false
@@ -46,5 +48,6 @@ abbrev pub closes : Sign → (before after : Neighbor) → Bool
 closes Underscore before after = is_flanking before after && (not (is_flanking after before) || is_mark after)
 closes _ before after = is_flanking before after
 
+-- a run of so many marks, which opens and closes as its neighbors let it
 abbrev pub run_of : Sign → ℕ → (before after : Neighbor) → Run
 run_of sign count before after = record { sign = sign; count = count; opens = opens sign before after; closes = closes sign before after }

@@ -18,6 +18,7 @@ char_at chars i = if nat_lt i (length chars) then Some (slice_index chars i) els
 abbrev pub char_before : List ℕ → ℕ → Option ℕ
 char_before chars i = if i == 0 then None else char_at chars (i - 1)
 
+-- there is a character, and it is this one
 abbrev pub is_char : ℕ → Option ℕ → Bool
 is_char c None = false
 is_char c (Some d) = c == d
@@ -36,6 +37,7 @@ marks_with chars i c sign =
 abbrev pub marks_of : List ℕ → ℕ → ℕ → Option Marks
 marks_of chars i c = if is_char c (char_before chars i) then None else option_map (marks_with chars i c) (sign_of c)
 
+-- the run that begins at an index, if one does
 abbrev pub marks_at : List ℕ → ℕ → Option Marks
 marks_at chars i = option_and_then (marks_of chars i) (char_at chars i)
 

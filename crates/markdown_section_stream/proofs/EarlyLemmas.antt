@@ -40,6 +40,7 @@ line_early (Tabulates columns) text g h = let no : false ≡ true = h in absurd 
 line_early (HeadingDeed level) text g h = ap (λ (x : Gathering). closed_as_it_is (begun_in (Heading level) (heading_line text) x)) (twice g)
 line_early RuleDeed text g h = ap (λ (x : Gathering). closed_as_it_is (begun_in Rule text x)) (twice g)
 
+-- before an event that ends the open leaf this may be told already
 pub leaves_end_early : LeavesEndEarly
 leaves_end_early g leave h = ap left_in (twice g)
 leaves_end_early g (enter container) h = ap (entered_in container) (twice g)

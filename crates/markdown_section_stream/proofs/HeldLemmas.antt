@@ -11,6 +11,7 @@ use Rattle.markdown_leaves.specs.declared.parts.Kind.{Kind}
 use Rattle.markdown_leaves.specs.declared.parts.Kind.TheVariants.{Nothing}
 use Rattle.markdown_section_stream.specs.Laws.{NothingIsHeld, LinesComeInTurn}
 
+-- where no leaf is open, none ends
 pub none_open : (g : Gathering) → g.kind ≡ Nothing → closed g ≡ g
 unfolding closed
 none_open g h = ap (λ (k : Kind). closed_as k g) h
@@ -23,6 +24,7 @@ ends_told (suc n) g h =
     ∙ ends_told n (left_in g) h
     ∙ append_assoc g.parts (ends ∷ []) (replicate n ends)
 
+-- after a line that leaves no leaf open all that came is shown
 pub nothing_is_held : NothingIsHeld
 nothing_is_held r h = ends_told (length r.state.containers) r.gathering h
 
@@ -49,6 +51,7 @@ has_line (b ∷ bs) = line_more b (text_lines (bs ++ 10 ∷ [])) (is_pair b (bs 
 onto_joined : (b : ℕ) (xs ys : List (List ℕ)) (line : List ℕ) (lines : List (List ℕ)) → xs ≡ line ∷ lines → onto_first b (xs ++ ys) ≡ onto_first b xs ++ ys
 onto_joined b xs ys line lines e = ap (λ (all : List (List ℕ)). onto_first b (all ++ ys)) e ∙ sym (ap (λ (all : List (List ℕ)). onto_first b all ++ ys) e)
 
+-- what follows a newline begins with a line
 pub lines_come_in_turn : LinesComeInTurn
 unfolding text_lines
 lines_come_in_turn [] later = refl

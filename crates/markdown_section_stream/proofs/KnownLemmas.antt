@@ -34,6 +34,7 @@ part_same (begins container apart) defined all m h = refl
 part_same ends defined all m h = refl
 part_same (block leaf) defined all m h = leaf_same leaf.kind leaf.lines defined all (list_ended (passed leaf.apart m)) h
 
+-- a part without words says the same by any definitions
 pub without_words : WithoutWordsIsSame
 without_words part defined other h m = part_same part defined other m h
 
@@ -46,10 +47,12 @@ known all (part ∷ parts) s h =
     known all parts (part_streamed part s) h.1
     ∙ ap (shown_parts all parts) (h.0 s.mapping)
 
+-- a text whose parts are known is shown as the whole
 pub known_is_whole : KnownIsWhole
 unfolding streamed_sections printable_sections
 known_is_whole text h = ap (λ (m : Mapping). m.sections) (known (definitions_of (parts_of text)) (parts_of text) nothing_streamed h)
 
+-- the links of such a text are those of the whole
 pub known_has_links : KnownHasLinks
 unfolding streamed_links unmarked_links
 known_has_links text h = ap (λ (m : Mapping). m.links) (known (definitions_of (parts_of text)) (parts_of text) nothing_streamed h)
@@ -106,9 +109,11 @@ known_behind front others asks defines =
     let same : definitions_of (front ++ others) ≡ before = defined_joined front others nothing_defined ∙ none_defined others before defines in
     subst (λ (d : Defined). AreKnown d nothing_defined (front ++ others)) (sym same) (in_front front others before nothing_defined asks (all_known others before defines))
 
+-- a text without definitions is shown as the whole
 pub undefined_is_whole : UndefinedIsWhole
 undefined_is_whole text h = known_is_whole text (known_behind [] (parts_of text) refl h)
 
+-- so is a text whose definitions stand in front of all words
 pub in_front_is_whole : DefinedInFrontIsWhole
 in_front_is_whole text front others joins asks defines =
     known_is_whole text (subst (λ (ps : List PartContent). AreKnown (definitions_of ps) nothing_defined ps) (sym joins) (known_behind front others asks defines))

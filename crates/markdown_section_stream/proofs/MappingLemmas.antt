@@ -131,6 +131,7 @@ leaf_behind defined Definitions lines ss ls m = refl
 
 -- ---- parts
 
+-- a part is shown behind other sections as it is without them
 pub part_behind : (defined : Defined) (part : PartContent) (ss : List SectionContent) (ls : List LinkSaid) (m : Mapping) → shown_part defined part (shown_after ss ls m) ≡ shown_after ss ls (shown_part defined part m)
 unfolding shown_part
 part_behind defined (begins container apart) ss ls m = begun_behind container ss ls (passed apart m)
@@ -153,6 +154,7 @@ kept m =
     ap (λ (all : List SectionContent). record m { sections = all }) (sym (append-nil m.sections))
     ∙ ap (λ (links : List LinkSaid). record m { sections = m.sections ++ []; links = links }) (sym (append-nil m.links))
 
+-- sections that were taken change nothing of those that are shown next
 pub sections_come_in_turn : SectionsComeInTurn
 sections_come_in_turn defined parts later m =
     let n = shown_parts defined parts m in

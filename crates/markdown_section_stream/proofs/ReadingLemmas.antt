@@ -27,10 +27,12 @@ read_on (line ∷ lines) r =
     ap (λ (g : Gathering). (closed g).parts) (told_joined (step_events r.state (step r.state line)) (events_from (step r.state line).state lines) r.gathering)
     ∙ read_on lines (line_read r line)
 
+-- the parts of a text are all that are told where its lines end
 pub read_whole : (text : List ℕ) → parts_of text ≡ parts_at_end (lines_read nothing_read (text_lines text))
 unfolding parts_of events_of
 read_whole text = read_on (text_lines text) nothing_read
 
+-- lines are read on where those before them end
 pub read_joined : (lines later : List (List ℕ)) (r : Reading) → lines_read r (lines ++ later) ≡ lines_read (lines_read r lines) later
 unfolding lines_read
 read_joined [] later r = refl
@@ -60,12 +62,14 @@ end_behind before r =
 kept : (r : Reading) → r ≡ told_before (parts_read r) (handed_on r)
 kept r = ap (λ (ps : List PartContent). record r { gathering = record r.gathering { parts = ps } }) (sym (append-nil (parts_read r)))
 
+-- parts that were handed on stand before those that the next lines tell
 pub hand_on : (lines : List (List ℕ)) (r : Reading) → parts_at_end (lines_read r lines) ≡ parts_read r ++ parts_at_end (lines_read (handed_on r) lines)
 hand_on lines r =
     ap (λ (s : Reading). parts_at_end (lines_read s lines)) (kept r)
     ∙ ap parts_at_end (lines_behind lines (parts_read r) (handed_on r))
     ∙ end_behind (parts_read r) (lines_read (handed_on r) lines)
 
+-- parts that lines complete are the first ones of the text, whatever comes after
 pub parts_come_in_turn : PartsComeInTurn
 parts_come_in_turn text lines later joins =
     read_whole text

@@ -27,6 +27,7 @@ steady_joined [] = refl
 steady_joined (piece ∷ pieces) =
     ap (λ (ss : List SectionContent). steady_sections piece ++ ss) (steady_joined pieces) ∙ sym (map-append steady_section piece (flat_map (λ (page : List SectionContent). page) pieces))
 
+-- the rows of groups of lines are those of the text, where each part is known
 pub rows_are_those_of_the_whole : RowsAreThoseOfTheWhole
 rows_are_those_of_the_whole rules ascii width text groups rows joins known laid =
     let pieces = pieces_shown nothing_come groups in

@@ -59,6 +59,7 @@ groups_shown (lines ∷ groups) s =
     ∙ sections_joined (parts_read read) (parts_at_end (lines_read (handed_on read) later)) s.streamed
     )
 
+-- the sections of groups of lines are those of the text, wherever it is cut
 pub cuts_dont_matter : CutsDontMatter
 unfolding streamed_sections
 cuts_dont_matter text groups joins =
@@ -98,6 +99,7 @@ group_links (lines ∷ groups) s =
     ∙ links_come (parts_read read) (parts_at_end (lines_read (handed_on read) later)) s.streamed
     )
 
+-- so are their links
 pub cuts_dont_matter_to_links : CutsDontMatterToLinks
 unfolding streamed_links
 cuts_dont_matter_to_links text groups joins =

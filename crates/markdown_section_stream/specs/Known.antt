@@ -28,6 +28,7 @@ abbrev pub AreKnown : Defined → Defined → List PartContent → Type 0
 AreKnown all defined [] = Unit {0}
 AreKnown all defined (part ∷ parts) = SaysTheSame (part_defined defined part) all part × AreKnown all (part_defined defined part) parts
 
+-- the leaf is one of definitions
 abbrev pub is_definitions : Kind → Bool
 is_definitions Definitions = true
 is_definitions _ = false

@@ -64,6 +64,7 @@ LinesComeInTurn = (front later : List ℕ) → text_lines (front ++ 10 ∷ later
 abbrev pub KnownIsWhole : Type 0
 KnownIsWhole = (text : List ℕ) → AreKnown (definitions_of (parts_of text)) nothing_defined (parts_of text) → streamed_sections text ≡ printable_sections text
 
+-- Then its links are those of the whole, too.
 abbrev pub KnownHasLinks : Type 0
 KnownHasLinks = (text : List ℕ) → AreKnown (definitions_of (parts_of text)) nothing_defined (parts_of text) → streamed_links text ≡ unmarked_links text
 

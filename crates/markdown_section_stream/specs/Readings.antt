@@ -12,9 +12,11 @@ pub record Reading : Type 0 where
   pub state : State
   pub gathering : Gathering
 
+-- before the first line nothing is open, and nothing is told
 abbrev pub nothing_read : Reading
 nothing_read = record { state = record { containers = []; leaf = Nothing; defining = []; cells = 0 }; gathering = nothing_told }
 
+-- what is open after a step, and what its events tell
 abbrev pub step_read : Reading → Step → Reading
 step_read r done = record { state = done.state; gathering = told r.gathering (step_events r.state done) }
 

@@ -12,6 +12,7 @@ pub record Streamed : Type 0 where
   pub defined : Defined
   pub mapping : Mapping
 
+-- before the first part nothing is defined, and nothing is shown
 abbrev pub nothing_streamed : Streamed
 nothing_streamed = record { defined = nothing_defined; mapping = nothing_shown }
 

@@ -10,6 +10,7 @@ use Rattle.markdown_section_stream.specs.Streamed.{Streamed, nothing_streamed, p
 abbrev pub taken : Mapping → Mapping
 taken m = record m { sections = []; links = [] }
 
+-- the sections and links so far were taken; the definitions stay
 abbrev pub taken_from : Streamed → Streamed
 taken_from s = record s { mapping = taken s.mapping }
 
@@ -26,6 +27,7 @@ pub record Streaming : Type 0 where
   pub reading : Reading
   pub streamed : Streamed
 
+-- before the first line comes, nothing is open, and nothing is shown
 abbrev pub nothing_come : Streaming
 nothing_come = record { reading = nothing_read; streamed = nothing_streamed }
 
@@ -33,6 +35,7 @@ nothing_come = record { reading = nothing_read; streamed = nothing_streamed }
 abbrev pub shown_from : Streaming → Reading → Streamed
 shown_from s read = parts_streamed (parts_read read) s.streamed
 
+-- lines come, and the parts that they complete are shown
 abbrev pub lines_shown : Streaming → List (List ℕ) → Streamed
 lines_shown s lines = shown_from s (lines_read s.reading lines)
 

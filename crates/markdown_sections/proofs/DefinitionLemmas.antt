@@ -6,6 +6,7 @@ use Rattle.markdown_brackets.specs.Labels.{with_label}
 use Rattle.markdown_lines.specs.Links.{Defined, definition_address}
 use Rattle.markdown_sections.specs.Definitions.{with_definition}
 
+-- these labels are defined, each with the address at its place
 abbrev pub defined_with : List (List ℕ) → List (List ℕ) → Defined
 defined_with labels addresses = record { labels = labels; addresses = addresses }
 

@@ -278,6 +278,7 @@ parts_began count defined (part ∷ parts) m h =
     let sum : items_of parts + (begun_by part + count) ≡ (begun_by part + items_of parts) + count = omega arith in
     subst (λ (k : ℕ). Began k (shown_parts defined parts (shown_part defined part m))) sum more
 
+-- each item's bullet, number or box is in front of exactly one row
 pub faces_once : FacesOnce
 faces_once defined parts =
     let all = parts_began 0 defined parts nothing_shown (record { within = omega arith; faces = refl }) in

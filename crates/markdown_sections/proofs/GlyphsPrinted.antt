@@ -26,9 +26,11 @@ use Rattle.markdown_lines.specs.Printed.{is_obeyed, IsPrintedRun, IsPrintedLine,
 printable_clean : (c : ℕ) → is_printable c ≡ true → is_obeyed c ≡ false
 printable_clean c h = grind (arith, nat_tests)
 
+-- no character is obeyed as it is shown
 pub none_obeyed : (c : ℕ) → is_obeyed (shown_char c) ≡ false
 none_obeyed c = printable_clean (shown_char c) (shown_is c)
 
+-- where no character of two texts is obeyed, none is of both together
 pub none_append : (xs ys : List ℕ) → NonePass is_obeyed xs → NonePass is_obeyed ys → NonePass is_obeyed (xs ++ ys)
 none_append [] ys h k = k
 none_append (x ∷ xs) ys h k = (h.0, none_append xs ys h.1 k)
@@ -128,14 +130,17 @@ clean_runs (g ∷ gs) h = from_printed g.flags (encode_utf8 g.c) gs (one_text g.
 
 -- ---- rows
 
+-- where there are no lines, no character is obeyed
 pub nothing_printed : ArePrinted []
 unfolding ArePrinted
 nothing_printed = tt
 
+-- where no character of a line and of others is obeyed, none is of all
 pub cons_printed : (line : LineContent) (lines : List LineContent) → IsPrintedLine line → ArePrinted lines → ArePrinted (line ∷ lines)
 unfolding ArePrinted
 cons_printed line lines h k = (h, k)
 
+-- where no character is obeyed in both cases, none is of what a condition chooses
 pub if_printed : (t : Bool) (a b : List LineContent) → ArePrinted a → ArePrinted b → ArePrinted (if t then a else b)
 if_printed true a b h k = h
 if_printed false a b h k = k
@@ -155,6 +160,7 @@ rows_clean row (g ∷ gs) h k =
     (λ e. cons_printed (row_of row) (rows_from [] gs) (row_printed row h) (rows_clean [] gs tt k.1))
     (λ e. rows_clean (row ++ g ∷ []) gs (append_kept IsClean row (g ∷ []) h (clean_of g e k.0, tt)) k.1)
 
+-- no character of a leaf's rows is obeyed
 pub leaf_printed : (labels : List (List ℕ)) (text : List ℕ) → ArePrinted (leaf_rows labels text)
 unfolding leaf_rows
 leaf_printed labels text =
@@ -176,6 +182,7 @@ spaced_clean bold shown row (g ∷ gs) s h k =
     (append_kept IsClean (shown ++ trimmed row) (space bold ∷ []) (append_kept IsClean shown (trimmed row) s (trimmed_kept IsClean row h)) (refl, tt)) tt k.1)
     (λ e. spaced_clean bold shown (row ++ g ∷ []) gs s (append_kept IsClean row (g ∷ []) h (clean_of g e k.0, tt)) k.1)
 
+-- no character of a cell's runs is obeyed
 pub cell_printed : (labels : List (List ℕ)) (bold : Bool) (text : List ℕ) → AllByRecursion IsPrintedRun (cell_runs labels bold text)
 unfolding cell_runs
 cell_printed labels bold text =

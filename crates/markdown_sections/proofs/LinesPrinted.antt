@@ -37,6 +37,7 @@ unfolding expanded
 none_expanded column [] = tt
 none_expanded column (c ∷ cs) = none_append (expanded_char column c) (expanded (next_column column c) cs) (none_char (c == 9) _ c) (none_expanded (next_column column c) cs)
 
+-- no character of a text is obeyed as it is shown
 pub text_printed : (text : List ℕ) → NoCharPasses is_obeyed (shown_text text)
 unfolding shown_text
 text_printed text = (map shown_char (chars text), refl, none_shown (chars text))
@@ -53,6 +54,7 @@ first_printed : (line : LineContent) (lines : List LineContent) → ArePrinted (
 unfolding ArePrinted
 first_printed line lines h = h
 
+-- where no character of some lines and of others is obeyed, none is of all
 pub append_printed : (xs ys : List LineContent) → ArePrinted xs → ArePrinted ys → ArePrinted (xs ++ ys)
 append_printed [] ys h k = k
 append_printed (x ∷ xs) ys h k = let parts = first_printed x xs h in cons_printed x (xs ++ ys) parts.0 (append_printed xs ys parts.1 k)
@@ -64,6 +66,7 @@ texts_printed : (texts : List (List ℕ)) → ArePrinted (map html_row texts)
 texts_printed [] = nothing_printed
 texts_printed (text ∷ texts) = cons_printed (html_row text) (map html_row texts) (plain_printed text) (texts_printed texts)
 
+-- no character of the rows of html is obeyed
 pub html_printed : (text : List ℕ) → ArePrinted (html_lines text)
 unfolding html_lines
 html_printed text = texts_printed (html_rows text)
@@ -74,6 +77,7 @@ runs_printed (table_row cells) h = tt
 runs_printed (table_rule rule) h = tt
 runs_printed horizontal_rule h = tt
 
+-- where no character of rows is obeyed, none is in other styles
 pub restyled_printed : (first others : CompositeStyle) (rows : List LineContent) → ArePrinted rows → ArePrinted (restyled first others rows)
 unfolding restyled
 restyled_printed first others [] h = nothing_printed
@@ -87,6 +91,7 @@ if_line : (t : Bool) (a b : LineContent) → IsPrintedLine a → IsPrintedLine b
 if_line true a b h k = h
 if_line false a b h k = k
 
+-- no character of lines of code is obeyed
 pub code_lines_printed : (column : ℕ) (lines : List Remaining) → ArePrinted (code_lines column lines)
 unfolding code_lines
 code_lines_printed column [] = nothing_printed
@@ -110,6 +115,7 @@ ruled_printed labels columns rule head lines =
     cons_printed (table_rule rule) _ tt (cons_printed (row_said labels true columns head) _ (cells_printed labels true (shown_cells columns head.bytes) (row_of head.bytes))
     (append_printed (body labels columns rule lines) (table_rule rule ∷ []) (body_printed labels columns rule lines) (cons_printed (table_rule rule) [] tt nothing_printed)))
 
+-- no character of a table's lines is obeyed
 pub table_printed : (labels : List (List ℕ)) (columns : ℕ) (lines : List Remaining) → ArePrinted (table_lines labels columns lines)
 unfolding table_lines
 table_printed labels columns [] = nothing_printed

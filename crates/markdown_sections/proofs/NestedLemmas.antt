@@ -328,6 +328,7 @@ parts_fit opened defined (part ∷ parts) m h =
     let s = part_steps opened defined part m h in
     parts_fit (opened_by part (length m.sections) opened) defined parts (shown_part defined part m) s.fits
 
+-- each part is shown behind exactly the containers that are open
 pub sections_nest : SectionsNest
 sections_nest defined parts part =
     let fits = parts_fit [] defined parts nothing_shown (record { gutters = tt; seen = refl }) in
@@ -377,5 +378,6 @@ parts_may opened defined (part ∷ parts) m h k =
     let new = nested_may (form_by part) opened (length m.sections) s.adds.new s.adds.nested in
     parts_may (opened_by part (length m.sections) opened) defined parts (shown_part defined part m) s.fits (subst (AllByRecursion MayBeListed) (sym s.adds.joins) (both_may m.sections s.adds.new k new))
 
+-- each section is no list, or may be one behind a further bullet
 pub may_be_listed : SectionsMayBeListed
 may_be_listed defined parts = parts_may [] defined parts nothing_shown (record { gutters = tt; seen = refl }) tt

@@ -39,6 +39,7 @@ use Rattle.markdown_sections.proofs.LinesPrinted.{html_printed, restyled_printed
 
 -- ---- sections
 
+-- where there are no sections, no character is obeyed
 pub no_sections : ArePrintedSections []
 unfolding ArePrintedSections
 no_sections = tt

@@ -16,15 +16,17 @@ items_in (g ∷ gutters) = if is_item g then 1 + items_in gutters else items_in 
 abbrev pub faces_in : SectionContent → ℕ
 faces_in s = items_in (drop (length s.gutters - s.fresh) s.gutters)
 
+-- how many items begin with these sections
 abbrev pub faces_of : List SectionContent → ℕ
 faces_of [] = 0
 faces_of (s ∷ sections) = faces_in s + faces_of sections
 
--- how many items begin among parts
+-- how many items begin with a part
 abbrev pub begun_by : PartContent → ℕ
 begun_by (begins (Item sign number content) apart) = 1
 begun_by _ = 0
 
+-- how many items begin among parts
 abbrev pub items_of : List PartContent → ℕ
 items_of [] = 0
 items_of (part ∷ parts) = begun_by part + items_of parts

@@ -55,6 +55,7 @@ pub record Mapping : Type 0 where
 abbrev pub no_list : Counted
 no_list = record { sign = 0; next = 0 }
 
+-- before the text nothing is shown, and no container is open
 abbrev pub nothing_shown : Mapping
 nothing_shown = record { sections = []; links = []; gutters = []; seen = 0; lists = no_list ∷ []; item_apart = false; since = false; apart = false; some = false; big = false }
 
@@ -70,14 +71,17 @@ with_list lists list = take (length lists - 1) lists ++ list ∷ []
 abbrev pub number_in : Counted → ℕ → ℕ → ℕ
 number_in list sign number = if list.sign == sign then list.next else number
 
+-- the list after an item: its next number is one more, but fits 32 bits
 abbrev pub list_after : ℕ → ℕ → Counted
 list_after sign number = record { sign = sign; next = min (number + 1) 4294967295 }
 
 -- ---- gutters
 
+-- an item that has this sign has a number
 abbrev pub is_number : ℕ → Bool
 is_number sign = (sign == 46) || (sign == 41)
 
+-- the gutter that an item has: its number, or a bullet
 abbrev pub item_gutter : ℕ → ℕ → Gutter
 item_gutter sign number = if is_number sign then Number number else Bullet
 
@@ -91,6 +95,7 @@ is_item _ = true
 abbrev pub up_to_bar : List Gutter → List Gutter
 up_to_bar gutters = take (length gutters - suffix_len is_item gutters) gutters
 
+-- the gutter of the innermost open container, if there is one
 abbrev pub last_gutter : List Gutter → Option Gutter
 last_gutter gutters = if length gutters == 0 then None else Some (slice_index_or gutters (length gutters - 1) Bar)
 
@@ -123,6 +128,7 @@ items_gutters _ gutters = None
 abbrev pub section_of : Form → List LineContent → Mapping → SectionContent
 section_of form lines m = record { gutters = leaf_gutters form m.gutters; fresh = length (leaf_gutters form m.gutters) - m.seen; list = items_gutters form m.gutters; lines = lines }
 
+-- one more section, by which something of all open containers is shown
 abbrev pub with_section : Form → List LineContent → Mapping → Mapping
 with_section form lines m = record m { sections = m.sections ++ section_of form lines m ∷ []; seen = length m.gutters }
 
@@ -130,6 +136,7 @@ with_section form lines m = record m { sections = m.sections ++ section_of form 
 abbrev pub blank_row : Mapping → SectionContent
 blank_row m = record { gutters = up_to_bar (take m.seen m.gutters); fresh = 0; list = None; lines = empty_line Paragraph ∷ [] }
 
+-- something is shown, and then blank lines came, or one of both is big
 abbrev pub is_spaced : Bool → Bool → Mapping → Bool
 is_spaced apart big m = m.some && (apart || big || m.big)
 
@@ -137,13 +144,15 @@ is_spaced apart big m = m.some && (apart || big || m.big)
 abbrev pub spaced : Bool → Bool → Mapping → Mapping
 spaced apart big m = if is_spaced apart big m then record m { sections = m.sections ++ blank_row m ∷ [] } else m
 
--- links of the next section
+-- a link that is in this section
 abbrev pub link_at : ℕ → List ℕ → LinkSaid
 link_at section address = record { section = section; address = address }
 
+-- these are links of the next section
 abbrev pub linked : List (List ℕ) → Mapping → Mapping
 linked addresses m = record m { links = m.links ++ map (link_at (length m.sections)) addresses }
 
+-- one more section, and where its links lead; no blank lines came since
 abbrev pub added : Form → List LineContent → List (List ℕ) → Mapping → Mapping
 added form lines addresses m = record (with_section form lines (linked addresses m)) { apart = false; some = true; big = is_big form }
 
@@ -161,9 +170,11 @@ passed apart m = record m { apart = m.apart || apart; since = m.since || apart }
 abbrev pub list_ended : Mapping → Mapping
 list_ended m = record m { lists = with_list m.lists no_list }
 
+-- a quote begins, which ends the list beside it
 abbrev pub quote_begun : Mapping → Mapping
 quote_begun m = record m { gutters = m.gutters ++ Bar ∷ []; lists = with_list m.lists no_list ++ no_list ∷ [] }
 
+-- an item begins, whose list goes on with the next number
 abbrev pub numbered : ℕ → ℕ → Mapping → Mapping
 numbered sign number m = record m {
   gutters = m.gutters ++ item_gutter sign number ∷ [];
@@ -172,10 +183,12 @@ numbered sign number m = record m {
   since = false;
 }
 
+-- a container begins
 abbrev pub begun : Container → Mapping → Mapping
 begun Quote m = quote_begun m
 begun (Item sign number content) m = numbered sign (number_in (last_list m.lists) sign number) m
 
+-- an item's row is shown, and only blank lines came since it began
 abbrev pub nothing_since : Mapping → Mapping
 nothing_since m = record m { apart = m.since; some = true; big = false }
 
@@ -183,13 +196,16 @@ nothing_since m = record m { apart = m.since; some = true; big = false }
 abbrev pub item_ended : Mapping → Mapping
 item_ended m = nothing_since (with_section Words (empty_line Paragraph ∷ []) (spaced m.item_apart false m))
 
+-- the container ends whose gutter is new, if there is one: only an item has a row then
 abbrev pub ended_by : Option Gutter → Mapping → Mapping
 ended_by None m = m
 ended_by (Some gutter) m = if is_item gutter then item_ended m else m
 
+-- the innermost container is open no more
 abbrev pub closed : Mapping → Mapping
 closed m = record m { gutters = take (length m.gutters - 1) m.gutters; lists = take (length m.lists - 1) m.lists; seen = min m.seen (length m.gutters - 1) }
 
+-- a container ends
 abbrev pub ended : Mapping → Mapping
 ended m = closed (ended_by (new_gutter m) m)
 
@@ -199,12 +215,15 @@ ended m = closed (ended_by (new_gutter m) m)
 abbrev pub text_of : List ℕ → List ℕ
 text_of bytes = utf8_lossy (without_end 32 9 bytes)
 
+-- the rows that a text shows
 abbrev pub words : Defined → List ℕ → List LineContent
 words defined bytes = leaf_rows defined.labels (text_of bytes)
 
+-- where the links of a text lead
 abbrev pub addresses_in : Defined → List ℕ → List (List ℕ)
 addresses_in defined bytes = leaf_addresses defined (text_of bytes)
 
+-- the rows and links of a text are shown
 abbrev pub words_shown : Defined → List ℕ → Mapping → Mapping
 words_shown defined bytes m = put Words (words defined bytes) (addresses_in defined bytes) m
 
@@ -213,6 +232,7 @@ abbrev pub task_by : Option Bool → Defined → List ℕ → Mapping → Mappin
 task_by None defined bytes m = words_shown defined bytes m
 task_by (Some done) defined bytes m = words_shown defined (after_box bytes) (boxed done m)
 
+-- the flags that a text in bold has
 abbrev pub bold : Flags
 bold = record { bold = true; italic = false; code = false; strikeout = false; link = false }
 
@@ -231,22 +251,27 @@ paragraph_by (Some Bullet) defined bytes m = task_by (box_of bytes) defined byte
 paragraph_by (Some Bar) defined bytes m = alert_by (alert_of bytes) defined bytes m
 paragraph_by _ defined bytes m = words_shown defined bytes m
 
+-- the style that a heading's rows have
 abbrev pub heading_style : ℕ → CompositeStyle
 heading_style level = Header (min level 255)
 
+-- the rows and links of a heading are shown
 abbrev pub heading_shown : Defined → ℕ → List ℕ → Mapping → Mapping
 heading_shown defined level bytes m = put Large (restyled (heading_style level) (heading_style level) (words defined bytes)) (addresses_in defined bytes) m
 
--- where the links of a table lead
+-- where a link of a table leads
 abbrev pub address_said : line_links.LinkSaid → List ℕ
 address_said link = link.address
 
+-- where the links of a table lead
 abbrev pub table_addresses : Defined → ℕ → List Remaining → List (List ℕ)
 table_addresses defined columns lines = map address_said (table_links defined columns 0 lines)
 
+-- the lines of code are shown in a box
 abbrev pub code_shown : List Remaining → Mapping → Mapping
 code_shown lines m = put Boxed (code_lines 0 lines) [] m
 
+-- a leaf is shown as its kind is; nothing and definitions aren't shown
 abbrev pub leaf_shown : Defined → Kind → List Remaining → Mapping → Mapping
 leaf_shown defined ParagraphKind lines m = paragraph_by (new_gutter m) defined (joined [] lines) m
 leaf_shown defined Html lines m = put Words (html_lines (joined [] lines)) [] m

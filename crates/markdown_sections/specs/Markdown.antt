@@ -8,6 +8,7 @@ pub use Rattle.markdown_sections.specs.Steady.{steady_sections, AreSteadySection
 use Rattle.markdown_sections.specs.Definitions.{definitions_of}
 use Rattle.markdown_sections.specs.Mapping.{LinkSaid, Mapping, nothing_shown, shown_parts}
 
+-- what parts are shown as, by all definitions among them
 abbrev pub parts_shown : List PartContent → Mapping
 parts_shown parts = shown_parts (definitions_of parts) parts nothing_shown
 

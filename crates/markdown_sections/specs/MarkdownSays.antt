@@ -5,8 +5,10 @@ pub use Rattle.markdown_sections.specs.Mapping.{LinkSaid}
 pub use Rattle.markdown_sections.specs.SectionsSaid.{link_said, section_said}
 use Rattle.markdown_sections.specs.declared.markdown.Markdown.{Markdown}
 
+-- the sections of a text that was read
 abbrev pub markdown_says : Markdown → List SectionContent
 markdown_says markdown = map section_said markdown.sections.items
 
+-- the links of a text that was read
 abbrev pub links_said : Markdown → List LinkSaid
 links_said markdown = map link_said markdown.links.items

@@ -10,6 +10,7 @@ pub use Rattle.markdown_lines.specs.Printed.{is_obeyed, IsPrintedRun, IsPrintedC
 unfoldable pub ArePrintedSections : List SectionContent → Type 0
 ArePrintedSections sections = AllByRecursion (λ (s : SectionContent). ArePrinted s.lines) sections
 
+-- no character of the link's address is obeyed
 abbrev pub IsPrintedLink : LinkSaid → Type 0
 IsPrintedLink link = NoCharPasses is_obeyed link.address
 

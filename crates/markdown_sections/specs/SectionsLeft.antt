@@ -4,5 +4,6 @@ use Rattle.mad_sections.specs.Sections.{SectionContent}
 use Rattle.markdown_sections.specs.SectionsSaid.{section_said}
 use Rattle.markdown_sections.specs.declared.markdown.Sections.{Sections}
 
+-- the sections that a cursor hasn't passed yet
 abbrev pub sections_left : Sections → List SectionContent
 sections_left cursor = map section_said cursor.rest.now

@@ -15,8 +15,10 @@ abbrev pub lines_said : Option Lines → List LineContent
 lines_said None = empty_line Paragraph ∷ []
 lines_said (Some lines) = shown lines
 
+-- what a section says
 abbrev pub section_said : MarkdownSection → SectionContent
 section_said s = record { gutters = s.gutters.items; fresh = s.fresh; list = option_map (λ gs. gs.items) s.list; lines = lines_said s.lines }
 
+-- what a link says
 abbrev pub link_said : Link → LinkSaid
 link_said link = record { section = link.section; address = string_bytes link.address }

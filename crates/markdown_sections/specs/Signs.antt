@@ -41,6 +41,7 @@ line_len (b ∷ bs) = if b == 10 then 0 else 1 + line_len bs
 abbrev pub first_line : List ℕ → List ℕ
 first_line text = without_end 32 9 (take (line_len text) text)
 
+-- what follows the first line
 abbrev pub after_line : List ℕ → List ℕ
 after_line text = drop (line_len text + 1) text
 

@@ -4,6 +4,7 @@ use Rattle.std.specs.List.{AllByRecursion}
 use Rattle.mad_sections.specs.Sections.{SectionContent}
 pub use Rattle.markdown_lines.specs.Steady.{steady_lines, AreSteadyLines}
 
+-- a section, each of whose runs is steady
 abbrev pub steady_section : SectionContent → SectionContent
 steady_section s = record { gutters = s.gutters; fresh = s.fresh; list = s.list; lines = steady_lines s.lines }
 

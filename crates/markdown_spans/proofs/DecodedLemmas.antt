@@ -3,12 +3,14 @@ use Rattle.std.proofs.Common.{◌≡◌, ℕ, zero, suc, ◌≤◌, Bool, List, 
 use Rattle.std.proofs.lemmas.List.{length-drop, take_all}
 use Rattle.markdown_spans.specs.Decoded.{Part, part_of, decoded_from}
 
+-- bytes that belong to the last part are passed
 pub decoded_skip : (escapes : Bool) (skip : ℕ) (bs : List ℕ) → decoded_from escapes skip bs ≡ decoded_from escapes 0 (drop skip bs)
 unfolding decoded_from
 decoded_skip escapes zero bs = refl
 decoded_skip escapes (suc skip) [] = refl
 decoded_skip escapes (suc skip) (b ∷ bs) = decoded_skip escapes skip bs
 
+-- one more part is put, and those behind it are to come
 pub decoded_next : (escapes : Bool) (rest after now next whole : List ℕ) (more : ℕ) → 1 ≤ length rest → after ≡ drop 1 rest → now ++ decoded_from escapes 0 rest ≡ whole
     → next ≡ now ++ (part_of escapes (get_or rest 0 0) after).bytes → more ≡ (part_of escapes (get_or rest 0 0) after).more → next ++ decoded_from escapes 0 (drop more after) ≡ whole
 unfolding decoded_from

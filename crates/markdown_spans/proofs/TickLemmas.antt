@@ -95,6 +95,7 @@ tickless_front : (bs : List ℕ) → IsTickless (drop (prefix_len (λ b. eqb b 9
 tickless_front [] = tt
 tickless_front (b ∷ bs) = tickless_with b bs (eqb b 96) (prefix_len (λ b. eqb b 96) bs) (1 + prefix_len (λ b. eqb b 96) bs) refl (omega arith) (tickless_front bs)
 
+-- behind all backquotes in front no further one follows
 pub tickless : (at n : ℕ) (text : List ℕ) → n ≡ count_in_front 96 (drop at text) → IsTickless (drop (at + n) text)
 unfolding count_in_front
 tickless at n text e =
@@ -123,9 +124,11 @@ no_run n at last (b ∷ bs) some none =
     ∙ ap (λ t. last_run n 0 (at + 0 + 1) (cond t (at + 1) last) bs) (not_zero n some)
     ∙ no_run n (at + 0 + 1) last bs some (λ k. none (suc k))
 
+-- where a search finds no backquote, no run of them is the last of its length
 pub no_runs : (lasts text : List ℕ) → lasts ≡ [] → Nowhere (Passes (is_byte 96) text) 0 (length text) → AreLasts lasts text
 no_runs lasts text e none n some = ap (λ (l : List ℕ). get_or l n 0) e ∙ sym (no_run n 0 0 text some (none_at text none))
 
+-- so it is where the search's answer says that there is none
 pub no_runs_by : (r : Option ℕ) (lasts text : List ℕ) → lasts ≡ [] → IsFirstByte (is_byte 96) text r → is_some r ≡ false → AreLasts lasts text
 no_runs_by None lasts text e none h = no_runs lasts text e none
 no_runs_by (Some k) lasts text e none h = absurd (no h)

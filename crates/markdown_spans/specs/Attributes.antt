@@ -18,9 +18,11 @@ use Rattle.markdown_spans.specs.declared.attributes.Html.TheVariants.{Nothing, B
 
 -- ---- names
 
+-- the byte is a letter, a digit or a hyphen
 abbrev pub is_name_byte : ℕ → Bool
 is_name_byte b = is_ascii_alphanumeric b || (b == 45)
 
+-- the place is in an attribute's name
 abbrev pub is_attribute : Place → Bool
 is_attribute Attribute = true
 is_attribute _ = false
@@ -33,20 +35,25 @@ goes_on b = is_attribute (next_place Attribute b)
 abbrev pub is_tag_named : List ℕ → List ℕ → Bool
 is_tag_named name bytes = same_letters name (take (prefix_len is_name_byte bytes) bytes)
 
+-- the attribute in front has this name, in letters of any case
 abbrev pub is_attribute_named : List ℕ → List ℕ → Bool
 is_attribute_named name bytes = same_letters name (take (prefix_len goes_on bytes) bytes)
 
 -- ---- the value of an attribute: in quotes, or without them
 
+-- a value that begins at this place and has so many bytes
 abbrev pub value : ℕ → ℕ → Value
 value start len = record { start = start; len = len }
 
+-- a byte of a value without quotes, to which no end of a line belongs
 abbrev pub is_value_byte : ℕ → Bool
 is_value_byte b = is_plain_byte (spaced b)
 
+-- a byte that doesn't end a value in single quotes
 abbrev pub is_single : ℕ → Bool
 is_single b = not (b == 39)
 
+-- a byte that doesn't end a value in double quotes
 abbrev pub is_double : ℕ → Bool
 is_double b = not (b == 34)
 
@@ -76,6 +83,7 @@ attribute_from name len at place (b ∷ bs) =
 
 -- ---- what is shown
 
+-- an image shows its alternative text, if it has one
 abbrev pub alternative_by : Option Value → Html
 alternative_by None = Nothing
 alternative_by (Some value) = Alternative value

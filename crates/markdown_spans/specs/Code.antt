@@ -5,6 +5,7 @@ use Rattle.markdown_marks.specs.Bytes.{count_in_front}
 use Rattle.markdown_spans.specs.declared.code.Code.{Code}
 use Rattle.markdown_spans.specs.Ticks.{run_at}
 
+-- a code span that has so many backquotes on each side, and so many bytes between them
 abbrev pub code_with : ℕ → ℕ → Code
 code_with marks len = record { marks = marks; len = len }
 
@@ -18,6 +19,7 @@ code_of rest =
 abbrev pub spaced : ℕ → ℕ
 spaced b = if b == 10 then 32 else b
 
+-- what is shown as a space in code
 abbrev pub is_space : ℕ → Bool
 is_space b = spaced b == 32
 

@@ -10,17 +10,21 @@ pub record Part : Type 0 where
   pub bytes : List ℕ
   pub more : ℕ
 
+-- a byte that stands for itself
 abbrev pub itself : ℕ → Part
 itself b = record { bytes = b ∷ []; more = 0 }
 
+-- the bytes of a second character, if there is one
 abbrev pub second_bytes : Option ℕ → List ℕ
 second_bytes None = []
 second_bytes (Some c) = encode_utf8 c
 
+-- the entity that is found; else the byte stands for itself
 abbrev pub entity_part : ℕ → Option Entity → Part
 entity_part b None = itself b
 entity_part b (Some entity) = record { bytes = encode_utf8 entity.shown ++ second_bytes entity.second; more = entity.len }
 
+-- a sign that is escaped stands for itself; no other backslash escapes anything
 abbrev pub escape_part : ℕ → Escape → Part
 escape_part b (Sign sign) = record { bytes = sign ∷ []; more = 1 }
 escape_part b Break = itself b

@@ -28,6 +28,7 @@ value_after n (b ∷ bs) = value_after (n * 16 + digit b) bs
 abbrev pub char_of : ℕ → ℕ
 char_of n = if (n == 0) || (nat_le 55296 n && nat_lt n 57344) || nat_lt 1114111 n then 65533 else n
 
+-- an entity of so many bytes that stands for this character
 abbrev pub with_char : ℕ → ℕ → Entity
 with_char len c = record { shown = c; second = None; len = len }
 
@@ -45,9 +46,11 @@ decimal bytes =
     if (len == 0) || nat_lt 7 len || not (first (drop len bytes) == 59) then None
     else Some (with_char (len + 2) (char_of (digits_value 10 (take len bytes))))
 
+-- the entity that a number writes, with an x in front in hexadecimal digits
 abbrev pub numeric : List ℕ → Option Entity
 numeric rest = if (first rest == 120) || (first rest == 88) then hexadecimal (drop 1 rest) else decimal rest
 
+-- an entity of so many bytes that stands for what its name says
 abbrev pub with_named : ℕ → Named → Entity
 with_named len n = record { shown = n.first; second = n.second; len = len }
 

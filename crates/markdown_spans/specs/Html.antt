@@ -25,6 +25,7 @@ other_end bytes =
 abbrev pub html_end : List ℕ → Option (List ℕ)
 html_end bytes = or_else (tag_end bytes) (other_end bytes)
 
+-- how many bytes raw html has after its sign <
 abbrev pub html_len : List ℕ → Option ℕ
 html_len bytes = option_map (λ after. length bytes - length after) (html_end bytes)
 

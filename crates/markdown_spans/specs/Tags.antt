@@ -8,6 +8,7 @@ use Rattle.markdown_marks.specs.declared.tags.Place.{Place}
 use Rattle.markdown_marks.specs.declared.tags.Place.TheVariants.{Name, CloseName, Nowhere}
 use Rattle.markdown_spans.specs.Code.{spaced}
 
+-- what was read is no tag
 abbrev pub is_nowhere : Place → Bool
 is_nowhere Nowhere = true
 is_nowhere _ = false

@@ -2,6 +2,7 @@
 use Rattle.std.specs.Prelude.{ℕ, Bool, true, false, ◌&&◌, if◌then◌else◌, List, [], ◌∷◌, ◌++◌}
 use Rattle.markdown_marks.specs.Definitions.{is_space_byte}
 
+-- a space, where blanks are between two words
 abbrev pub gap_of : Bool → Bool → List ℕ
 gap_of begun gap = if begun && gap then 32 ∷ [] else []
 

@@ -4,11 +4,13 @@ use Rattle.mad_md.specs.Lines.{content_of}
 use Rattle.mad_md.specs.declared.line.Line.{Line}
 use Rattle.markdown_stream.specs.Gaps.{is_big, ends_big}
 
+-- where there are no lines, no big one is last
 pub none_big : (lines : List Line) → length lines ≡ 0 → false ≡ ends_big (map content_of lines)
 unfolding ends_big
 none_big [] none = refl
 none_big (l ∷ lines) none = absurd (omega arith)
 
+-- lines end with a big one where the last of them is big
 pub last_big : (lines : List Line) (d : Line) (n : ℕ) → n + 1 ≡ length lines → is_big (content_of (get_or lines n d)) ≡ ends_big (map content_of lines)
 unfolding ends_big
 last_big [] d n is = absurd (omega arith)

@@ -45,10 +45,12 @@ line_first begun text line rest later none first =
     both [] b h k = k
     both (x ∷ a) b h k = (h.0, both a b h.1 k)
 
+-- two texts without newlines have none together
 pub no_newline_both : (a b : List ℕ) → HasNoNewline a → HasNoNewline b → HasNoNewline (a ++ b)
 no_newline_both [] b h k = k
 no_newline_both (x ∷ a) b h k = (h.0, no_newline_both a b h.1 k)
 
+-- an empty text has no lines
 pub no_lines : source_lines [] ≡ []
 unfolding source_lines
 no_lines = refl
@@ -60,16 +62,19 @@ last_line b (c ∷ line) none = other_first b (c ∷ line) none.0 ∙ ap (onto_f
 
 -- ---- cuts
 
+-- what is open after one more line is what its step leaves
 pub open_more : (state : State) (done : List (List ℕ)) (text : List ℕ) → open_after state (done ++ text ∷ []) ≡ (source_read (open_after state done) text).state
 unfolding open_after
 open_more state [] text = refl
 open_more state (line ∷ done) text = open_more (source_read state line).state done text
 
+-- one more line is cut behind those that were
 pub cut_more : (state : State) (c : Cutting) (done : List (List ℕ)) (text : List ℕ) → lines_cut state c (done ++ text ∷ []) ≡ line_cut (source_read (open_after state done) text).role text (lines_cut state c done)
 unfolding lines_cut open_after
 cut_more state c [] text = refl
 cut_more state c (line ∷ done) text = cut_more (source_read state line).state (line_cut (source_read state line).role line c) done text
 
+-- lines are cut on where those before them end
 pub cut_both : (state : State) (c : Cutting) (done more : List (List ℕ)) → lines_cut state c (done ++ more) ≡ lines_cut (open_after state done) (lines_cut state c done) more
 unfolding lines_cut open_after
 cut_both state c [] more = refl
@@ -91,6 +96,7 @@ goes_on_line role text c =
     let d : Cutting = joined_by role text (completed_if role.begins c) in
     goes_on_both c d (completed_if role.ends d) (goes_on_if role.begins c) (goes_on_if role.ends d)
 
+-- parts that are complete stay so, whatever lines come
 pub goes_on : (state : State) (c : Cutting) (more : List (List ℕ)) → GoesOn c (lines_cut state c more)
 unfolding lines_cut
 goes_on state c [] = ([], sym (append-nil c.parts))
@@ -98,5 +104,6 @@ goes_on state c (text ∷ more) =
     let next = source_read state text in
     goes_on_both c (line_cut next.role text c) (lines_cut next.state (line_cut next.role text c) more) (goes_on_line next.role text c) (goes_on next.state (line_cut next.role text c) more)
 
+-- they stay so when the text ends
 pub goes_on_to_end : (state : State) (c : Cutting) (more : List (List ℕ)) → GoesOn c (completed (lines_cut state c more))
 goes_on_to_end state c more = goes_on_both c (lines_cut state c more) (completed (lines_cut state c more)) (goes_on state c more) (goes_on_if true (lines_cut state c more))

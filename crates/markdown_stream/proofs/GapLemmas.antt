@@ -60,6 +60,7 @@ pub record IsEnded (s : Showing) : Type 0 where
   pub alone : s.last.big ≡ false → (rest : List LineContent) → apart s.lines rest ≡ true
   pub none : s.last.some ≡ false → s.lines ≡ []
 
+-- so it is before the first part
 pub nothing_ended : IsEnded nothing_shown
 nothing_ended = record { alone = λ is rest. refl; none = λ is. refl }
 
@@ -87,6 +88,7 @@ pub apart_added : (s : Showing) (apart_ : Bool) (lines : List LineContent) → I
 apart_added s apart_ [] h = apart_end s.lines
 apart_added s apart_ (c ∷ lines) h = apart_gap s apart_ (c ∷ lines) h
 
+-- so it is after lines were added
 pub shown_ended : (s : Showing) (apart_ : Bool) (lines : List LineContent) → IsEnded s → IsEnded (lines_shown apart_ lines s)
 shown_ended s apart_ [] h = record {
   alone = λ is rest. subst (λ (ls : List LineContent). apart ls rest ≡ true) (sym (append-nil s.lines)) (h.alone is rest);

@@ -69,6 +69,7 @@ cut_joined state c (text ∷ texts) =
     let next = source_read state text in
     cut_joined next.state (line_cut next.role text c) texts ∙ ap (λ (l : List ℕ). l ++ joined_lines texts) (line_joined next.role text c) ∙ append_assoc (so_far c) text (joined_lines texts)
 
+-- the parts of a text, one after the other, are the text
 pub parts_are_the_text : PartsAreTheText
 parts_are_the_text text =
     let c : Cutting = cut_so_far (source_lines text) in
@@ -113,6 +114,7 @@ streamed : (text : List ℕ) → streamed_lines text ≡ (parts_shown nothing_sh
 unfolding unmarked_streamed
 streamed text = refl
 
+-- a text that is one part shows what it does as a whole
 pub one_part_is_whole : OnePartIsWhole
 one_part_is_whole text part h =
     let before : Showing = parts_shown nothing_shown h.before in

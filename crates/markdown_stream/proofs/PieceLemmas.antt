@@ -18,9 +18,11 @@ pub record PiecesFed (skin : RowSkin) (width : Option ℕ) (read : List ℕ) (s 
   pub skin_is : s.skin ≡ skin
   pub width_is : s.width ≡ width
 
+-- before the first piece nothing was fed
 pub pieces_start : (skin : RowSkin) (width : Option ℕ) (s : MarkdownStream) (out : Trace) → IsInStep [] s [] → s.skin ≡ skin → s.width ≡ width → PiecesFed skin width [] s out out
 pieces_start skin width s out h skin_is width_is = record { sent = []; went = sym (after-nil out); step = h; skin_is = skin_is; width_is = width_is }
 
+-- one more piece was fed
 pub pieces_more : (skin : RowSkin) (width : Option ℕ) (read next piece : List ℕ) (old new : MarkdownStream) (before between now : Trace) → PiecesFed skin width read old before between → Fed old piece new between (λ t. t) now → next ≡ read ++ piece → PiecesFed skin width next new before now
 pieces_more skin width read next piece old new before between now f fed more = record {
   sent = f.sent ++ fed.bytes;
@@ -46,6 +48,7 @@ refused_by T U skin width read piece whole later old new before between Memory n
   fed ∙ f.went,
 )
 
+-- where a piece is refused, so is the text that it is a part of
 pub pieces_refused : {T : Type 0} (U : Type 0) (r : Result T Error) (e : Error) (skin : RowSkin) (width : Option ℕ) (read piece whole later : List ℕ) (old new : MarkdownStream) (before between now : Trace) → PiecesFed skin width read old before between → Feeds {T = U} old piece new between (Err e) now → whole ≡ (read ++ piece) ++ later → IsErrAnd r (λ d. d ≡ e) → Finishes skin width whole [] before r now
 pieces_refused {T} U (Ok x) e skin width read piece whole later old new before between now f fed is refused = absurd refused
 pieces_refused {T} U (Err d) e skin width read piece whole later old new before between now f fed is refused =
@@ -57,6 +60,7 @@ streamed_in skin width s text bytes p q h = subst (λ (k : RowSkin). IsStreamed 
 went_on : (before between : Trace) (sent bytes : List ℕ) → between ≡ after before sent → after between bytes ≡ after before (sent ++ bytes)
 went_on before between sent bytes is = ap (λ t. after t bytes) is ∙ after-append before sent bytes
 
+-- where all pieces were fed, the stream's end is the text's
 pub pieces_done : {T : Type 0} (r : Result T Error) (skin : RowSkin) (width : Option ℕ) (read : List ℕ) (s : MarkdownStream) (before between now : Trace) → (f : PiecesFed skin width read s before between) → Finishes s.skin s.width read f.sent between r now → Finishes skin width read [] before r now
 pieces_done {T} (Ok x) skin width read s before between now f h = (f.sent ++ h.0, streamed_in skin width s read (f.sent ++ h.0) f.skin_is f.width_is h.1, h.2 ∙ went_on before between f.sent h.0 f.went)
 pieces_done {T} (Err (IO e)) skin width read s before between now f h = (f.sent ++ h.0, begins_in skin width s read (f.sent ++ h.0) f.skin_is f.width_is h.1, h.2 ∙ ap failed (went_on before between f.sent h.0 f.went))

@@ -7,11 +7,13 @@ use Rattle.markdown_stream.specs.Cuts.{SourcePart}
 use Rattle.markdown_stream.specs.Streamed.{Showing, nothing_shown, added, part_shown, parts_shown}
 use Rattle.markdown_stream.proofs.GapLemmas.{IsEnded, nothing_ended, shown_ended}
 
+-- one more part is shown behind the others
 pub shown_more : (s : Showing) (parts : List SourcePart) (part : SourcePart) → parts_shown s (parts ++ part ∷ []) ≡ part_shown part (parts_shown s parts)
 unfolding parts_shown
 shown_more s [] part = refl
 shown_more s (first ∷ parts) part = shown_more (part_shown first s) parts part
 
+-- parts are shown on behind those before them
 pub shown_both : (s : Showing) (parts more : List SourcePart) → parts_shown s (parts ++ more) ≡ parts_shown (parts_shown s parts) more
 unfolding parts_shown
 shown_both s [] more = refl
@@ -28,10 +30,12 @@ shown_goes_on s (part ∷ parts) =
       h.1 ∙ append_assoc s.lines own h.0,
     )
 
+-- after parts nothing goes on from the last line, unless it is big
 pub parts_ended : (s : Showing) (parts : List SourcePart) → IsEnded s → IsEnded (parts_shown s parts)
 unfolding parts_shown
 parts_ended s [] h = h
 parts_ended s (part ∷ parts) h = parts_ended (part_shown part s) parts (shown_ended s part.apart (unmarked_lines part.source) h)
 
+-- so it is after any parts of a text
 pub all_ended : (parts : List SourcePart) → IsEnded (parts_shown nothing_shown parts)
 all_ended parts = parts_ended nothing_shown parts nothing_ended

@@ -26,9 +26,11 @@ use Rattle.markdown_stream.proofs.StreamLemmas.{begins_streamed}
 
 -- ---- the end of a text
 
+-- the stream ends so, whatever was read and went out
 abbrev pub Ends : {T : Type 0} → MarkdownStream → Trace → Result T Error → Trace → Type 0
 Ends s before r now = (read sent : List ℕ) → IsInStep read s sent → Finishes s.skin s.width read sent before r now
 
+-- a refused end of the stream is a refused end of the source
 pub end_refused : (T U : Type 0) (e : Error) (s : MarkdownStream) (is_whole : Bool) (before now : Trace) → Ends {T = T} s before (Err e) now → EndsSource {T = U} s is_whole before (Err (refusal_of e)) now
 end_refused T U (writing.IO e) s is_whole before now ends = ends
 end_refused T U (writing.InsufficientWidth e) s is_whole before now ends = λ read sent h. absurd (ends read sent h)
@@ -49,11 +51,13 @@ end_unflushed T U V x (Device e) r s is_whole before written now ends h is =
 end_unflushed T U V x NotUtf8 r s is_whole before written now ends h is = absurd h
 end_unflushed T U V x Memory r s is_whole before written now ends h is = absurd h
 
+-- an end whose rows went out and were flushed is a whole one
 pub ends_whole : {T : Type 0} (x : T) (s : MarkdownStream) (before written now : Trace) → Ends {T = T} s before (Ok x) written → now ≡ flushed written → EndsFlushed s before now
 ends_whole {T} x s before written now ends flush = record { written = written; whole = ends; went = flush }
 
 -- ---- a block
 
+-- where rows are refused, the source stops in this block
 pub stops_at_rows : (T : Type 0) (old new : MarkdownStream) (block text : List ℕ) (before : Trace) (cause : Error) (now : Trace) → IsTextFront block text → Feeds {T = T} old text new before (Err cause) now
     → StopsInBlock old block before (refusal_of cause) now
 stops_at_rows T old new block text before (writing.IO e) now front fed = record {
@@ -80,6 +84,7 @@ begins_fed old new read sent text bytes skin width h =
     subst (λ (k : RowSkin). BeginsStreamed k old.width (read ++ text) (sent ++ bytes)) skin
     (subst (λ (w : Option ℕ). BeginsStreamed new.skin w (read ++ text) (sent ++ bytes)) width (begins_streamed (read ++ text) [] (read ++ text) (sent ++ bytes) new (sym (append-nil (read ++ text))) h))
 
+-- where a flush is refused, the source stops in this block
 pub stops_at_flush : (U : Type 0) (old new : MarkdownStream) (block text : List ℕ) (before between : Trace) (e : SourceError) (now : Trace) → IsTextFront block text → Fed old text new before (λ t. t) between → FlushesOut {T = U} between (Err e) now → StopsInBlock old block before e now
 stops_at_flush U old new block text before between (Source e) now front fed h = absurd h
 stops_at_flush U old new block text before between (Device e) now front fed h = record {
@@ -105,6 +110,7 @@ pub record SourceSoFar (skin : RowSkin) (width : Option ℕ) (source out : Trace
   pub skin_is : s.skin ≡ skin
   pub width_is : s.width ≡ width
 
+-- before the first block nothing was read, and nothing went out
 pub source_start : (skin : RowSkin) (width : Option ℕ) (source out : Trace) (s : MarkdownStream) (waiting : List ℕ) → waiting ≡ [] → IsInStep [] s [] → IsPrompt s → s.skin ≡ skin → s.width ≡ width → SourceSoFar skin width source out s waiting 0 source out
 source_start skin width source out s waiting none step prompt skin_is width_is = record {
   streamed = record { read = []; handed_out = ahead_none source; text = []; front = record { rest = []; joins = refl; utf8 = front_none.utf8; longest = front_none.longest }; bytes = []; flushes = 0; went = sym (after-nil out) };
@@ -167,6 +173,7 @@ complete_rows read sent s h prompt = record {
   rows = sym (h.behind.stands.rows.bytes ∙ ap (λ (b : List ℕ). sent ++ b) prompt ∙ append-nil sent);
 }
 
+-- where the source fails, the answer says so
 pub source_failed : (T : Type 0) (e : IoError) (skin : RowSkin) (width : Option ℕ) (source out : Trace) (s : MarkdownStream) (waiting : List ℕ) (blocks : ℕ) (source_now source_next out_now : Trace) → SourceSoFar skin width source out s waiting blocks source_now out_now
     → source_next ≡ failed source_now → StreamsMarkdown {T = T} skin width source out (Err (Source e)) source_next out_now
 source_failed T e skin width source out s waiting blocks source_now source_next out_now h fault = record {
@@ -227,6 +234,7 @@ stopped_by T Memory skin width source out old waiting got block blocks source_no
           (begins_in skin width old (h.streamed.text ++ stop.text) (h.streamed.bytes ++ stop.bytes) h.skin_is h.width_is (stop.begins h.streamed.text h.streamed.bytes h.step));
     })
 
+-- where a block stops the source, the answer says why
 pub block_stopped : {T : Type 0} (r : Result T SourceError) (e : SourceError) (skin : RowSkin) (width : Option ℕ) (source out : Trace) (old : MarkdownStream) (waiting got block : List ℕ) (blocks : ℕ) (source_now source_next out_now out_next : Trace)
     → SourceSoFar skin width source out old waiting blocks source_now out_now → source_now ≡ ahead_all got source_next → block ≡ waiting ++ got → StopsInBlock old block out_now e out_next → IsErrAnd r (λ d. d ≡ e) → StreamsMarkdown skin width source out r source_next out_next
 block_stopped {T} r e skin width source out old waiting got block blocks source_now source_next out_now out_next h handed is stop refused =

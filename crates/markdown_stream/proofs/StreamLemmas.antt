@@ -87,17 +87,21 @@ same_whole old mid next new last p q r =
     ∙ ap (λ (l : Shown). let n : MarkdownStream = record old { last = l; rows = next.rows } in n) (sym (ap (λ (s : MarkdownStream). s.last) r))
     ∙ ap (λ (v : _). let n : MarkdownStream = record old { last = new.last; rows = v } in n) (sym (ap (λ (s : MarkdownStream). s.rows) r))
 
+-- where a list's copy isn't empty, it has an item
 pub some_items : {A : Type 0} (xs ys : List A) (b : Bool) → ys ≡ xs → b ≡ (length ys == 0) → b ≡ false → 0 < length xs
 some_items {A} [] ys b is test off = absurd (let n : length ys ≡ 0 = ap length is in let on : (length ys == 0) ≡ true = test_true (length ys) 0 n in let e : true ≡ false = sym on ∙ sym test ∙ off in cc)
 some_items {A} (x ∷ xs) ys b is test off = omega arith
 
+-- where a list's copy is empty, it has no item
 pub no_items : {A : Type 0} (xs ys : List A) (b : Bool) → ys ≡ xs → b ≡ (length ys == 0) → b ≡ true → length xs ≡ 0
 no_items {A} xs ys b is test on = sym (ap length is) ∙ true_test (length ys) 0 (sym test ∙ on)
 
+-- a list of no length is the empty one
 pub nothing_in : (xs : List ℕ) → length xs ≡ 0 → xs ≡ []
 nothing_in [] none = refl
 nothing_in (x ∷ xs) none = absurd (omega arith)
 
+-- a part that shows lines puts them behind a blank row, where one is wanted
 pub shows_some : (text : List TextLine) (old mid next new : MarkdownStream) (spaced big : Bool) → 0 < length text → big ≡ ends_big (map content_of text) → spaced ≡ is_spaced old.last old.apart (begins_big (map content_of text)) → KeepsRows (gap spaced) old mid → mid ≡ record old { rows = mid.rows }
     → KeepsRows (map content_of text) mid next → next ≡ record mid { rows = next.rows } → new ≡ record next { last = record { some = true; big = big; apart = false } } → ShowsLines (map content_of text) old new
 shows_some [] old mid next new spaced big some big_is spaced_is h same k same2 same3 = absurd (omega arith)
@@ -155,6 +159,7 @@ completes old mid new lines is h held apart passed last rows reader line skin wi
     mid_width : mid.width ≡ old.width
     mid_width = ap (λ (s : MarkdownStream). s.width) h.same
 
+-- where nothing is over, all stays
 pub turns_not : (old : MarkdownStream) → Turns (completed_if false) old old
 turns_not old = record { stands = λ cut sent s. s; reader = refl; line = refl; skin = refl; width = refl }
 
@@ -213,6 +218,7 @@ starts_behind s held apart passed last rows line reads = record {
   };
 }
 
+-- a new stream is in step with an empty text
 pub starts : (s : MarkdownStream) → s.fresh ≡ true → string_bytes s.held ≡ [] → s.apart ≡ false → s.passed ≡ false → s.last ≡ record { some = false; big = false; apart = false } → s.rows.items ≡ [] → string_bytes s.line ≡ [] → state_of s.reader ≡ nothing_open → IsInStep [] s []
 starts s fresh held apart passed last rows line reads = record {
   goes_on = λ later. sym (ap (λ t. coming t later) fresh);
@@ -266,9 +272,11 @@ pub record TakenSoFar (piece rest : List ℕ) (old new : MarkdownStream) : Type 
 in_step_of : (read other : List ℕ) (s : MarkdownStream) (sent : List ℕ) → other ≡ read → HasRead read s sent → HasRead other s sent
 in_step_of read other s sent is h = subst (λ (r : List ℕ). HasRead r s sent) (sym is) h
 
+-- at first nothing of the piece was taken
 pub taken_start : (piece : List ℕ) (old : MarkdownStream) → TakenSoFar piece piece old old
 taken_start piece old = record { front = []; joins = refl; keeps = λ read sent h. in_step_of read (read ++ []) old sent (append-nil read) h; skin = refl; width = refl }
 
+-- one more line of the piece was taken
 pub taken_more : (piece rest line after_ : List ℕ) (old mid new : MarkdownStream) → TakenSoFar piece rest old mid → IsFirstLine rest line after_ → EndsLine mid line new → TakenSoFar piece after_ old new
 taken_more piece rest line after_ old mid new t first e = record {
   front = t.front ++ line;
@@ -279,6 +287,7 @@ taken_more piece rest line after_ old mid new t first e = record {
   width = e.width ∙ t.width;
 }
 
+-- where no newline is left, all of the piece is taken
 pub taken_all : (piece rest : List ℕ) (old mid new : MarkdownStream) → TakenSoFar piece rest old mid → HasNoNewline rest → string_bytes new.line ≡ string_bytes mid.line ++ rest → state_of new.reader ≡ state_of mid.reader → ((cut : Cutting) (sent : List ℕ) → Stands cut mid sent → Stands cut new sent)
     → new.skin ≡ mid.skin → new.width ≡ mid.width → TakesText old piece new
 taken_all piece rest old mid new t none line reader stands skin width = record {
@@ -453,6 +462,7 @@ fed_by old mid new piece before fault now t s = record {
   width = ap (λ (k : MarkdownStream). k.width) s.same ∙ t.width;
 }
 
+-- a piece that is taken, and whose rows go out, is fed
 pub feeds : {T : Type 0} (r : Result T Error) (old mid new : MarkdownStream) (piece : List ℕ) (before now : Trace) → TakesPiece old piece mid → Sends mid new before r now → Feeds old piece new before r now
 feeds {T} (Ok x) old mid new piece before now t s = fed_by old mid new piece before (λ t. t) now t s
 feeds {T} (Err (IO e)) old mid new piece before now t s = fed_by old mid new piece before failed now t s

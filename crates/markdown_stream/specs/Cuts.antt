@@ -41,6 +41,7 @@ begins_anew line = (line.kept == 0) && (nat_lt 0 line.opened || begins_leaf line
 abbrev pub ends_all : Line → Bool
 ends_all line = (line.kept == 0) && (line.opened == 0) && ends_leaf line.deed
 
+-- the line is blank
 abbrev pub is_blank_deed : Deed → Bool
 is_blank_deed Blank = true
 is_blank_deed _ = false
@@ -89,6 +90,7 @@ pub record Cutting : Type 0 where
   pub apart : Bool
   pub passed : Bool
 
+-- before the first line no part is begun
 abbrev pub nothing_cut : Cutting
 nothing_cut = record { parts = []; held = []; apart = false; passed = false }
 
@@ -96,6 +98,7 @@ nothing_cut = record { parts = []; held = []; apart = false; passed = false }
 abbrev pub completed : Cutting → Cutting
 completed c = record { parts = c.parts ++ record { source = c.held; apart = c.apart } ∷ []; held = []; apart = c.passed; passed = c.passed }
 
+-- the part that is held is complete, or it goes on
 abbrev pub completed_if : Bool → Cutting → Cutting
 completed_if over c = if over then completed c else c
 
@@ -103,6 +106,7 @@ completed_if over c = if over then completed c else c
 abbrev pub is_apart : Bool → List ℕ → Bool → Bool
 is_apart apart held led = apart || ((length held == 0) && led)
 
+-- a line joins the part that is held
 abbrev pub joined_by : Role → List ℕ → Cutting → Cutting
 joined_by role text c = record c { held = c.held ++ text; apart = is_apart c.apart c.held role.led; passed = role.passed }
 

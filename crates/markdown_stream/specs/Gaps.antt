@@ -4,6 +4,7 @@ use Rattle.mad_md.specs.Lines.{LineContent, normal}
 use Rattle.mad_md.specs.declared.composite.CompositeStyle.{CompositeStyle}
 use Rattle.mad_md.specs.declared.composite.CompositeStyle.TheVariants.{Header, ListItem, OrderedListItem, Code}
 
+-- the style is that of an item's first row
 abbrev pub is_item_style : CompositeStyle → Bool
 is_item_style (ListItem level) = true
 is_item_style (OrderedListItem level index) = true
@@ -14,6 +15,7 @@ abbrev pub is_mark : LineContent → Bool
 is_mark (normal row) = is_item_style row.style && (length row.runs == 0)
 is_mark _ = false
 
+-- the style is that of a heading or of code
 abbrev pub is_big_style : CompositeStyle → Bool
 is_big_style (Header level) = true
 is_big_style Code = true

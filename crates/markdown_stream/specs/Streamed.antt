@@ -13,9 +13,11 @@ pub record Showing : Type 0 where
   pub lines : List LineContent
   pub last : Shown
 
+-- before the first part nothing is shown
 abbrev pub nothing_shown : Showing
 nothing_shown = record { lines = []; last = record { some = false; big = false; apart = false } }
 
+-- a row that has no text
 abbrev pub blank_line : LineContent
 blank_line = normal (record { style = Paragraph; runs = [] })
 
@@ -23,6 +25,7 @@ blank_line = normal (record { style = Paragraph; runs = [] })
 abbrev pub is_spaced : Shown → Bool → Bool → Bool
 is_spaced last apart big = last.some && (last.apart || apart || last.big || big)
 
+-- a blank row, where one is wanted
 abbrev pub gap : Bool → List LineContent
 gap spaced = if spaced then blank_line ∷ [] else []
 
@@ -36,6 +39,7 @@ abbrev pub last_after : Shown → Bool → List LineContent → Shown
 last_after last apart [] = record last { apart = last.apart || apart }
 last_after last apart (line ∷ lines) = record { some = true; big = ends_big (line ∷ lines); apart = false }
 
+-- a part comes that shows these lines
 abbrev pub lines_shown : Bool → List LineContent → Showing → Showing
 lines_shown apart lines s = record { lines = s.lines ++ added s.last apart lines; last = last_after s.last apart lines }
 

@@ -44,6 +44,7 @@ lossy_scalars (suc fuel) (b ∷ bs) few =
     shorter : (fuel : ℕ) (all : List ℕ) → length all ≤ suc fuel → 0 < length all → length (drop (decoded all).size all) ≤ fuel
     shorter fuel all few some = omega (arith, length-drop (decoded all).size all, piece-bounds all some)
 
+-- the characters of bytes that were made a text are those that the bytes are read as
 pub lossy_read : (bs : List ℕ) → chars (utf8_lossy bs) ≡ lossy_chars bs
 lossy_read bs = ap chars (sym (lossy_chars-utf8_lossy bs)) ∙ chars-encodes (lossy_chars bs) (lossy_scalars (length bs) bs (omega arith))
 
