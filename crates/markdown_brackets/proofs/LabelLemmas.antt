@@ -200,8 +200,10 @@ module _ {A : Type 0} where
 
 -- ---- some labels, and one more
 
+-- a label that is among some isn't added again
 pub stays : (labels : List (List ℕ)) (label : List ℕ) → list_any (bytes_eq label) labels ≡ true → labels ≡ with_label labels label
 stays labels label there = sym (ap (λ t. if t then labels else labels ++ label ∷ []) there)
 
+-- a label that isn't among them is added
 pub comes : (labels : List (List ℕ)) (label : List ℕ) → list_any (bytes_eq label) labels ≡ false → labels ++ label ∷ [] ≡ with_label labels label
 comes labels label fresh = sym (ap (λ t. if t then labels else labels ++ label ∷ []) fresh)

@@ -24,6 +24,7 @@ unmarked_by : (text : List ℕ) (t : Bool) → bytes_eq (take 3 text) byte_order
 unmarked_by text true is other = absurd (other (drop 3 text) (sym (take-append-drop 3 text) ∙ ap (λ (l : List ℕ). l ++ drop 3 text) ((bytes_decides (take 3 text) byte_order_mark).0 is)))
 unmarked_by text false is other = refl
 
+-- what `strip_prefix` answers for the mark, or else the text, is the text behind its mark
 pub stripped_mark : (text : Bor (List ℕ)) (r : Option (Bor (List ℕ))) → MatchOption r (FindsCharPrefix 65279 text.now None) (λ x. StripsPrefix (FindsCharPrefix 65279) text.now x.now) → (unwrap_or r text).now ≡ behind_mark text.now
 stripped_mark text None other =
     sym (unmarked_by text.now (bytes_eq (take 3 text.now) byte_order_mark) refl (λ rest is. other rest (is ∙ ap (λ (l : List ℕ). l ++ rest) (sym mark_is))))

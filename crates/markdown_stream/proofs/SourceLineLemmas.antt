@@ -70,6 +70,7 @@ last_byte : (b : ℕ) (t : Bool) → (b == 10) ≡ t → lines_in (if t then (10
 last_byte b true is = append-nil (text_lines (10 ∷ [])) ∙ ap (λ n. text_lines (n ∷ [])) (sym (true_test b 10 is))
 last_byte b false is = append-nil (text_lines (b ∷ []))
 
+-- the lines that are in the lines of the source are those of the text
 pub source_has_the_lines : SourceHasTheLines
 unfolding source_lines text_lines
 source_has_the_lines [] = refl

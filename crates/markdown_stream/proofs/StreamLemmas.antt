@@ -324,6 +324,7 @@ freshened read s fresh sent h = record {
   stands = record { held = h.stands.held; apart = h.stands.apart; passed = h.stands.passed; rows = record { last = h.stands.rows.last; lines = h.stands.rows.lines; layout = h.stands.rows.layout; bytes = h.stands.rows.bytes } };
 }
 
+-- where what comes of a piece behind the text's mark is taken, the piece is
 pub takes_piece : (old mid : MarkdownStream) (piece text : List ℕ) (fresh : Bool) → IsUtf8 piece → text ≡ coming old.fresh piece → fresh ≡ still_fresh old.fresh piece → TakesText old text mid → TakesPiece old piece (record mid { fresh = fresh })
 takes_piece old mid piece text fresh u is still t = record {
   keeps = λ read sent h.

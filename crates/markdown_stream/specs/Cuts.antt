@@ -60,6 +60,7 @@ at_first role first this = if role.some then first else this
 abbrev pub role_after : Role → Line → Role
 role_after role line = record { some = true; begins = at_first role role.begins (begins_anew line); led = at_first role role.led (is_passed line); passed = is_passed line; ends = ends_all line }
 
+-- before its first line nothing is done in a line of the source
 abbrev pub no_line : Role
 no_line = record { some = false; begins = false; led = false; passed = false; ends = false }
 
@@ -68,6 +69,7 @@ pub record Reading : Type 0 where
   pub state : State
   pub role : Role
 
+-- a line of Markdown is read: what is open after it, and what was done so far
 abbrev pub line_read : Reading → List ℕ → Reading
 line_read reading line = record { state = (step reading.state line).state; role = role_after reading.role (step reading.state line).line }
 
