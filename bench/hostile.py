@@ -95,6 +95,18 @@ SKINS = {
 }
 
 
+def short_rows(columns):
+    """A table whose rows have one cell, and no bar."""
+    return repeated("a\n", "|a" * columns + "|\n" + "|-" * columns + "|\n")
+
+
+# Tables that are read as people write Markdown: at 80 columns 19 of a table's fit, and at 250 62.
+TABLES = {
+    "a table of 19 columns, with rows of one letter": short_rows(19),
+    "a table of 62 columns, with rows of one letter": short_rows(62),
+}
+
+
 def processor_seconds():
     used = resource.getrusage(resource.RUSAGE_CHILDREN)
     return used.ru_utime + used.ru_stime
@@ -163,7 +175,7 @@ def main():
             row(kind, [[Run([program, *command.split(), make(size)], path) for size in SKIN_SIZES] for command in COMMANDS], status)
     print()
     table(MARKDOWN_COMMANDS)
-    rows(MARKDOWN, MARKDOWN_COMMANDS, program, path, kinds)
+    rows(MARKDOWN | TABLES, MARKDOWN_COMMANDS, program, path, kinds)
     path.unlink()
 
 

@@ -12,7 +12,6 @@ use Rattle.mad_blocks.specs.PartCursors.{NoneNext, LaidPart}
 use Rattle.mad_blocks.specs.LayoutParts.{Part, parts_of, table_width, wrap_width, IsBlockAt, IsLineAt, ArePartsAt}
 use Rattle.mad_blocks.specs.Tables.{IsTableLaidOutBy, columns_count}
 use Rattle.mad_blocks.specs.TextParts.{is_code, is_table, stand_together, in_front, text_parts}
-use Rattle.mad_format.specs.WrappedLines.{AllMeasured}
 use Rattle.mad_format.specs.Wraps.{IsMeasured}
 use Rattle.mad_format.specs.LineRules.{LineRules}
 use Rattle.mad_format.specs.declared.composite.FmtComposite.{FmtComposite}
@@ -121,11 +120,6 @@ run_more test skin first before left after c l read new h next on is pushed = re
   told = all_push (λ d. test d ≡ true) h.others c h.told on;
   reads = subst (AreRead skin (first ∷ (h.others ++ c ∷ []))) (sym pushed) (both_read skin (first ∷ h.others) (c ∷ []) read (l ∷ []) h.reads (is, tt));
 }
-
-pub measured_read : (skin : LineRules) (cs : List LineContent) (ls : List FmtLine) → AreRead skin cs ls → AllMeasured skin ls
-measured_read skin [] [] h = tt
-measured_read skin (c ∷ cs) (l ∷ ls) h = (line_measured skin c l h.0, measured_read skin cs ls h.1)
-measured_read skin _ _ h = absurd h
 
 pub block_measured : (skin : LineRules) (cs : List LineContent) (ls : List FmtComposite) → AreRead skin cs (map Normal ls) → AllByRecursion (IsMeasured skin) ls
 block_measured skin [] [] h = tt

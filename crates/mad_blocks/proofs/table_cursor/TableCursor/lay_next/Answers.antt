@@ -25,7 +25,7 @@ returns-then-self g c = (
     c.in_ok-line.line ∷ [],
     c.in_ok-put_line.ensures,
     λ more h. line_stays (g.S.LineSkin.rules c.args.skin.now) c.args.self.now.widths.items c.args.self.now.columns.items c.args.self.now.first (map content_of (into_iter_items c.args.self.now.lines)) (map content_of (into_iter_items c.next.new.self)) (content_of c.in-Some.read) c.in_ok-line.line c.args.self.now.stays more
-    c.if-self.true (ap (map content_of) c.in-Some.ensures.cases.0) c.in_ok-line.ensures h,
+        c.if-self.true (ap (map content_of) c.in-Some.ensures.cases.0) c.in_ok-line.ensures h,
   ),
 )
 
@@ -42,6 +42,6 @@ returns g c =
         own.0,
         own.1,
         λ more h. line_laid skin self.widths.items self.columns.items _ self.first c.position_at-position.result c.len.result (map content_of (into_iter_items self.lines)) (map content_of (into_iter_items c.next.new.self)) (content_of c.in-Some.read) line self.stays own.0 more
-        c.if-self.false (ap (map content_of) c.in-Some.ensures.cases.0) c.in_ok-line.ensures columns left c.position_at-position.ensures (subst (λ (xs : List Spacing). IsTableLineBy IsCompositeWrap skin xs c.position_at-position.result line own.0) c.deref-2.ensures.value own.2) h,
+            c.if-self.false (ap (map content_of) c.in-Some.ensures.cases.0) c.in_ok-line.ensures columns left c.position_at-position.ensures (subst (λ (xs : List Spacing). IsTableLineBy IsCompositeWrap skin xs c.position_at-position.result line own.0) c.deref-2.ensures.value own.2) h,
       ),
     )
