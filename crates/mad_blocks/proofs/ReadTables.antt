@@ -1,5 +1,5 @@
 -- Tables as they were read: the columns of their cells, and what their lines become one after another.
-use Rattle.std.proofs.Common.{◌≡◌, ℕ, zero, suc, ◌+◌, ◌-◌, ◌*◌, ◌/◌, ◌^◌, ◌<◌, ◌≤◌, ◌⊎◌, inl, inr, Bool, true, false, ◌==◌, List, [], ◌∷◌, ◌++◌, map, length, drop, replicate, max, refl, ap, sym, ◌∙◌, subst, arith, add-one, Result, Ok, Err, IfOk}
+use Rattle.std.proofs.Common.{◌≡◌, ℕ, zero, suc, ◌+◌, ◌-◌, ◌/◌, ◌^◌, ◌<◌, ◌⊎◌, inl, inr, Bool, true, false, ◌==◌, List, [], ◌∷◌, ◌++◌, map, length, drop, replicate, max, refl, ap, sym, ◌∙◌, subst, arith, add-one, Result, Ok, Err, IfOk}
 use Rattle.std.specs.Global.{Vec}
 use Rattle.std.specs.List.{flat_map}
 use Rattle.std.specs.Str.{chars}
@@ -31,7 +31,7 @@ use Rattle.mad_format.specs.declared.table.RelativePosition.{RelativePosition}
 use Rattle.mad_blocks.specs.CellWords.{longest_word}
 use Rattle.mad_blocks.specs.Layouts.{AreRead}
 use Rattle.mad_blocks.specs.TableCursors.{BecomesBy}
-use Rattle.mad_blocks.specs.Tables.{columns_count, columns_from, columns_in, measure_of, measures_in, rows_among, position_at, AreKeptWidths, AreTableLinesBy, IsTableLineBy, IsTableLaidOutBy, centered}
+use Rattle.mad_blocks.specs.Tables.{columns_count, columns_from, columns_in, measure_of, measures_in, position_at, AreKeptWidths, AreTableLinesBy, IsTableLineBy, IsTableLaidOutBy, centered}
 use Rattle.mad_blocks.specs.TextParts.{columns_among, count_in}
 use Rattle.mad_blocks.proofs.TableWidths.{CellsSeen, RowsSeen, kept_narrow, rows_seen_more, rows_seen_other, seen_more}
 

@@ -266,7 +266,14 @@ impl<'s> PartCursor<'s> {
         }
         match &mut self.lines {
             SourceLines::Unread(cursor) => cursor.next_line(alloc),
-            SourceLines::Read(lines) => Ok(lines.next()),
+            SourceLines::Read(lines) => {
+                let next = lines.next();
+                if next.is_none() {
+                    // Lines that were all read keep no memory.
+                    *lines = Vec::new(alloc).into_iter();
+                }
+                Ok(next)
+            }
         }
     }
 }

@@ -1,8 +1,8 @@
-use Rattle.std.proofs.Common.{◌∙◌, max, ap, sym, map, drop, arith, rules}
+use Rattle.std.proofs.Common.{◌∙◌, max, ap, map, arith}
 use Rattle.std.proofs.lemmas.List.{drop_all}
 use Rattle.mad_md.specs.Lines.{content_of}
 use Rattle.mad_format.proofs.WrapLemmas.{next_of}
-use Rattle.mad_blocks.specs.TextParts.{columns_among, count_in}
+use Rattle.mad_blocks.specs.TextParts.{columns_among}
 use Rattle.mad_blocks.proofs.ReadTables.{count_more}
 use Rattle.mad_blocks.proofs.table_columns.columns_among.Goals as goal
 

@@ -1,10 +1,9 @@
-use Rattle.std.proofs.Common.{◌≡◌, ◌⊎◌, ◌<◌, [], ℕ, List, map, ap, sym, ◌∙◌, subst, rules, arith}
-use Rattle.mad_md.specs.Lines.{LineContent, content_of}
+use Rattle.std.proofs.Common.{◌≡◌, ◌⊎◌, ◌<◌, [], List, map, ap, sym, ◌∙◌, subst, rules}
+use Rattle.mad_md.specs.Lines.{content_of}
 use Rattle.mad_md.specs.declared.line.Line.{Line}
 use Rattle.mad_blocks.specs.Layouts.{AreRead}
 use Rattle.mad_blocks.specs.Tables.{centered}
 use Rattle.mad_blocks.specs.TextParts.{columns_among}
-use Rattle.mad_format.specs.declared.line.FmtLine.{FmtLine}
 use Rattle.mad_blocks.proofs.ReadTables.{table_by_lines, table_stays}
 use Rattle.mad_blocks.proofs.table_cursor.TableCursor.new.Goals as goal
 
