@@ -4,7 +4,8 @@
 The texts are made in FOLDER, one after the other, and taken away again. A cell of the table has the best wall time of some runs, and the
 peak memory that GNU time says, at one megabyte and at ten. In brackets are the ratios of processor time and of memory; one over eleven is
 in bold. A skin is one argument: its sizes are the greatest that Linux takes, and a tenth of that. A second table has the texts of
-`markdown_texts.py`, read as people write Markdown. The script fails at another status than the one beside a kind.
+`markdown_texts.py`, and of tables, read as people write Markdown. The script fails at another status than the one beside a kind, and where a
+table takes more memory than it may.
 """
 import random
 import resource
@@ -100,11 +101,9 @@ def short_rows(columns):
     return repeated("a\n", "|a" * columns + "|\n" + "|-" * columns + "|\n")
 
 
-# Tables that are read as people write Markdown: at 80 columns 19 of a table's fit, and at 250 62.
-TABLES = {
-    "a table of 19 columns, with rows of one letter": short_rows(19),
-    "a table of 62 columns, with rows of one letter": short_rows(62),
-}
+# Tables that are read as people write Markdown, and how many bytes of memory a byte of each may take at most.
+TABLES = {"a table of 19 columns, with rows of one letter": short_rows(19)}
+MOST_MEMORY = {"a table of 19 columns, with rows of one letter": 200}
 
 
 def processor_seconds():
@@ -160,6 +159,15 @@ def rows(texts, commands, program, path, kinds):
                 for command, pairs in zip(commands, runs):
                     pairs.append(Run([program, *command.split()], path))
             row(kind, runs, 0)
+            check_memory(kind, runs)
+
+
+def check_memory(kind, runs):
+    """Fails where a byte of a text takes more memory than it may."""
+    for run, size in (of_size for pair in runs for of_size in zip(pair, SIZES)):
+        taken = run.mebibytes * 2**20 / size
+        if taken > MOST_MEMORY.get(kind, taken):
+            sys.exit(f"hostile.py: {kind}: {taken:.0f} bytes of memory for each of the text's")
 
 
 def main():
