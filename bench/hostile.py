@@ -4,7 +4,8 @@
 The texts are made in FOLDER, one after the other, and taken away again. A cell of the table has the best wall time of some runs, and the
 peak memory that GNU time says, at one megabyte and at ten. In brackets are the ratios of processor time and of memory; one over eleven is
 in bold. A skin is one argument: its sizes are the greatest that Linux takes, and a tenth of that. A second table has the texts of
-`markdown_texts.py`, read as people write Markdown. The script fails at another status than the one beside a kind.
+`markdown_texts.py`, and of tables, read as people write Markdown. The script fails at another status than the one beside a kind, and where a
+table takes more memory than it may.
 """
 import random
 import resource
@@ -95,6 +96,16 @@ SKINS = {
 }
 
 
+def short_rows(columns):
+    """A table whose rows have one cell, and no bar."""
+    return repeated("a\n", "|a" * columns + "|\n" + "|-" * columns + "|\n")
+
+
+# Tables that are read as people write Markdown, and how many bytes of memory a byte of each may take at most.
+TABLES = {"a table of 19 columns, with rows of one letter": short_rows(19)}
+MOST_MEMORY = {"a table of 19 columns, with rows of one letter": 200}
+
+
 def processor_seconds():
     used = resource.getrusage(resource.RUSAGE_CHILDREN)
     return used.ru_utime + used.ru_stime
@@ -148,6 +159,15 @@ def rows(texts, commands, program, path, kinds):
                 for command, pairs in zip(commands, runs):
                     pairs.append(Run([program, *command.split()], path))
             row(kind, runs, 0)
+            check_memory(kind, runs)
+
+
+def check_memory(kind, runs):
+    """Fails where a byte of a text takes more memory than it may."""
+    for run, size in (of_size for pair in runs for of_size in zip(pair, SIZES)):
+        taken = run.mebibytes * 2**20 / size
+        if taken > MOST_MEMORY.get(kind, taken):
+            sys.exit(f"hostile.py: {kind}: {taken:.0f} bytes of memory for each of the text's")
 
 
 def main():
@@ -163,7 +183,7 @@ def main():
             row(kind, [[Run([program, *command.split(), make(size)], path) for size in SKIN_SIZES] for command in COMMANDS], status)
     print()
     table(MARKDOWN_COMMANDS)
-    rows(MARKDOWN, MARKDOWN_COMMANDS, program, path, kinds)
+    rows(MARKDOWN | TABLES, MARKDOWN_COMMANDS, program, path, kinds)
     path.unlink()
 
 

@@ -6,6 +6,8 @@ pub mod PartCursorLemmas
 pub mod PartLemmas
 pub mod PartRuns
 pub mod PassLemmas
+pub mod ReadTables
+pub mod TableCursorLemmas
 pub mod TableLemmas
 pub mod TableWidths
 pub mod WideLayouts

@@ -12,7 +12,6 @@ use Rattle.mad_blocks.specs.PartCursors.{NoneNext, LaidPart}
 use Rattle.mad_blocks.specs.LayoutParts.{Part, parts_of, table_width, wrap_width, IsBlockAt, IsLineAt, ArePartsAt}
 use Rattle.mad_blocks.specs.Tables.{IsTableLaidOutBy, columns_count}
 use Rattle.mad_blocks.specs.TextParts.{is_code, is_table, stand_together, in_front, text_parts}
-use Rattle.mad_format.specs.WrappedLines.{AllMeasured}
 use Rattle.mad_format.specs.Wraps.{IsMeasured}
 use Rattle.mad_format.specs.LineRules.{LineRules}
 use Rattle.mad_format.specs.declared.composite.FmtComposite.{FmtComposite}
@@ -127,13 +126,7 @@ run_more test skin first before left after c l read new h next on is pushed = re
   reads = subst (AreRead skin (first ∷ (h.others ++ c ∷ []))) (sym pushed) (both_read skin (first ∷ h.others) (c ∷ []) read (l ∷ []) h.reads (is, tt));
 }
 
--- the cached lengths of lines that were read are right
-pub measured_read : (skin : LineRules) (cs : List LineContent) (ls : List FmtLine) → AreRead skin cs ls → AllMeasured skin ls
-measured_read skin [] [] h = tt
-measured_read skin (c ∷ cs) (l ∷ ls) h = (line_measured skin c l h.0, measured_read skin cs ls h.1)
-measured_read skin _ _ h = absurd h
-
--- so are those of a block
+-- the cached lengths of a block that was read are right
 pub block_measured : (skin : LineRules) (cs : List LineContent) (ls : List FmtComposite) → AreRead skin cs (map Normal ls) → AllByRecursion (IsMeasured skin) ls
 block_measured skin [] [] h = tt
 block_measured skin (c ∷ cs) (l ∷ ls) h = (line_measured skin c (Normal l) h.0, block_measured skin cs ls h.1)

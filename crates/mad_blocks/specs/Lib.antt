@@ -6,6 +6,7 @@ pub mod LayoutLaws
 pub mod Layouts
 pub mod PartCursors
 pub mod LayoutParts
+pub mod TableCursors
 pub mod TableLaws
 pub mod TableRows
 pub mod Tables

@@ -4,7 +4,7 @@
 //!
 //! 1. `table_columns`: the widths of a table's columns, and how cells are aligned in them.
 //! 2. [`table_rows`]: the rows that a row of a table becomes.
-//! 3. [`table_layout`]: whole tables.
+//! 3. [`table_layout`]: whole tables; [`table_cursor`]: line by line.
 //! 4. [`code_blocks`]: finding and placing blocks of code by themselves.
 //! 5. [`laying`]: what becomes of a line, and of a block of code. [`part_cursor`]: the parts of a text, read and laid out one after another.
 //! 6. [`texts`]: the lines of whole texts.
@@ -18,6 +18,7 @@ pub mod laws;
 pub mod laying;
 pub mod part_cursor;
 mod table_columns;
+pub mod table_cursor;
 pub mod table_layout;
 pub mod table_rows;
 pub mod texts;
@@ -25,6 +26,7 @@ pub mod texts;
 pub use code_blocks::{CodeBlock, find_blocks, justify_blocks};
 pub use laying::{push_read_at, wrap_width};
 pub use part_cursor::PartCursor;
+pub use table_cursor::TableCursor;
 pub use table_layout::{Table, fix_all_tables};
 pub use table_rows::lay_row;
 pub use texts::{lay_front, lay_source, lay_text};

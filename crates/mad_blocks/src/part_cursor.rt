@@ -4,13 +4,13 @@ ghost use Rattle.std.specs.Prelude.{◌≡◌, ◌++◌, ◌∷◌, [], true, fa
 ghost use Rattle.mad_md.specs.Lines.{content_of, contents, normal, styled_runs};
 ghost use Rattle.mad_md.specs.Reading.{IsRead, resumed_text, unread_text};
 ghost use Rattle.mad_md.specs.Scan.{lines_of};
-ghost use Rattle.mad_format.specs.FmtLines.{IsLineRead};
 ghost use Rattle.mad_blocks.specs.PartCursors.{lines_left, HasUnmarkedNext, IsNextLine, IsNextWhere, LaidPart, LaysPart, IsUnmarkedRead};
+ghost use Rattle.mad_blocks.specs.TableCursors.{IsFirstTable, IsNextTable};
 ghost use Rattle.mad_blocks.specs.TextParts.{is_code, is_table, is_text};
 ghost use Rattle.mad_format.specs.declared.line.FmtLine.{FmtLine};
 
 use crate::laying::{is_code_kind, push_block, push_read_at, table_width, wrap_width};
-use crate::table_layout::push_whole_table;
+use crate::table_cursor::TableCursor;
 use mad_format::{FmtComposite, FmtLine, LineSkin, put_line};
 use mad_md::{Composite, Line, LineCursor, ParseOptions, Text};
 use mad_style::CompositeKind;
@@ -117,6 +117,25 @@ impl<'s> PartCursor<'s> {
         }
     }
 
+    /// Reads the next part, where it is a table, to be laid out line by line at a width in columns, if there is one. Else a line that was read
+    /// waits. Only out of memory is an error.
+    pub fn next_table<S: LineSkin>(
+        &mut self,
+        alloc: Global,
+        width: Option<usize>,
+        skin: &S,
+    ) -> Result<Option<TableCursor<'s>>, AllocError>
+        ensures { IfOk result (λ next. IsNextTable (S.rules skin.now) width (lines_left self.old) next (lines_left self.new)) }
+    {
+        match self.next_table_line(alloc)? {
+            Some(first) => {
+                let table = self.read_table(alloc, first, width, skin)?;
+                Ok(Some(table))
+            }
+            None => Ok(None),
+        }
+    }
+
     // Lays out the part that begins with a line that was read.
     fn lay_part<S: LineSkin>(
         &mut self,
@@ -185,12 +204,28 @@ impl<'s> PartCursor<'s> {
         requires { is_table (content_of first) ≡ true }
         ensures { OnOk result (LaidPart (S.rules skin.now) width (content_of first.entry ∷ lines_left self.old) lines.old.items (lines_left self.new) lines.new.items) }
     {
+        let mut table = self.read_table(alloc, first, width, skin)?;
+        while table.lay_next(alloc, lines, skin)? {}
+        Ok(())
+    }
+
+    // The table that begins with a line that was read: its other lines are read too.
+    fn read_table<S: LineSkin>(
+        &mut self,
+        alloc: Global,
+        first: Line<'s>,
+        width: Option<usize>,
+        skin: &S,
+    ) -> Result<TableCursor<'s>, AllocError>
+        requires { is_table (content_of first) ≡ true }
+        ensures { IfOk result (λ table. IsFirstTable (S.rules skin.now) width (content_of first.entry ∷ lines_left self.old) table (lines_left self.new)) }
+    {
         let mut table = Vec::new(alloc);
-        push_unlaid(alloc, &mut table, first, skin)?;
+        table.push(first)?;
         while let Some(line) = self.next_table_line(alloc)? {
-            push_unlaid(alloc, &mut table, line, skin)?;
+            table.push(line)?;
         }
-        push_whole_table(alloc, lines, table, table_width(width), skin)
+        TableCursor::new(alloc, table, table_width(width), skin)
     }
 
     // The next line where it is one of code; another one waits.
@@ -231,21 +266,16 @@ impl<'s> PartCursor<'s> {
         }
         match &mut self.lines {
             SourceLines::Unread(cursor) => cursor.next_line(alloc),
-            SourceLines::Read(lines) => Ok(lines.next()),
+            SourceLines::Read(lines) => {
+                let next = lines.next();
+                if next.is_none() {
+                    // Lines that were all read keep no memory.
+                    *lines = Vec::new(alloc).into_iter();
+                }
+                Ok(next)
+            }
         }
     }
-}
-
-// Puts a line that was read after others, as it is before it is laid out.
-fn push_unlaid<'s, S: LineSkin>(
-    alloc: Global,
-    lines: &mut Vec<FmtLine<'s>>,
-    line: Line<'s>,
-    skin: &S,
-) -> Result<(), AllocError>
-    ensures { OnOk result ((made : FmtLine) × (lines.new.items ≡ lines.old.items ++ made ∷ []) × IsLineRead (S.rules skin.now) (content_of line.entry) made) }
-{
-    put_line(lines, FmtLine::from(alloc, line, skin)?)
 }
 
 // Whether a line that was read is a row of a table, or a rule across one.

@@ -1,15 +1,21 @@
 //! Columns of a table: their widths, and how cells are aligned in them.
 
-ghost use Rattle.std.specs.Prelude.{◌≡◌, ◌<◌, ◌≤◌, ◌*◌, ◌+◌, ◌++◌, [], ◌∷◌, ℕ, List, IfOk, slice_get, unwrap_or};
+ghost use Rattle.std.specs.Prelude.{◌≡◌, ◌<◌, ◌≤◌, ◌*◌, ◌+◌, ◌++◌, [], ◌∷◌, ℕ, List, IfOk, map, slice_get, unwrap_or};
+ghost use Rattle.mad_md.specs.Lines.{content_of, styled_runs};
 ghost use Rattle.mad_md.specs.declared.alignment.Alignment.TheVariants.{Unspecified};
 ghost use Rattle.mad_widths.specs.SeenCells.{TableHasSeen};
 ghost use Rattle.mad_blocks.specs.Tables.{columns_with, centered, columns_from, columns_count, columns_in, rows_among, measure_of, measures_in, AreKeptWidths};
+ghost use Rattle.mad_blocks.specs.Layouts.{AreRead};
+ghost use Rattle.mad_blocks.specs.TextParts.{columns_among, count_in};
+ghost use Rattle.mad_format.specs.FmtLines.{AreCompositesRead, IsCompositeRead};
 ghost use Rattle.mad_format.specs.declared.composite.FmtComposite.{FmtComposite};
+ghost use Rattle.mad_format.specs.declared.line.FmtLine.{FmtLine};
 
 use mad_fit::Spacing;
-use mad_format::{FmtComposite, FmtLine};
-use mad_md::Alignment;
+use mad_format::{FmtComposite, FmtLine, LineSkin, composite_columns};
+use mad_md::{Alignment, Composite, Line};
 use mad_sections::cell_words::longest_word;
+use mad_style::CompositeKind;
 use mad_widths::TblFit;
 use std::alloc::{AllocError, Global};
 
@@ -81,6 +87,101 @@ fn measure_of(cell: &FmtComposite, by_word: bool) -> usize
         longest_word(&cell.compounds)
     } else {
         cell.visible_length
+    }
+}
+
+/// The widths that [`kept_widths`] has of a table, from its lines as they were read.
+pub(crate) fn read_widths<S: LineSkin>(
+    alloc: Global,
+    table: &[Line],
+    nbcols: usize,
+    width: usize,
+    skin: &S,
+) -> Result<Vec<usize>, AllocError>
+    requires { 0 < width }
+    ensures { IfOk result (λ widths. (read : List FmtLine) → AreRead (S.rules skin.now) (map content_of table.now) read → AreKeptWidths (S.rules skin.now).whole_words nbcols width read widths.items) }
+{
+    let most = (width - 1) / 4;
+    if most < nbcols {
+        return vec![in alloc; 3; most];
+    }
+    let cells = seen_lines(alloc, table, nbcols, width, false, skin)?;
+    if skin.whole_words() {
+        let words = seen_lines(alloc, table, nbcols, width, true, skin)?;
+        return Ok(cells.fit_words(alloc, &words)?.col_widths);
+    }
+    Ok(cells.fit(alloc)?.col_widths)
+}
+
+// What [`seen_table`] has seen of a table, from its lines as they were read.
+fn seen_lines<S: LineSkin>(
+    alloc: Global,
+    table: &[Line],
+    nbcols: usize,
+    width: usize,
+    by_word: bool,
+    skin: &S,
+) -> Result<TblFit, AllocError>
+    requires { 4 * nbcols + 1 ≤ width }
+    ensures { IfOk result (λ fit. (read : List FmtLine) → AreRead (S.rules skin.now) (map content_of table.now) read → TableHasSeen fit width (measures_in by_word nbcols (rows_among read))) }
+{
+    let mut fit = TblFit::with_room(alloc, nbcols, width)?;
+    see_lines(&mut fit, table, by_word, skin);
+    Ok(fit)
+}
+
+// Sees the cells of each row that was read.
+fn see_lines<S: LineSkin>(fit: &mut TblFit, table: &[Line], by_word: bool, skin: &S)
+    ensures { (read : List FmtLine) → AreRead (S.rules skin.now) (map content_of table.now) read
+        → (width n : ℕ) (rows : List (List FmtComposite)) → TableHasSeen fit.old width (measures_in by_word n rows) → TableHasSeen fit.new width (measures_in by_word n (rows ++ rows_among read)) }
+{
+    for line in table {
+        if let Line::TableRow(row) = line {
+            see_cells(fit, &row.cells, by_word, skin);
+        }
+    }
+}
+
+// Sees the cells of a row that was read, one for each column.
+fn see_cells<S: LineSkin>(fit: &mut TblFit, cells: &[Composite], by_word: bool, skin: &S)
+    ensures { (read : List FmtComposite) → AreCompositesRead (S.rules skin.now) (map styled_runs cells.now) read
+        → (width n : ℕ) (rows : List (List FmtComposite)) → TableHasSeen fit.old width (measures_in by_word n rows) → TableHasSeen fit.new width (measures_in by_word n (rows ++ read ∷ [])) }
+{
+    for (column, cell) in cells.iter().enumerate() {
+        fit.see_cell(column, measure_of_read(cell, by_word, skin));
+    }
+}
+
+// The columns of a cell that was read, by its longest word or by its length.
+fn measure_of_read<S: LineSkin>(cell: &Composite, by_word: bool, skin: &S) -> usize
+    ensures { (read : FmtComposite) → IsCompositeRead (S.rules skin.now) (styled_runs cell.now) read → result ≡ measure_of by_word read }
+{
+    if by_word {
+        longest_word(&cell.compounds)
+    } else {
+        let kind = CompositeKind::from(cell.style);
+        composite_columns(skin.items_indentation(), kind, &cell.compounds)
+    }
+}
+
+/// The greatest count of cells or alignments of lines that were read.
+pub(crate) fn columns_among(table: &[Line]) -> usize
+    ensures { result ≡ columns_among (map content_of table.now) }
+{
+    let mut count: usize = 0;
+    for line in table {
+        count = count_in(line).max(count);
+    }
+    count
+}
+
+fn count_in(line: &Line) -> usize
+    ensures { result ≡ count_in (content_of line.now) }
+{
+    match line {
+        Line::TableRow(row) => row.cells.len(),
+        Line::TableRule(rule) => rule.cells.len(),
+        Line::Normal(_) | Line::HorizontalRule => 0,
     }
 }
 

@@ -127,8 +127,8 @@ pub fn fix_all_tables<'s, S: LineSkin>(
     push_whole_table(alloc, lines, table, width, skin)
 }
 
-/// Puts what a table becomes after the lines that are there, with as many columns as its widest line has.
-pub(crate) fn push_whole_table<'s, S: LineSkin>(
+// Puts what a table becomes after the lines that are there, with as many columns as its widest line has.
+fn push_whole_table<'s, S: LineSkin>(
     alloc: Global,
     lines: &mut Vec<FmtLine<'s>>,
     table: Vec<FmtLine<'s>>,
@@ -184,8 +184,8 @@ fn push_table_lines<'s, S: LineSkin>(
     Ok(())
 }
 
-// Where a line of a table is.
-fn position_at(first: bool, last: bool) -> RelativePosition
+/// Where a line of a table is.
+pub(crate) fn position_at(first: bool, last: bool) -> RelativePosition
     ensures { result ≡ position_at first last }
 {
     if first {
@@ -197,8 +197,8 @@ fn position_at(first: bool, last: bool) -> RelativePosition
     }
 }
 
-// Puts what a line of a table becomes in these columns, which is at this position in its table.
-fn push_table_line<'s, S: LineSkin>(
+/// Puts what a line of a table becomes in these columns, which is at this position in its table.
+pub(crate) fn push_table_line<'s, S: LineSkin>(
     alloc: Global,
     lines: &mut Vec<FmtLine<'s>>,
     line: FmtLine<'s>,

@@ -10,7 +10,9 @@ use Rattle.mad_style.specs.Kinds.{kind_of}
 use Rattle.mad_blocks.specs.LayoutParts.{is_code_kind, wrap_width, IsLineAt}
 use Rattle.mad_blocks.specs.Layouts.{IsLayoutAt}
 use Rattle.mad_blocks.specs.PartCursors.{LaidPart, LaysPart}
+use Rattle.mad_blocks.specs.TableCursors.{IsFirstTable, TableBecomes}
 use Rattle.mad_blocks.specs.TextParts.{is_text}
+use Rattle.mad_blocks.specs.declared.table_cursor.TableCursor.{TableCursor}
 use Rattle.mad_blocks.proofs.PartCursorLemmas.{LaidSoFar, laid_more, laid_none, laid_shorter, laid_whole, single_laid}
 use Rattle.mad_format.specs.CompositeWraps.{IsCompositeWrap}
 use Rattle.mad_format.specs.FmtLines.{IsCompositeRead}
@@ -84,6 +86,36 @@ laid_taken skin width before mid after rows old new true same none h = record {
   rows = refl;
 }
 laid_taken skin width before mid after rows old new false same none h = (sym same ∙ h.0, h.1, refl, h.2 ∙ none)
+
+-- ---- a table, line by line
+
+-- whatever the lines that are left become, their rows follow those of the lines that were laid out
+abbrev pub TableRowsSoFar : RowSkin → Option ℕ → TableCursor → List ℕ → TableCursor → List ℕ → Type 0
+TableRowsSoFar skin width first old table rows =
+    (more : List FmtLine) → TableBecomes (line_rules skin) table more → (own : List FmtLine) × TableBecomes (line_rules skin) first own × (rows ++ text_bytes skin width more ≡ old ++ text_bytes skin width own)
+
+pub table_rows_more : (skin : RowSkin) (width : Option ℕ) (first table next : TableCursor) (old rows new : List ℕ) (was now own : List FmtLine) → TableRowsSoFar skin width first old table rows → was ≡ [] → now ≡ was ++ own
+    → ((more : List FmtLine) → TableBecomes (line_rules skin) next more → TableBecomes (line_rules skin) table (own ++ more)) → new ≡ rows ++ text_bytes skin width now → TableRowsSoFar skin width first old next new
+table_rows_more skin width first table next old rows new was now own held none pushed becomes put more left =
+    let all = held (own ++ more) (becomes more left) in
+    let are : new ≡ rows ++ text_bytes skin width own = put ∙ ap (λ (ls : List FmtLine). rows ++ text_bytes skin width ls) (pushed ∙ ap (λ (ls : List FmtLine). ls ++ own) none) in (
+      all.0,
+      all.1,
+      ap (λ (b : List ℕ). b ++ text_bytes skin width more) are ∙ append_assoc rows (text_bytes skin width own) (text_bytes skin width more) ∙ ap (λ (b : List ℕ). rows ++ b) (sym (flat_map-append (line_bytes skin width) own more)) ∙ all.2,
+    )
+
+pub table_rows_end : (skin : RowSkin) (width : Option ℕ) (first table : TableCursor) (old rows new : List ℕ) → TableRowsSoFar skin width first old table rows → TableBecomes (line_rules skin) table [] → new ≡ rows
+    → (own : List FmtLine) × TableBecomes (line_rules skin) first own × (new ≡ old ++ text_bytes skin width own)
+table_rows_end skin width first table old rows new held none same = let all = held [] none in (all.0, all.1, same ∙ sym (append-nil rows) ∙ all.2)
+
+-- the rows of a table that was next
+pub table_taken : (skin : RowSkin) (width : Option ℕ) (before after : List LineContent) (table : TableCursor) (old new : List ℕ) (lines : List FmtLine) → IsFirstTable (line_rules skin) width before table after → lines ≡ []
+    → (own : List FmtLine) × TableBecomes (line_rules skin) table own × (new ≡ old ++ text_bytes skin width own) → TakenPart skin width before old after new lines
+table_taken skin width before after table old new lines is none (own, becomes, put) = record {
+  own = own;
+  part = is [] own becomes;
+  rows = ap (λ (ls : List FmtLine). new ++ text_bytes skin width ls) none ∙ append-nil new ∙ put;
+}
 
 -- ---- a part that was taken, and the unmarked lines after it
 

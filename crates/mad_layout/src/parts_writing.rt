@@ -7,6 +7,7 @@ ghost use Rattle.mad_md.specs.Scan.{lines_of};
 ghost use Rattle.mad_blocks.specs.PartCursors.{lines_left};
 ghost use Rattle.mad_layout.specs.UnmarkedRows.{IsUnmarkedWidth, HandsOnUnmarked};
 ghost use Rattle.mad_blocks.specs.Layouts.{IsLayoutAt};
+ghost use Rattle.mad_blocks.specs.TableCursors.{TableBecomes};
 ghost use Rattle.mad_format.specs.declared.line.FmtLine.{FmtLine};
 ghost use Rattle.mad_rows.specs.RowStyles.{line_rules};
 ghost use Rattle.mad_rows.specs.Rows.{text_bytes};
@@ -14,7 +15,7 @@ ghost use Rattle.mad_layout.specs.WrittenParts.{HandsOn, TakesPart, TakesRead, T
 ghost use Rattle.mad_layout.specs.RowSkins.{row_skin};
 
 use crate::skin::MadSkin;
-use mad_blocks::{PartCursor, push_read_at, wrap_width};
+use mad_blocks::{PartCursor, TableCursor, push_read_at, wrap_width};
 use mad_format::FmtLine;
 use mad_md::Composite;
 use mad_rows::{RowSkin, StyleCommands, append_line, append_lines, append_read, is_aligned_left};
@@ -144,8 +145,52 @@ fn take_next<'s>(
             take_read(alloc, rows, lines, composite, width, skin, commands)?;
             Ok(true)
         }
+        None => take_laid(alloc, rows, lines, parts, width, skin, commands),
+    }
+}
+
+// Takes the next part, which is no composite by itself: the rows of a table are put after those that are kept, line by line.
+fn take_laid<'s>(
+    alloc: Global,
+    rows: &mut String,
+    lines: &mut Vec<FmtLine<'s>>,
+    parts: &mut PartCursor<'s>,
+    width: Option<usize>,
+    skin: &RowSkin,
+    commands: &mut StyleCommands,
+) -> Result<bool, AllocError>
+    requires { lines.old.items ≡ [] }
+    ensures { IfOk result (λ found. TakesPart skin.now width (lines_left parts.old) (string_bytes rows.old) found (lines_left parts.new) (string_bytes rows.new) lines.new.items) }
+{
+    match parts.next_table(alloc, width, skin)? {
+        Some(table) => {
+            append_table(alloc, rows, lines, table, width, skin, commands)?;
+            Ok(true)
+        }
         None => parts.lay_next(alloc, lines, width, skin),
     }
+}
+
+// Puts the rows of a table after those that are kept. No more of its lines are laid out at a time than one of the text becomes.
+fn append_table<'s>(
+    alloc: Global,
+    rows: &mut String,
+    lines: &mut Vec<FmtLine<'s>>,
+    table: TableCursor<'s>,
+    width: Option<usize>,
+    skin: &RowSkin,
+    commands: &mut StyleCommands,
+) -> Result<(), AllocError>
+    requires { lines.old.items ≡ [] }
+    ensures rows { OnOk result ((own : List FmtLine) × TableBecomes (line_rules skin.now) table.entry own × (string_bytes rows.new ≡ string_bytes rows.old ++ text_bytes skin.now width own)) }
+    ensures none { OnOk result (lines.new.items ≡ []) }
+{
+    let mut table = table;
+    while table.lay_next(alloc, lines, skin)? {
+        append_lines(rows, lines.as_slice(), width, skin, commands)?;
+        lines.clear();
+    }
+    Ok(())
 }
 
 // Puts the rows of a composite that was read after those that are kept, or what becomes of it after lines.

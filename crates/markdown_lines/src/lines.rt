@@ -201,7 +201,7 @@ impl Lines {
         ensures addresses { IfOk result (λ addresses. map string_bytes addresses.items ≡ cells_addresses (defined_of definitions.now) columns row.now) }
     {
         let mut addresses = Vec::new(alloc);
-        let mut ranges = Vec::new(alloc);
+        let mut ranges = Vec::with_capacity(alloc, columns)?;
         let mut rest = row;
         let mut more = columns;
         while more > 0 {
@@ -257,7 +257,7 @@ impl Lines {
     pub fn text_lines(&self, alloc: Global) -> Result<Vec<Line<'_>>, AllocError>
         ensures { IfOk result (λ made. map content_of made.items ≡ shown self.now) }
     {
-        let mut made = Vec::new(alloc);
+        let mut made = Vec::with_capacity(alloc, self.lines.as_slice().len())?;
         let mut index = 0;
         while index < self.lines.as_slice().len() {
             let line = make_line(alloc, &self.runs, &self.lines[index])?;

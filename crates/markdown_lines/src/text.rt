@@ -21,7 +21,7 @@ fn make_composite<'r>(
     ensures { IfOk result (λ composite. styled_runs composite ≡ record { style = style; runs = range_said (said runs.now) range }) }
 {
     let total = runs.count();
-    let mut compounds = Vec::new(alloc);
+    let mut compounds = Vec::with_capacity(alloc, range.count.min(total))?;
     let mut index = range.start;
     let mut more = range.count;
     while more > 0 {
@@ -47,7 +47,7 @@ fn make_row<'r>(
 ) -> Result<TableRow<'r>, AllocError>
     ensures { IfOk result (λ row. map styled_runs row.cells.items ≡ map (cell_said (said runs.now)) ranges.now) }
 {
-    let mut cells = Vec::new(alloc);
+    let mut cells = Vec::with_capacity(alloc, ranges.len())?;
     let mut rest = ranges;
     while let [range, next @ ..] = rest {
         let cell = make_composite(alloc, runs, CompositeStyle::Paragraph, *range)?;
