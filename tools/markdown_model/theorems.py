@@ -1,23 +1,24 @@
-"""The examples as theorems: what one sees of their blocks, and their lines, for crates/markdown_examples and crates/markdown_line_examples.
+"""The examples as theorems: what one sees of their blocks, and their lines, for crates/markdown_examples.
 
     python3 -m markdown_model.theorems [--check]
 
-It writes specs/Examples*.antt, proofs/Shown*.antt and the list of them of both crates, by what the model says of each text. With --check it writes
-nothing, and fails if they are others.
+It writes Blocks*.antt and Lines*.antt in the crate's specs/ and proofs/, the lists of these, and src/blocks.rt and src/lines.rt, by what the model says
+of each text. What is of html there is written by `tools/html_theorems`. With --check it writes nothing, and fails if they are others.
 """
 from __future__ import annotations
 
 import json
 import re
 import sys
-from pathlib import Path
+from collections.abc import Callable
+from typing import NamedTuple
 
 from .blocks import read_blocks
 from .lines import HorizontalRule, Normal, TableRow
 from .mapping import Flat
 from .picture import HERE, blocks_of, leaf
 
-CRATES = HERE.parent.parent / "crates"
+CRATE = HERE.parent.parent / "crates/markdown_examples"
 PER = 25
 
 
@@ -127,56 +128,77 @@ def lines_uses(rows):
     styles, alignments = list(VARIANTS)[2:]
     return ", true, false", variants(styles, rows) + variants(alignments, rows) + use(
         "Rattle.mad_md.specs.Lines", named(["table_rule", "horizontal_rule"], rows)) + use(
-        "Rattle.markdown_line_examples.specs.Rows", ["plain", "flagged", "row"] + named(["cells"], rows)) + use(
+        "Rattle.markdown_examples.specs.Rows", ["plain", "flagged", "row"] + named(["cells"], rows)) + use(
         "Rattle.markdown_reader.specs.Markdown", ["printable_lines"])
 
 
-def group_files(crate, number, first, rows, uses, said, reading):
+def group_files(part, number, first, rows):
     """The statements of a group, and their proofs."""
     title = f"-- Examples {first} to {first + len(rows) - 1}"
     names = [f"e{first + k}" for k in range(len(rows))]
-    prelude, others = uses(rows)
-    record = f"pub record AreShown{number} : Type 0 where\n" + "".join(f"  pub {name} : {row}\n" for name, row in zip(names, rows))
-    yield f"specs/Examples{number}.antt", (
-        f"{title}: {said}.\nuse Rattle.std.specs.Prelude.{{◌≡◌, [], ◌∷◌, codes{prelude}}}\n{others}\n{record}")
-    proofs = "".join(f"{name} : {row}\nunfolding {reading}\n{name} = refl\n\n" for name, row in zip(names, rows))
-    yield f"proofs/Shown{number}.antt", (
+    prelude, others = part.uses(rows)
+    module, statement, proof = f"{part.name}{number}", f"Are{part.name}{number}", f"{part.name.lower()}{number}"
+    record = f"pub record {statement} : Type 0 where\n" + "".join(f"  pub {name} : {row}\n" for name, row in zip(names, rows))
+    yield f"specs/{module}.antt", (
+        f"{title}: {part.said}.\nuse Rattle.std.specs.Prelude.{{◌≡◌, [], ◌∷◌, codes{prelude}}}\n{others}\n{record}")
+    proofs = "".join(f"{name} : {row}\nunfolding {part.unfolded}\n{name} = refl\n\n" for name, row in zip(names, rows))
+    yield f"proofs/{module}.antt", (
         f"{title}, computed.\nuse Rattle.std.proofs.Common.{{◌≡◌, [], ◌∷◌, codes{prelude}, refl}}\n{others}"
-        + use(f"Rattle.{crate}.specs.Examples{number}", [f"AreShown{number}"]) + use(f"Rattle.{crate}.proofs.Computing", [reading])
-        + f"\n{proofs}pub shown{number} : AreShown{number}\nshown{number} = record {{ {'; '.join(f'{name} = {name}' for name in names)} }}\n")
+        + use(f"Rattle.markdown_examples.specs.{module}", [statement]) + use(f"Rattle.{part.computing}.proofs.Computing", [part.unfolded])
+        + f"\n{proofs}pub {proof} : {statement}\n{proof} = record {{ {'; '.join(f'{name} = {name}' for name in names)} }}\n")
 
 
-def crate_files(crate, texts, row_of, uses, said, reading, head, law, module):
-    rows = [row_of(text) for text in texts]
+class Part(NamedTuple):
+    """What is said of the examples: blocks or lines."""
+    name: str
+    row_of: Callable[[str], str]
+    uses: Callable[[list[str]], tuple[str, str]]
+    said: str
+    computing: str
+    unfolded: str
+    law: str
+    head: str
+
+
+PARTS = [
+    Part("Blocks", blocks_row, blocks_uses, "what one sees of their blocks", "markdown_as_html", "reading", "What the blocks of examples {} are.", "The blocks of examples."),
+    Part("Lines", lines_row, lines_uses, "their lines", "markdown_examples", "lines", "The lines of examples {}.", "The lines that are shown of examples."),
+]
+
+
+def part_files(part, texts):
+    rows = [part.row_of(text) for text in texts]
     starts = range(0, len(rows), PER)
-    numbers = range(1, len(starts) + 1)
-    for number, at in zip(numbers, starts):
-        yield from group_files(crate, number, at + 1, rows[at:at + PER], uses, said, reading)
-    yield "specs/Lib.antt", "".join(f"pub mod Examples{k}\n" for k in numbers) + f"pub mod {module}\n"
-    yield "proofs/Lib.antt", "".join(f"pub mod Shown{k}\n" for k in numbers) + "pub mod Computing\n"
+    for number, at in enumerate(starts, 1):
+        yield from group_files(part, number, at + 1, rows[at:at + PER])
+    name, proof = part.name, part.name.lower()
     laws = "".join(
-        f"\n/// {law.format(f'{at + 1} to {min(at + PER, len(rows))}')}\n#[tactic(auto, using(crate::proofs::Shown{k}::shown{k}))]\n"
-        f"pub fn examples_{k}()\n    ensures {{ AreShown{k} }}\n{{}}\n" for k, at in zip(numbers, starts))
-    ghosts = "".join(f"ghost use Rattle.{crate}.specs.Examples{k}.{{AreShown{k}}};\n" for k in numbers)
-    yield "src/lib.rt", f"{head}\n#![tactic(auto)]\n\n{ghosts}{laws}"
+        f"\n/// {part.law.format(f'{at + 1} to {min(at + PER, len(rows))}')}\n#[tactic(auto, using(crate::proofs::{name}{k}::{proof}{k}))]\n"
+        f"pub fn examples_{k}()\n    ensures {{ Are{name}{k} }}\n{{}}\n" for k, at in enumerate(starts, 1))
+    ghosts = "".join(f"ghost use Rattle.markdown_examples.specs.{name}{k}.{{Are{name}{k}}};\n" for k in range(1, len(starts) + 1))
+    yield f"src/{proof}.rt", f"//! {part.head}\n\n{ghosts}{laws}"
 
 
 def files(texts):
-    heads = [(CRATES / crate / "src/lib.rt").read_text(encoding="utf-8").partition("\n#![tactic")[0] for crate in ("markdown_examples", "markdown_line_examples")]
-    yield "markdown_examples", crate_files(
-        "markdown_examples", texts, blocks_row, blocks_uses, "what one sees of their blocks", "blocks", heads[0], "What the blocks of examples {} are.", "Seen")
-    yield "markdown_line_examples", crate_files("markdown_line_examples", texts, lines_row, lines_uses, "their lines", "reading", heads[1], "The lines of examples {}.", "Rows")
+    for part in PARTS:
+        yield from part_files(part, texts)
+    count = len(range(0, len(texts), PER))
+    made = "".join(f"pub mod {part.name}{k}\n" for part in PARTS for k in range(1, count + 1))
+    for folder in ("specs", "proofs"):
+        name = f"{folder}/Lib.antt"
+        others = re.sub(r"pub mod (Blocks|Lines)\d+\n", "", (CRATE / name).read_text(encoding="utf-8"))
+        front, html, rest = others.partition("pub mod Html1\n")
+        yield name, front + made + html + rest
 
 
 def main():
     texts = [json.loads(one)["text"] for one in (HERE / "examples.jsonl").read_text(encoding="utf-8").splitlines()]
-    for crate, written in files(texts):
-        for name, text in written:
-            path = Path(CRATES / crate / name)
-            if "--check" not in sys.argv[1:]:
-                path.write_text(text, encoding="utf-8")
-            elif not path.exists() or path.read_text(encoding="utf-8") != text:
-                sys.exit(f"{path} has others than the model: run python3 -m markdown_model.theorems in tools/")
+    for name, text in files(texts):
+        path = CRATE / name
+        if "--check" not in sys.argv[1:]:
+            path.write_text(text, encoding="utf-8")
+        elif not path.exists() or path.read_text(encoding="utf-8") != text:
+            sys.exit(f"{path} has others than the model: run python3 -m markdown_model.theorems in tools/")
     print(len(texts), "examples")
 
 
