@@ -58,7 +58,11 @@ impl Paper {
                 self.erase();
             }
             for (number, part) in part.split(COMMAND).enumerate() {
-                let text = if number > 0 { after_command(part) } else { part };
+                let text = if number > 0 {
+                    after_command(part)
+                } else {
+                    part
+                };
                 for c in text.chars() {
                     self.read_character(alloc, c)?;
                 }
