@@ -1,4 +1,4 @@
-use Rattle.std.proofs.Common.{◌∙◌, sym, arith}
+use Rattle.std.proofs.Common.{◌∙◌, arith}
 use Rattle.markdown_brackets.proofs.BracketLemmas.{marked_free}
 use Rattle.markdown_brackets.proofs.brackets.Brackets.is_free.Goals as goal
 
