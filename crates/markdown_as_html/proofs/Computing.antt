@@ -32,8 +32,7 @@ unfolding
     Rattle.markdown_lines.specs.Tables.cell_len Rattle.markdown_lines.specs.Tables.unbarred Rattle.markdown_lines.specs.Tables.cells
     Rattle.markdown_lines.specs.Tables.alignments Rattle.markdown_lines.specs.Tables.table_lines Rattle.markdown_lines.specs.Tables.cells_addresses
     Rattle.markdown_lines.specs.Tables.rows_links Rattle.markdown_reader.specs.Definitions.defined_in
-    Rattle.markdown_reader.specs.Definitions.parts_defined Rattle.markdown_as_html.specs.Blocks.telling
-    Rattle.markdown_as_html.specs.Blocks.parted_parts Rattle.markdown_as_html.specs.Blocks.still_to_come
+    Rattle.markdown_reader.specs.Definitions.parts_defined Rattle.markdown_as_html.specs.Blocks.still_to_come
     Rattle.markdown_as_html.specs.Defined.defined_in Rattle.markdown_as_html.specs.Defined.parts_defined Rattle.markdown_as_html.specs.Escaped.escaped
     Rattle.markdown_as_html.specs.Escaped.addressed Rattle.markdown_as_html.specs.Html.cells_html Rattle.markdown_as_html.specs.Html.blocks_html
     Rattle.markdown_as_html.specs.Html.html_of Rattle.markdown_as_html.specs.Inlines.spans_from Rattle.markdown_as_html.specs.Inlines.pieces_html

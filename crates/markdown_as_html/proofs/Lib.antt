@@ -1,4 +1,3 @@
 pub mod Computing
 pub mod LabelLemmas
-pub mod PartLemmas
 pub mod CodeLemmas

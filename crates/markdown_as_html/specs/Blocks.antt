@@ -1,47 +1,7 @@
 -- The blocks of a text as a tree.
-use Rattle.std.specs.Prelude.{ℕ, Bool, false, List, [], ◌∷◌, drop}
-use Rattle.markdown_blocks.specs.Events.{Event, leave, enter, line, events_of}
+use Rattle.std.specs.Prelude.{Bool, List, [], ◌∷◌}
 use Rattle.markdown_blocks.specs.declared.containers.Container.{Container}
-use Rattle.markdown_blocks.specs.declared.containers.Container.TheVariants.{Quote, Item}
-use Rattle.markdown_leaves.specs.Gather.{Gathering, nothing_told, closed}
 use Rattle.markdown_leaves.specs.Parts.{BlockContent, PartContent, begins, ends, block}
-use Rattle.markdown_leaves.specs.Told.{happened, unread_text}
-
--- ---- parts, with the blank lines that part blocks
-
--- The parts so far, and the containers that are open, the innermost first.
-pub record Telling : Type 0 where
-  pub gathering : Gathering
-  pub around : List Container
-
--- A blank line in a quote doesn't part the quote from what comes after it.
-abbrev pub passed_after : List Container → Bool → Bool
-passed_after [] passed = passed
-passed_after (Quote ∷ outer) passed = false
-passed_after (Item sign number content ∷ outer) passed = passed
-
--- the containers that are open after an event
-abbrev pub around_after : Event → List Container → List Container
-around_after leave around = drop 1 around
-around_after (enter container) around = container ∷ around
-around_after (line deed text) around = around
-
--- a container that ends says whether blank lines before its end part blocks
-abbrev pub parted : Event → List Container → Gathering → Gathering
-parted leave around g = record g { passed = passed_after around g.passed }
-parted (enter container) around g = g
-parted (line deed text) around g = g
-
--- the parts so far and the open containers, after these events
-unfoldable pub telling : Telling → List Event → Telling
-telling t [] = t
-telling t (event ∷ events) = telling (record { gathering = parted event t.around (happened event t.gathering); around = around_after event t.around }) events
-
--- the parts of a text, as `parts_of` has them but for blank lines at the end of a quote
-unfoldable pub parted_parts : List ℕ → List PartContent
-parted_parts text = (closed (telling (record { gathering = nothing_told; around = [] }) (events_of (unread_text text))).gathering).parts
-
--- ---- the tree
 
 -- Blocks that follow one another in a container: a leaf, or a container with its own blocks, and then others. With a container goes
 -- whether blank lines are before it.

@@ -5,13 +5,14 @@ use Rattle.markdown_marks.specs.Remaining.{Remaining}
 use Rattle.markdown_spans.specs.Decoded.{decoded}
 use Rattle.markdown_blocks.specs.declared.containers.Container.TheVariants.{Quote, Item}
 use Rattle.markdown_leaves.specs.Parts.{PartContent}
+use Rattle.markdown_leaves.specs.Told.{parts_of}
 use Rattle.markdown_leaves.specs.declared.parts.Kind.{Kind}
 use Rattle.markdown_leaves.specs.declared.parts.Kind.TheVariants.{Nothing, Paragraph, Heading, Indented, Fenced, Html, Table, Rule, Definitions}
 use Rattle.mad_md.specs.declared.alignment.Alignment.{Alignment}
 use Rattle.mad_md.specs.declared.alignment.Alignment.TheVariants.{Unspecified, Left, Center, Right}
 use Rattle.markdown_lines.specs.Tables.{row_of, cell_text, after_cell, alignments}
 use Rattle.markdown_reader.specs.Mapping.{leaf_text}
-use Rattle.markdown_as_html.specs.Blocks.{Blocks, no_more, leaf, holds, parted_parts, tree_of}
+use Rattle.markdown_as_html.specs.Blocks.{Blocks, no_more, leaf, holds, tree_of}
 use Rattle.markdown_as_html.specs.Defined.{Defined, definitions_of}
 use Rattle.markdown_as_html.specs.Escaped.{escaped, end_tag, within, attribute}
 use Rattle.markdown_as_html.specs.Inlines.{inline_html}
@@ -177,4 +178,4 @@ parts_html parts = blocks_html (definitions_of parts) false None (tree_of parts)
 
 -- the html of a text, both in UTF-8
 unfoldable pub html_of : List ℕ → List ℕ
-html_of text = parts_html (parted_parts text)
+html_of text = parts_html (parts_of text)

@@ -1,13 +1,7 @@
 //! What is printed is what is read: laws, each a function that does nothing and states it.
 
-ghost use Rattle.markdown_as_html.specs.Laws.{LabelsAreThose, PartsAreThose};
+ghost use Rattle.markdown_as_html.specs.Laws.{LabelsAreThose};
 ghost use Rattle.markdown_as_html.specs.Printed.{CodeIsPrinted};
-
-/// The parts of a text are those that the reader has. What differs is which of them are behind blank lines, where a quote ends with some.
-#[tactic(auto, using(crate::proofs::PartLemmas::same_parts))]
-pub fn parts_are_those()
-    ensures { PartsAreThose }
-{}
 
 /// The labels that are defined are those that the reader has.
 #[tactic(auto, using(crate::proofs::LabelLemmas::same_labels))]

@@ -24,7 +24,7 @@ e329 : printable_lines (226 ∷ 128 ∷ 156 ∷ 45 ∷ 45 ∷ 62 ∷ 10 ∷ 61 �
 unfolding lines
 e329 = refl
 
-e330 : printable_lines (codes "| a | b |\n|-|-|\n| c | d |\n> | a | b |\n|-|-|\n| c | d |\n>\t\n===") ≡ table_rule (Unspecified ∷ Unspecified ∷ []) ∷ cells ((flagged true false false false false (codes "a") ∷ []) ∷ (flagged true false false false false (codes "b") ∷ []) ∷ []) ∷ table_rule (Unspecified ∷ Unspecified ∷ []) ∷ cells ((plain (codes "c") ∷ []) ∷ (plain (codes "d") ∷ []) ∷ []) ∷ table_rule (Unspecified ∷ Unspecified ∷ []) ∷ row Paragraph ([]) ∷ row Quote (plain (codes "| a | b | |-|-| | c | d |") ∷ []) ∷ row Paragraph ([]) ∷ row Paragraph (plain (codes "===") ∷ []) ∷ []
+e330 : printable_lines (codes "| a | b |\n|-|-|\n| c | d |\n> | a | b |\n|-|-|\n| c | d |\n>\t\n===") ≡ table_rule (Unspecified ∷ Unspecified ∷ []) ∷ cells ((flagged true false false false false (codes "a") ∷ []) ∷ (flagged true false false false false (codes "b") ∷ []) ∷ []) ∷ table_rule (Unspecified ∷ Unspecified ∷ []) ∷ cells ((plain (codes "c") ∷ []) ∷ (plain (codes "d") ∷ []) ∷ []) ∷ table_rule (Unspecified ∷ Unspecified ∷ []) ∷ row Paragraph ([]) ∷ row Quote (plain (codes "| a | b | |-|-| | c | d |") ∷ []) ∷ row Paragraph (plain (codes "===") ∷ []) ∷ []
 unfolding lines
 e330 = refl
 

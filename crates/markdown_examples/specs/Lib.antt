@@ -1,3 +1,5 @@
+pub mod Rows
+pub mod Seen
 pub mod Blocks1
 pub mod Blocks2
 pub mod Blocks3
@@ -15,6 +17,7 @@ pub mod Blocks14
 pub mod Blocks15
 pub mod Blocks16
 pub mod Blocks17
+pub mod Blocks18
 pub mod Lines1
 pub mod Lines2
 pub mod Lines3
@@ -32,8 +35,7 @@ pub mod Lines14
 pub mod Lines15
 pub mod Lines16
 pub mod Lines17
-pub mod Rows
-pub mod Seen
+pub mod Lines18
 pub mod Html1
 pub mod Html2
 pub mod Html3
@@ -51,3 +53,4 @@ pub mod Html14
 pub mod Html15
 pub mod Html16
 pub mod Html17
+pub mod Html18

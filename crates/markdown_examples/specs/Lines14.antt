@@ -11,7 +11,7 @@ pub record AreLines14 : Type 0 where
   pub e327 : printable_lines (codes "Ã©[a]\n\n[a]: /u\n<a>| a | b |\n|-|-|\n| c | d |\n_") ≡ row Paragraph (plain (codes "Ã©") ∷ flagged false false false false true (codes "a") ∷ []) ∷ row Paragraph ([]) ∷ row Paragraph (plain (codes "| a | b | |-|-| | c | d | _") ∷ []) ∷ []
   pub e328 : printable_lines (codes "<a>[a]: /u\n\n| a | b |\n|-|-|\n| c | d |\n<div><!--") ≡ row Paragraph (plain (codes "[a]: /u") ∷ []) ∷ row Paragraph ([]) ∷ table_rule (Unspecified ∷ Unspecified ∷ []) ∷ cells ((flagged true false false false false (codes "a") ∷ []) ∷ (flagged true false false false false (codes "b") ∷ []) ∷ []) ∷ table_rule (Unspecified ∷ Unspecified ∷ []) ∷ cells ((plain (codes "c") ∷ []) ∷ (plain (codes "d") ∷ []) ∷ []) ∷ table_rule (Unspecified ∷ Unspecified ∷ []) ∷ []
   pub e329 : printable_lines (226 ∷ 128 ∷ 156 ∷ 45 ∷ 45 ∷ 62 ∷ 10 ∷ 61 ∷ 61 ∷ 61 ∷ 10 ∷ 10 ∷ 124 ∷ 45 ∷ 124 ∷ 45 ∷ 124 ∷ 10 ∷ 10 ∷ 10 ∷ 124 ∷ 32 ∷ 97 ∷ 32 ∷ 124 ∷ 32 ∷ 98 ∷ 32 ∷ 124 ∷ 10 ∷ 124 ∷ 45 ∷ 124 ∷ 45 ∷ 124 ∷ 10 ∷ 124 ∷ 32 ∷ 99 ∷ 32 ∷ 124 ∷ 32 ∷ 100 ∷ 32 ∷ 124 ∷ 10 ∷ 32 ∷ 32 ∷ 32 ∷ 32 ∷ []) ≡ row (Header 1) (plain (226 ∷ 128 ∷ 156 ∷ 45 ∷ 45 ∷ 62 ∷ []) ∷ []) ∷ row Paragraph ([]) ∷ row Paragraph (plain (codes "|-|-|") ∷ []) ∷ row Paragraph ([]) ∷ table_rule (Unspecified ∷ Unspecified ∷ []) ∷ cells ((flagged true false false false false (codes "a") ∷ []) ∷ (flagged true false false false false (codes "b") ∷ []) ∷ []) ∷ table_rule (Unspecified ∷ Unspecified ∷ []) ∷ cells ((plain (codes "c") ∷ []) ∷ (plain (codes "d") ∷ []) ∷ []) ∷ table_rule (Unspecified ∷ Unspecified ∷ []) ∷ []
-  pub e330 : printable_lines (codes "| a | b |\n|-|-|\n| c | d |\n> | a | b |\n|-|-|\n| c | d |\n>\t\n===") ≡ table_rule (Unspecified ∷ Unspecified ∷ []) ∷ cells ((flagged true false false false false (codes "a") ∷ []) ∷ (flagged true false false false false (codes "b") ∷ []) ∷ []) ∷ table_rule (Unspecified ∷ Unspecified ∷ []) ∷ cells ((plain (codes "c") ∷ []) ∷ (plain (codes "d") ∷ []) ∷ []) ∷ table_rule (Unspecified ∷ Unspecified ∷ []) ∷ row Paragraph ([]) ∷ row Quote (plain (codes "| a | b | |-|-| | c | d |") ∷ []) ∷ row Paragraph ([]) ∷ row Paragraph (plain (codes "===") ∷ []) ∷ []
+  pub e330 : printable_lines (codes "| a | b |\n|-|-|\n| c | d |\n> | a | b |\n|-|-|\n| c | d |\n>\t\n===") ≡ table_rule (Unspecified ∷ Unspecified ∷ []) ∷ cells ((flagged true false false false false (codes "a") ∷ []) ∷ (flagged true false false false false (codes "b") ∷ []) ∷ []) ∷ table_rule (Unspecified ∷ Unspecified ∷ []) ∷ cells ((plain (codes "c") ∷ []) ∷ (plain (codes "d") ∷ []) ∷ []) ∷ table_rule (Unspecified ∷ Unspecified ∷ []) ∷ row Paragraph ([]) ∷ row Quote (plain (codes "| a | b | |-|-| | c | d |") ∷ []) ∷ row Paragraph (plain (codes "===") ∷ []) ∷ []
   pub e331 : printable_lines (codes "**\n|-|") ≡ table_rule (Unspecified ∷ []) ∷ cells ((flagged true false false false false (codes "**") ∷ []) ∷ []) ∷ table_rule (Unspecified ∷ []) ∷ []
   pub e332 : printable_lines (codes "- ~b~> |-|") ≡ row (ListItem 0) (flagged false false false true false (codes "b") ∷ plain (codes "> |-|") ∷ []) ∷ []
   pub e333 : printable_lines (codes "-|-\n*\n:-:\n") ≡ row Paragraph (plain (codes "-|-") ∷ []) ∷ row Paragraph ([]) ∷ table_rule (Center ∷ []) ∷ cells ((flagged true false false false false (codes "*") ∷ []) ∷ []) ∷ table_rule (Center ∷ []) ∷ []

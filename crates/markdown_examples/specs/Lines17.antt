@@ -1,6 +1,6 @@
--- Examples 401 to 410: their lines.
+-- Examples 401 to 425: their lines.
 use Rattle.std.specs.Prelude.{◌≡◌, [], ◌∷◌, codes, true, false}
-use Rattle.mad_md.specs.declared.composite.CompositeStyle.TheVariants.{Paragraph, ListItem, Code, Quote}
+use Rattle.mad_md.specs.declared.composite.CompositeStyle.TheVariants.{Paragraph, ListItem, OrderedListItem, Code, Quote}
 use Rattle.mad_md.specs.declared.alignment.Alignment.TheVariants.{Unspecified, Left, Right}
 use Rattle.mad_md.specs.Lines.{table_rule, horizontal_rule}
 use Rattle.markdown_examples.specs.Rows.{plain, flagged, row, cells}
@@ -17,3 +17,18 @@ pub record AreLines17 : Type 0 where
   pub e408 : printable_lines (codes "****-|-\n|-|-|\n|-|| a | b |\n\\|| a | b |\nb") ≡ table_rule (Unspecified ∷ Unspecified ∷ []) ∷ cells ((flagged true false false false false (codes "****-") ∷ []) ∷ (flagged true false false false false (codes "-") ∷ []) ∷ []) ∷ table_rule (Unspecified ∷ Unspecified ∷ []) ∷ cells ((plain (codes "-") ∷ []) ∷ ([]) ∷ []) ∷ cells ((plain (codes "|") ∷ []) ∷ (plain (codes "a") ∷ []) ∷ []) ∷ cells ((plain (codes "b") ∷ []) ∷ []) ∷ table_rule (Unspecified ∷ Unspecified ∷ []) ∷ []
   pub e409 : printable_lines (codes "| a | b |\n-|-\n-|-\n||:-|-:|\n|:-|-:|\n**\n|-|") ≡ table_rule (Unspecified ∷ Unspecified ∷ []) ∷ cells ((flagged true false false false false (codes "a") ∷ []) ∷ (flagged true false false false false (codes "b") ∷ []) ∷ []) ∷ table_rule (Unspecified ∷ Unspecified ∷ []) ∷ cells ((plain (codes "-") ∷ []) ∷ (plain (codes "-") ∷ []) ∷ []) ∷ cells (([]) ∷ (plain (codes ":-") ∷ []) ∷ []) ∷ cells ((plain (codes ":-") ∷ []) ∷ (plain (codes "-:") ∷ []) ∷ []) ∷ cells ((plain (codes "**") ∷ []) ∷ []) ∷ cells ((plain (codes "-") ∷ []) ∷ []) ∷ table_rule (Unspecified ∷ Unspecified ∷ []) ∷ []
   pub e410 : printable_lines (codes "~|-|-|\n-|-\n -|-\n|-|-|\n:-:|:-|-:|\n| a | b |\n") ≡ row Paragraph (plain (codes "~|-|-|") ∷ []) ∷ row Paragraph ([]) ∷ table_rule (Unspecified ∷ Unspecified ∷ []) ∷ cells ((flagged true false false false false (codes "-") ∷ []) ∷ (flagged true false false false false (codes "-") ∷ []) ∷ []) ∷ table_rule (Unspecified ∷ Unspecified ∷ []) ∷ cells ((plain (codes "-") ∷ []) ∷ (plain (codes "-") ∷ []) ∷ []) ∷ cells ((plain (codes ":-:") ∷ []) ∷ (plain (codes ":-") ∷ []) ∷ []) ∷ cells ((plain (codes "a") ∷ []) ∷ (plain (codes "b") ∷ []) ∷ []) ∷ table_rule (Unspecified ∷ Unspecified ∷ []) ∷ []
+  pub e411 : printable_lines (42 ∷ 42 ∷ 226 ∷ 136 ∷ 158 ∷ 42 ∷ 42 ∷ 97 ∷ 98 ∷ 32 ∷ 95 ∷ 97 ∷ 95 ∷ 226 ∷ 134 ∷ 146 ∷ 98 ∷ []) ≡ row Paragraph (plain (42 ∷ 42 ∷ 226 ∷ 136 ∷ 158 ∷ 42 ∷ 42 ∷ 97 ∷ 98 ∷ 32 ∷ []) ∷ flagged false true false false false (codes "a") ∷ plain (226 ∷ 134 ∷ 146 ∷ 98 ∷ []) ∷ []) ∷ []
+  pub e412 : printable_lines (codes "*Â©*a *Â¢*a *Â´*a *Â±*a") ≡ row Paragraph (plain (codes "*Â©*a *Â¢*a *Â´*a *Â±*a") ∷ []) ∷ []
+  pub e413 : printable_lines (codes "x <!-->y--> <!--->z-->") ≡ row Paragraph (plain (codes "x y--> z-->") ∷ []) ∷ []
+  pub e414 : printable_lines (codes "x <!-- y -- z ---> *a*") ≡ row Paragraph (plain (codes "x  ") ∷ flagged false true false false false (codes "a") ∷ []) ∷ []
+  pub e415 : printable_lines (codes "x <!-- y --> z --> <!--- *a*") ≡ row Paragraph (plain (codes "x  z --> <!--- ") ∷ flagged false true false false false (codes "a") ∷ []) ∷ []
+  pub e416 : printable_lines (codes "a\n<search>\n*b*\n\n</SEARCH>") ≡ row Paragraph (plain (codes "a") ∷ []) ∷ row Paragraph (plain (codes "*b*") ∷ []) ∷ []
+  pub e417 : printable_lines (codes "a\n<source>\n*b*") ≡ row Paragraph (plain (codes "a  ") ∷ flagged false true false false false (codes "b") ∷ []) ∷ []
+  pub e418 : printable_lines (codes "1. > a\n   >\n2. b") ≡ row (OrderedListItem 0 1) ([]) ∷ row Quote (plain (codes "a") ∷ []) ∷ row (OrderedListItem 0 2) (plain (codes "b") ∷ []) ∷ []
+  pub e419 : printable_lines (codes "- x\n  > y\n  >\n  >\n- z\n") ≡ row (ListItem 0) (plain (codes "x") ∷ []) ∷ row Quote (plain (codes "y") ∷ []) ∷ row (ListItem 0) (plain (codes "z") ∷ []) ∷ []
+  pub e420 : printable_lines (codes "- > a\n  >\n\n- b") ≡ row (ListItem 0) ([]) ∷ row Quote (plain (codes "a") ∷ []) ∷ row Paragraph ([]) ∷ row (ListItem 0) (plain (codes "b") ∷ []) ∷ []
+  pub e421 : printable_lines (codes "+ >     a\n  >\n+ b") ≡ row (ListItem 0) ([]) ∷ row Code (plain (codes "a") ∷ []) ∷ row Paragraph ([]) ∷ row (ListItem 0) (plain (codes "b") ∷ []) ∷ []
+  pub e422 : printable_lines (codes "> - a\n>\n- b\n- c") ≡ row (ListItem 0) (plain (codes "a") ∷ []) ∷ row (ListItem 0) (plain (codes "b") ∷ []) ∷ row (ListItem 0) (plain (codes "c") ∷ []) ∷ []
+  pub e423 : printable_lines (codes ">\na\n>\n\nb") ≡ row Paragraph (plain (codes "a") ∷ []) ∷ row Paragraph ([]) ∷ row Paragraph (plain (codes "b") ∷ []) ∷ []
+  pub e424 : printable_lines (codes "[bbbbbbbbbbbbbbbbbbbbbbbbbbbbbbbbbbbbbbbbbbbbbbbbbbbbbbbbbbbbbbbbbbbbbbbbbbbbbbbbbbbbbbbbbbbbbbbbbbbb]\n\n[bbbbbbbbbbbbbbbbbbbbbbbbbbbbbbbbbbbbbbbbbbbbbbbbbbbbbbbbbbbbbbbbbbbbbbbbbbbbbbbbbbbbbbbbbbbbbbbbbbbb]: /u") ≡ row Paragraph (flagged false false false false true (codes "bbbbbbbbbbbbbbbbbbbbbbbbbbbbbbbbbbbbbbbbbbbbbbbbbbbbbbbbbbbbbbbbbbbbbbbbbbbbbbbbbbbbbbbbbbbbbbbbbbbb") ∷ []) ∷ []
+  pub e425 : printable_lines (codes "[bbbbbbbbbbbbbbbbbbbbbbbbbbbbbbbbbbbbbbbbbbbbbbbbbbbbbbbbbbbbbbbbbbbbbbbbbbbbbbbbbbbbbbbbbbbbbbbbbbbbbbbbbbbbbbbbbbbbbbbbbbbbbbbbbbbbbbbbbbbbbbbbbbbbbbbbbbbbbbbbbbbbbbbbbbbbbbbbbbbbbbbbbbbbbbbbbbbbbbbbbbbbbbbbbbbbbbbbbbbbbbbbbbbbbbbbbbbbbbbbbbbbbbbbbbbbbbbbbbbbbbbbbbbbbbbbbbbbbbbbbbbbbbbbbbbbbbbbbbbbbbbbbbbbbbbbbbbbbbbbbbbbbbbbbbbbbbbbbbbbbbbbbbbbbbbbbbbbbbbbbbbbbbbbbbbbbbbbbbbbbbbbbbbbbbbbbbbbbbbbbbbbbbbbbbbbbbbbbbbbbbbbbbbbbbbbbbbbbbbbbbbbbbbbbbbbbbbbbbbbbbbbbbbbbbbbbbbbbbbbbbbbbbbbbbbbbbbbbbbbbbbbbbbbbbbbbbbbbbbbbbbbbbbbbbbbbbbbbbbbbbbbbbbbbbbbbbbbbbbbbbbbbbbbbbbbbbbbbbbbbbbbbbbbbbbbbbbbbbbbbbbbbbbbbbbbbbbbbbbbbbbbbbbbbbbbbbbbbbbbbbbbbbbbbbbbbbbbbbbbbbbbbbbbbbbbbbbbbbbbbbbbbbbbbbbbbbbbbbbbbbbbbbbbbbbbbbbbbbbbbbbbbbbbbbbbbbbbbbbbbbbbbbbbbbbbbbbbbbbbbbbbbbbbbbbbbbbbbbbbbbbbbbbbbbbbbbbbbbbbbbbbbbbbbbbbbbbbbbbbbbbbbbbbbbbbbbbbbbbbbbbbbbbbbbbbbbbbbbbbbbbbbbbbbbbbbbbbbbbbbbbbbbbbbbbbbbbbbbbbbbbbbbbbbbbbbbbbbbbbbbbbbbbbbbbbbbbbbbbbbbbbbbbbbbbbbbbbbbbbbbbbbbbbbbbbbbbbbbbbbbbbbbbbbbbbbbbbbbbbb]\n\n[bbbbbbbbbbbbbbbbbbbbbbbbbbbbbbbbbbbbbbbbbbbbbbbbbbbbbbbbbbbbbbbbbbbbbbbbbbbbbbbbbbbbbbbbbbbbbbbbbbbbbbbbbbbbbbbbbbbbbbbbbbbbbbbbbbbbbbbbbbbbbbbbbbbbbbbbbbbbbbbbbbbbbbbbbbbbbbbbbbbbbbbbbbbbbbbbbbbbbbbbbbbbbbbbbbbbbbbbbbbbbbbbbbbbbbbbbbbbbbbbbbbbbbbbbbbbbbbbbbbbbbbbbbbbbbbbbbbbbbbbbbbbbbbbbbbbbbbbbbbbbbbbbbbbbbbbbbbbbbbbbbbbbbbbbbbbbbbbbbbbbbbbbbbbbbbbbbbbbbbbbbbbbbbbbbbbbbbbbbbbbbbbbbbbbbbbbbbbbbbbbbbbbbbbbbbbbbbbbbbbbbbbbbbbbbbbbbbbbbbbbbbbbbbbbbbbbbbbbbbbbbbbbbbbbbbbbbbbbbbbbbbbbbbbbbbbbbbbbbbbbbbbbbbbbbbbbbbbbbbbbbbbbbbbbbbbbbbbbbbbbbbbbbbbbbbbbbbbbbbbbbbbbbbbbbbbbbbbbbbbbbbbbbbbbbbbbbbbbbbbbbbbbbbbbbbbbbbbbbbbbbbbbbbbbbbbbbbbbbbbbbbbbbbbbbbbbbbbbbbbbbbbbbbbbbbbbbbbbbbbbbbbbbbbbbbbbbbbbbbbbbbbbbbbbbbbbbbbbbbbbbbbbbbbbbbbbbbbbbbbbbbbbbbbbbbbbbbbbbbbbbbbbbbbbbbbbbbbbbbbbbbbbbbbbbbbbbbbbbbbbbbbbbbbbbbbbbbbbbbbbbbbbbbbbbbbbbbbbbbbbbbbbbbbbbbbbbbbbbbbbbbbbbbbbbbbbbbbbbbbbbbbbbbbbbbbbbbbbbbbbbbbbbbbbbbbbbbbbbbbbbbbbbbbbbbbbbbbbbbbbbbbbbbbbbbbbbbbbbbbbbbbbbbbbbbbbbbbbbbbbbbbbbbbbbbbbbbbbbbbb]: /u") ≡ row Paragraph (plain (codes "[bbbbbbbbbbbbbbbbbbbbbbbbbbbbbbbbbbbbbbbbbbbbbbbbbbbbbbbbbbbbbbbbbbbbbbbbbbbbbbbbbbbbbbbbbbbbbbbbbbbbbbbbbbbbbbbbbbbbbbbbbbbbbbbbbbbbbbbbbbbbbbbbbbbbbbbbbbbbbbbbbbbbbbbbbbbbbbbbbbbbbbbbbbbbbbbbbbbbbbbbbbbbbbbbbbbbbbbbbbbbbbbbbbbbbbbbbbbbbbbbbbbbbbbbbbbbbbbbbbbbbbbbbbbbbbbbbbbbbbbbbbbbbbbbbbbbbbbbbbbbbbbbbbbbbbbbbbbbbbbbbbbbbbbbbbbbbbbbbbbbbbbbbbbbbbbbbbbbbbbbbbbbbbbbbbbbbbbbbbbbbbbbbbbbbbbbbbbbbbbbbbbbbbbbbbbbbbbbbbbbbbbbbbbbbbbbbbbbbbbbbbbbbbbbbbbbbbbbbbbbbbbbbbbbbbbbbbbbbbbbbbbbbbbbbbbbbbbbbbbbbbbbbbbbbbbbbbbbbbbbbbbbbbbbbbbbbbbbbbbbbbbbbbbbbbbbbbbbbbbbbbbbbbbbbbbbbbbbbbbbbbbbbbbbbbbbbbbbbbbbbbbbbbbbbbbbbbbbbbbbbbbbbbbbbbbbbbbbbbbbbbbbbbbbbbbbbbbbbbbbbbbbbbbbbbbbbbbbbbbbbbbbbbbbbbbbbbbbbbbbbbbbbbbbbbbbbbbbbbbbbbbbbbbbbbbbbbbbbbbbbbbbbbbbbbbbbbbbbbbbbbbbbbbbbbbbbbbbbbbbbbbbbbbbbbbbbbbbbbbbbbbbbbbbbbbbbbbbbbbbbbbbbbbbbbbbbbbbbbbbbbbbbbbbbbbbbbbbbbbbbbbbbbbbbbbbbbbbbbbbbbbbbbbbbbbbbbbbbbbbbbbbbbbbbbbbbbbbbbbbbbbbbbbbbbbbbbbbbbbbbbbbbbbbbbbbbbbbbbbbbbbbbbbbbbbbbbbbbbbbbbbbbbbbbbbbbbbbbbbbb]") ∷ []) ∷ row Paragraph ([]) ∷ row Paragraph (plain (codes "[bbbbbbbbbbbbbbbbbbbbbbbbbbbbbbbbbbbbbbbbbbbbbbbbbbbbbbbbbbbbbbbbbbbbbbbbbbbbbbbbbbbbbbbbbbbbbbbbbbbbbbbbbbbbbbbbbbbbbbbbbbbbbbbbbbbbbbbbbbbbbbbbbbbbbbbbbbbbbbbbbbbbbbbbbbbbbbbbbbbbbbbbbbbbbbbbbbbbbbbbbbbbbbbbbbbbbbbbbbbbbbbbbbbbbbbbbbbbbbbbbbbbbbbbbbbbbbbbbbbbbbbbbbbbbbbbbbbbbbbbbbbbbbbbbbbbbbbbbbbbbbbbbbbbbbbbbbbbbbbbbbbbbbbbbbbbbbbbbbbbbbbbbbbbbbbbbbbbbbbbbbbbbbbbbbbbbbbbbbbbbbbbbbbbbbbbbbbbbbbbbbbbbbbbbbbbbbbbbbbbbbbbbbbbbbbbbbbbbbbbbbbbbbbbbbbbbbbbbbbbbbbbbbbbbbbbbbbbbbbbbbbbbbbbbbbbbbbbbbbbbbbbbbbbbbbbbbbbbbbbbbbbbbbbbbbbbbbbbbbbbbbbbbbbbbbbbbbbbbbbbbbbbbbbbbbbbbbbbbbbbbbbbbbbbbbbbbbbbbbbbbbbbbbbbbbbbbbbbbbbbbbbbbbbbbbbbbbbbbbbbbbbbbbbbbbbbbbbbbbbbbbbbbbbbbbbbbbbbbbbbbbbbbbbbbbbbbbbbbbbbbbbbbbbbbbbbbbbbbbbbbbbbbbbbbbbbbbbbbbbbbbbbbbbbbbbbbbbbbbbbbbbbbbbbbbbbbbbbbbbbbbbbbbbbbbbbbbbbbbbbbbbbbbbbbbbbbbbbbbbbbbbbbbbbbbbbbbbbbbbbbbbbbbbbbbbbbbbbbbbbbbbbbbbbbbbbbbbbbbbbbbbbbbbbbbbbbbbbbbbbbbbbbbbbbbbbbbbbbbbbbbbbbbbbbbbbbbbbbbbbbbbbbbbbbbbbbbbbbbbbbbbbbbbbbbbbbbbbbbbbbbbbbbbbbbbbbbbbbbbb]: /u") ∷ []) ∷ []

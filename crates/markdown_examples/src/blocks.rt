@@ -17,6 +17,7 @@ ghost use Rattle.markdown_examples.specs.Blocks14.{AreBlocks14};
 ghost use Rattle.markdown_examples.specs.Blocks15.{AreBlocks15};
 ghost use Rattle.markdown_examples.specs.Blocks16.{AreBlocks16};
 ghost use Rattle.markdown_examples.specs.Blocks17.{AreBlocks17};
+ghost use Rattle.markdown_examples.specs.Blocks18.{AreBlocks18};
 
 /// What the blocks of examples 1 to 25 are.
 #[tactic(auto, using(crate::proofs::Blocks1::blocks1))]
@@ -114,8 +115,14 @@ pub fn examples_16()
     ensures { AreBlocks16 }
 {}
 
-/// What the blocks of examples 401 to 410 are.
+/// What the blocks of examples 401 to 425 are.
 #[tactic(auto, using(crate::proofs::Blocks17::blocks17))]
 pub fn examples_17()
     ensures { AreBlocks17 }
+{}
+
+/// What the blocks of examples 426 to 429 are.
+#[tactic(auto, using(crate::proofs::Blocks18::blocks18))]
+pub fn examples_18()
+    ensures { AreBlocks18 }
 {}

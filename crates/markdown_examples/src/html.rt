@@ -17,6 +17,7 @@ ghost use Rattle.markdown_examples.specs.Html14.{ArePrinted14};
 ghost use Rattle.markdown_examples.specs.Html15.{ArePrinted15};
 ghost use Rattle.markdown_examples.specs.Html16.{ArePrinted16};
 ghost use Rattle.markdown_examples.specs.Html17.{ArePrinted17};
+ghost use Rattle.markdown_examples.specs.Html18.{ArePrinted18};
 
 /// Examples 1 to 25 are printed as they are to be.
 #[tactic(auto, using(crate::proofs::Html1::printed1))]
@@ -114,8 +115,14 @@ pub fn examples_16()
     ensures { ArePrinted16 }
 {}
 
-/// Examples 401 to 410 are printed as they are to be.
+/// Examples 401 to 425 are printed as they are to be.
 #[tactic(auto, using(crate::proofs::Html17::printed17))]
 pub fn examples_17()
     ensures { ArePrinted17 }
+{}
+
+/// Examples 426 to 429 are printed as they are to be.
+#[tactic(auto, using(crate::proofs::Html18::printed18))]
+pub fn examples_18()
+    ensures { ArePrinted18 }
 {}

@@ -17,6 +17,7 @@ ghost use Rattle.markdown_examples.specs.Lines14.{AreLines14};
 ghost use Rattle.markdown_examples.specs.Lines15.{AreLines15};
 ghost use Rattle.markdown_examples.specs.Lines16.{AreLines16};
 ghost use Rattle.markdown_examples.specs.Lines17.{AreLines17};
+ghost use Rattle.markdown_examples.specs.Lines18.{AreLines18};
 
 /// The lines of examples 1 to 25.
 #[tactic(auto, using(crate::proofs::Lines1::lines1))]
@@ -114,8 +115,14 @@ pub fn examples_16()
     ensures { AreLines16 }
 {}
 
-/// The lines of examples 401 to 410.
+/// The lines of examples 401 to 425.
 #[tactic(auto, using(crate::proofs::Lines17::lines17))]
 pub fn examples_17()
     ensures { AreLines17 }
+{}
+
+/// The lines of examples 426 to 429.
+#[tactic(auto, using(crate::proofs::Lines18::lines18))]
+pub fn examples_18()
+    ensures { AreLines18 }
 {}

@@ -76,7 +76,7 @@ entered_behind : (container : Container) (before : List PartContent) (g : Gather
 entered_behind container before g = ap (λ (ps : List PartContent). with_parts (entered_in container g) ps) (append_assoc before g.parts _)
 
 left_behind : (before : List PartContent) (g : Gathering) → left_in (behind before g) ≡ behind before (left_in g)
-left_behind before g = ap (λ (ps : List PartContent). with_parts g ps) (append_assoc before g.parts _)
+left_behind before g = ap (λ (ps : List PartContent). with_parts (left_in g) ps) (append_assoc before g.parts _)
 
 -- so does any event
 pub happened_behind : (event : Event) (before : List PartContent) (g : Gathering) → happened event (behind before g) ≡ behind before (happened event g)

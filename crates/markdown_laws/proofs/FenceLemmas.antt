@@ -99,11 +99,11 @@ ended g events = (closed (told g events)).parts
 
 -- these parts are told, and no leaf is open
 abbrev pub nothing_open : List PartContent → Gathering
-nothing_open parts = record { parts = parts; kind = Nothing; apart = false; lines = []; passed = false; fresh = false }
+nothing_open parts = record { parts = parts; kind = Nothing; apart = false; lines = []; passed = false; fresh = false; around = [] }
 
 -- code between fences is open, which has these lines
 abbrev pub code_with : List Remaining → Gathering
-code_with lines = record { parts = []; kind = Fenced; apart = false; lines = lines; passed = false; fresh = false }
+code_with lines = record { parts = []; kind = Fenced; apart = false; lines = lines; passed = false; fresh = false; around = [] }
 
 -- code between fences that has these lines
 abbrev pub code_of : List Remaining → BlockContent
@@ -207,18 +207,23 @@ with_text text first fence lines indent sign length are h inside =
           ∙ ends_open (lines_of found.0 indent lines) sign length indent,
     )
 
+-- the code of a text that begins with a fence, which is closed, and then another text
+pub code_read : (text after first last : List ℕ) (lines : List (List ℕ)) (indent sign length : ℕ) (behind : Remaining)
+    → text_lines text ≡ first ∷ (lines ++ last ∷ text_lines after)
+    → step (state_with NothingLeaf 0) first ≡ made (FencedLeaf sign length indent) (Begins (FencedLeaf sign length indent)) behind
+    → list_all (is_inside sign length) lines ≡ true → closes_fence sign length (whole last) ≡ true → parts_of text ≡ block (code_of (lines_of behind indent lines)) ∷ parts_of after
+code_read text after first last lines indent sign length behind are begins inside closing =
+    let code = lines_of behind indent lines in
+    let others = text_lines after in
+    read_of text ∙ ap (λ (ls : List (List ℕ)). ended nothing_told (events_from (state_with NothingLeaf 0) ls)) are
+    ∙ begin_read sign length indent first behind (lines ++ last ∷ others) begins
+    ∙ lines_read sign length indent (trimmed behind ∷ []) lines (last ∷ others) inside
+    ∙ line_read (code_with code) (nothing_open (block (code_of code) ∷ [])) (FencedLeaf sign length indent) NothingLeaf Closes (whole last) last others (closes indent sign length last closing) (end_told _ code)
+    ∙ ended_behind (block (code_of code) ∷ []) (events_from (state_with NothingLeaf 0) others)
+    ∙ ap (λ (ps : List PartContent). block (code_of code) ∷ ps) (sym (read_of after))
+
 -- a fence ends at the first line that closes it
 pub at_its_end : FenceEndsAtItsEnd
 at_its_end text after first last fence lines indent sign length are h inside closing =
     let found = begun_code indent sign length first fence h in
-    let code = lines_of found.0 indent lines in
-    let others = text_lines after in (
-      code_of code,
-      is_code found.0 (drop length fence) indent lines found.1,
-      read_of text ∙ ap (λ (ls : List (List ℕ)). ended nothing_told (events_from (state_with NothingLeaf 0) ls)) are
-          ∙ begin_read sign length indent first found.0 (lines ++ last ∷ others) found.2
-          ∙ lines_read sign length indent (trimmed found.0 ∷ []) lines (last ∷ others) inside
-          ∙ line_read (code_with code) (nothing_open (block (code_of code) ∷ [])) (FencedLeaf sign length indent) NothingLeaf Closes (whole last) last others (closes indent sign length last closing) (end_told _ code)
-          ∙ ended_behind (block (code_of code) ∷ []) (events_from (state_with NothingLeaf 0) others)
-          ∙ ap (λ (ps : List PartContent). block (code_of code) ∷ ps) (sym (read_of after)),
-    )
+    (code_of (lines_of found.0 indent lines), is_code found.0 (drop length fence) indent lines found.1, code_read text after first last lines indent sign length found.0 are found.2 inside closing)

@@ -27,10 +27,10 @@ abbrev ended : Gathering → List Event → List PartContent
 ended g events = (closed (told g events)).parts
 
 abbrev outside_of : List PartContent → (apart passed : Bool) → Gathering
-outside_of parts apart passed = record { parts = parts; kind = Nothing; apart = apart; lines = []; passed = passed; fresh = false }
+outside_of parts apart passed = record { parts = parts; kind = Nothing; apart = apart; lines = []; passed = passed; fresh = false; around = [] }
 
 abbrev inside_of : List PartContent → (apart : Bool) → List (List ℕ) → Gathering
-inside_of parts apart lines = record { parts = parts; kind = Paragraph; apart = apart; lines = map whole lines; passed = false; fresh = false }
+inside_of parts apart lines = record { parts = parts; kind = Paragraph; apart = apart; lines = map whole lines; passed = false; fresh = false; around = [] }
 
 abbrev Groups : Type 0
 Groups = List (List (List ℕ))
@@ -113,7 +113,7 @@ words_after_outside parts apart passed line = refl
 words_after_inside : (parts : List PartContent) (apart : Bool) (lines : List (List ℕ)) (line : List ℕ) → after_line GoesOn line (inside_of parts apart lines) ≡ inside_of parts apart (lines ++ line ∷ [])
 unfolding line_done
 words_after_inside parts apart lines line =
-    ap (λ (ls : List Remaining). record { parts = parts; kind = Paragraph; apart = apart; lines = ls; passed = false; fresh = false }) (sym (map-append whole lines (line ∷ [])))
+    ap (λ (ls : List Remaining). record { parts = parts; kind = Paragraph; apart = apart; lines = ls; passed = false; fresh = false; around = [] }) (sym (map-append whole lines (line ∷ [])))
 
 -- what is read from a place between two lines on
 abbrev Reads : List (List ℕ) → Type 0

@@ -1,5 +1,5 @@
 -- The lines of the open leaf, gathered up to its end.
-use Rattle.std.specs.Prelude.{ℕ, ◌+◌, ◌-◌, Bool, false, not, ◌&&◌, ◌||◌, ◌==◌, nat_lt, List, [], ◌∷◌, ◌++◌, map, length, take, drop, if◌then◌else◌}
+use Rattle.std.specs.Prelude.{ℕ, ◌+◌, ◌-◌, Bool, false, not, ◌&&◌, ◌||◌, ◌==◌, nat_lt, List, [], ◌∷◌, ◌++◌, map, length, reverse, take, drop, if◌then◌else◌}
 use Rattle.markdown_marks.specs.Bytes.{is_blank, without_blanks}
 use Rattle.markdown_marks.specs.Headings.{heading_text, without_end}
 use Rattle.markdown_marks.specs.Remaining.{Remaining, remaining}
@@ -16,7 +16,8 @@ use Rattle.markdown_leaves.specs.declared.parts.Kind.{Kind}
 use Rattle.markdown_leaves.specs.declared.parts.Kind.TheVariants.{Nothing, Paragraph, Heading, Indented, Fenced, Html, Table, Rule, Definitions}
 
 -- The parts so far, and the leaf that is open: what it is, whether blank lines are before it, its lines. Then whether blank lines passed since
--- the last leaf ended or the last container began, and whether an item began in this line.
+-- the last leaf ended, the last container began or a quote ended, and whether an item began in this line. And the containers that are open, the
+-- innermost first.
 pub record Gathering : Type 0 where
   pub parts : List PartContent
   pub kind : Kind
@@ -24,14 +25,23 @@ pub record Gathering : Type 0 where
   pub lines : List Remaining
   pub passed : Bool
   pub fresh : Bool
+  pub around : List Container
 
 -- what the code has gathered
 abbrev pub gathering_of : Gatherer → Gathering
-gathering_of g = record { parts = map part_of g.parts.items; kind = g.kind; apart = g.apart; lines = map remaining g.lines.items; passed = g.passed; fresh = g.fresh }
+gathering_of g = record {
+  parts = map part_of g.parts.items;
+  kind = g.kind;
+  apart = g.apart;
+  lines = map remaining g.lines.items;
+  passed = g.passed;
+  fresh = g.fresh;
+  around = reverse g.around.items;
+}
 
 -- before a text no leaf is open, and there are no parts
 abbrev pub nothing_told : Gathering
-nothing_told = record { parts = []; kind = Nothing; apart = false; lines = []; passed = false; fresh = false }
+nothing_told = record { parts = []; kind = Nothing; apart = false; lines = []; passed = false; fresh = false; around = [] }
 
 -- ---- a leaf ends
 
@@ -163,15 +173,20 @@ line_done RuleDeed text g = single Rule text g
 
 -- a container begins, where no leaf is open
 abbrev pub entered_in : Container → Gathering → Gathering
-entered_in container g = record g { parts = g.parts ++ begins container g.passed ∷ []; passed = false; fresh = g.fresh || is_item container }
+entered_in container g = record g { parts = g.parts ++ begins container g.passed ∷ []; passed = false; fresh = g.fresh || is_item container; around = container ∷ g.around }
 
 -- a container begins
 abbrev pub entered : Container → Gathering → Gathering
 entered container g = entered_in container (closed g)
 
+-- The first of these containers ends. Blank lines in a quote aren't between the quote and what comes after it.
+abbrev pub passed_outside : List Container → Bool → Bool
+passed_outside [] passed = passed
+passed_outside (container ∷ outer) passed = passed && is_item container
+
 -- the last container ends, where no leaf is open
 abbrev pub left_in : Gathering → Gathering
-left_in g = record g { parts = g.parts ++ ends ∷ [] }
+left_in g = record g { parts = g.parts ++ ends ∷ []; passed = passed_outside g.around g.passed; around = drop 1 g.around }
 
 -- the last container ends
 abbrev pub left : Gathering → Gathering

@@ -1,11 +1,11 @@
 //! The lines of the open leaf, gathered up to its end.
 
-ghost use Rattle.std.specs.Prelude.{◌≡◌, ◌≤◌, ◌<◌, ◌==◌, ◌&&◌, ◌||◌, false, not, [], ◌∷◌, ◌++◌, OnOk, map, take, drop, length, if◌then◌else◌};
+ghost use Rattle.std.specs.Prelude.{◌≡◌, ◌≤◌, ◌<◌, ◌==◌, ◌&&◌, ◌||◌, false, not, [], ◌∷◌, ◌++◌, OnOk, map, reverse, take, drop, length, if◌then◌else◌};
 ghost use Rattle.markdown_marks.specs.Remaining.{remaining};
 ghost use Rattle.markdown_blocks.specs.Containers.{is_item};
 ghost use Rattle.markdown_blocks.specs.Events.{leaves, enter};
 ghost use Rattle.markdown_leaves.specs.Parts.{part_of};
-ghost use Rattle.markdown_leaves.specs.Gather.{gathering_of, add_block, add_unless_empty, add_words, filled_from, emptied, words_closed, indented_closed, closed_as_it_is, closed, trimmed, heading_line, first_text, kind_of, begun, single, blank, gone_on, tabulated, line_done, entered, left, nothing_told};
+ghost use Rattle.markdown_leaves.specs.Gather.{gathering_of, add_block, add_unless_empty, add_words, filled_from, emptied, words_closed, indented_closed, closed_as_it_is, closed, trimmed, heading_line, first_text, kind_of, begun, single, blank, gone_on, tabulated, line_done, entered, left, passed_outside, nothing_told};
 ghost use Rattle.markdown_leaves.specs.Told.{told};
 
 use crate::defining::cut_lines;
@@ -23,10 +23,12 @@ pub struct Gatherer<'s> {
     kind: Kind,
     apart: bool,
     lines: Vec<Rest<'s>>,
-    // blank lines passed since the last leaf ended or the last container began
+    // blank lines passed since the last leaf ended, the last container began or a quote ended
     passed: bool,
     // an item began in this line
     fresh: bool,
+    // the containers that are open, the innermost last
+    around: Vec<Container>,
 }
 
 fn is_item(container: Container) -> bool
@@ -164,6 +166,18 @@ fn passed_after(passed: bool, fresh: bool) -> bool
     passed || !fresh
 }
 
+// The innermost container ends. Whether blank lines passed before what comes after it.
+#[tactic(auto, using(crate::proofs::AroundLemmas::outside, crate::proofs::AroundLemmas::one_less))]
+fn end_innermost(around: &mut Vec<Container>, passed: bool) -> bool
+    ensures passed { result ≡ passed_outside (reverse around.old.items) passed }
+    ensures around { reverse around.new.items ≡ drop 1 (reverse around.old.items) }
+{
+    match around.pop() {
+        None => passed,
+        Some(container) => passed && is_item(container),
+    }
+}
+
 fn still_apart(apart: bool, cut: usize) -> bool
     ensures { result ≡ (apart && (cut == 0)) }
 {
@@ -202,6 +216,7 @@ impl<'s> Gatherer<'s> {
             lines: Vec::new(alloc),
             passed: false,
             fresh: false,
+            around: Vec::new(alloc),
         }
     }
 
@@ -361,11 +376,13 @@ impl<'s> Gatherer<'s> {
     }
 
     // A container begins.
+    #[tactic(auto, using(crate::proofs::AroundLemmas::one_more))]
     fn enter(&mut self, alloc: Global, container: Container) -> Result<(), AllocError>
         ensures { OnOk result (gathering_of self.new ≡ entered container (gathering_of self.old)) }
     {
         self.close(alloc)?;
         self.parts.push(Part::Begins(container, self.passed))?;
+        self.around.push(container)?;
         self.passed = false;
         self.fresh = self.fresh || is_item(container);
         Ok(())
@@ -377,6 +394,7 @@ impl<'s> Gatherer<'s> {
     {
         self.close(alloc)?;
         self.parts.push(Part::Ends)?;
+        self.passed = end_innermost(&mut self.around, self.passed);
         Ok(())
     }
 
