@@ -28,7 +28,7 @@ use Rattle.mad_format.specs.declared.line.FmtLine.{FmtLine}
 use Rattle.mad_format.specs.declared.line.FmtLine.TheVariants.{Normal, TableRow, TableRule, HorizontalRule}
 use Rattle.mad_format.specs.declared.table.FmtTableRow.{FmtTableRow}
 use Rattle.mad_format.specs.declared.table.RelativePosition.{RelativePosition}
-use Rattle.mad_blocks.specs.CellWords.{longest_word}
+use Rattle.mad_sections.specs.CellWords.{longest_word}
 use Rattle.mad_blocks.specs.Layouts.{AreRead}
 use Rattle.mad_blocks.specs.TableCursors.{BecomesBy}
 use Rattle.mad_blocks.specs.Tables.{columns_count, columns_from, columns_in, measure_of, measures_in, position_at, AreKeptWidths, AreTableLinesBy, IsTableLineBy, IsTableLaidOutBy, centered}

@@ -4,7 +4,7 @@ use Rattle.mad_md.specs.declared.compound.Compound.{Compound}
 use Rattle.mad_fit.specs.TextColumns.{width_of}
 use Rattle.mad_wrap.specs.WrapLines.{capped}
 use Rattle.mad_format.specs.Indents.{indent}
-use Rattle.mad_blocks.specs.CellWords.{longest_word}
+use Rattle.mad_sections.specs.CellWords.{longest_word}
 use Rattle.mad_blocks.specs.Tables.{measure_of}
 use Rattle.mad_blocks.proofs.ReadTables.{length_read, word_read}
 use Rattle.mad_blocks.proofs.table_columns.measure_of_read.Goals as goal
