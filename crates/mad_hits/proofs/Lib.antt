@@ -7,4 +7,3 @@ pub mod RowHitLemmas
 pub mod RowStandLemmas
 pub mod StandLemmas
 pub mod TookLemmas
-pub mod WrittenHits
