@@ -14,7 +14,6 @@ use Rattle.mad_format.specs.Wraps.{IsMeasured}
 use Rattle.mad_format.specs.declared.composite.FmtComposite.{FmtComposite}
 use Rattle.mad_format.specs.declared.line.FmtLine.TheVariants.{Normal}
 use Rattle.mad_wrap.specs.WrapLines.{capped}
-use Rattle.mad_blocks.specs.Layouts.{IsLayoutAt}
 use Rattle.mad_blocks.specs.TextParts.{lines_in_parts}
 use Rattle.mad_hits.specs.Parts.{AreRowsMarked}
 use Rattle.mad_layout.specs.Premises.{KeepsPremises, AreTyped}
@@ -42,7 +41,7 @@ use Rattle.mad_layout.specs.declared.skin.MadSkin.{MadSkin}
 use Rattle.mad_rows.specs.declared.row_skin.RowSkin.{RowSkin}
 use Rattle.std.specs.List.{AllByRecursion}
 use Rattle.mad_columns.specs.Columns.{char_columns}
-use Rattle.mad_pager.specs.Sessions.{State, IsLaidFor, field_row, last_row, prompt_cell, text_area}
+use Rattle.mad_pager.specs.Sessions.{State, IsLaidFor, field_row, last_row, layout_width, prompt_cell, text_area}
 
 -- a screen that shows nothing: it has under five columns or under two rows
 abbrev pub is_small : State → Bool
@@ -60,9 +59,13 @@ bar_of skin s = bar_beside (area_of s) s.page.top (length s.lines) skin.scrollba
 abbrev pub paged_skin : MadSkin → RowSkin
 paged_skin skin = with_links (row_skin skin)
 
--- the text's rows from the top one on, in the columns that the bar leaves
+-- the columns that the bar leaves to the text, if there is a bar
+abbrev pub text_columns : MadSkin → State → ℕ
+text_columns skin s = columns_beside (bar_of skin s) (area_of s).width
+
+-- the text's rows from the top one on, in these columns
 abbrev pub text_rows : MadSkin → State → ℕ → List RowPiece
-text_rows skin s = text_row (paged_skin skin) (columns_beside (bar_of skin s) s.page.columns) s.lines s.page.top
+text_rows skin s = text_row (paged_skin skin) (text_columns skin s) s.lines s.page.top
 
 -- the text's rows beside the bar
 abbrev pub text_pane : MadSkin → State → Pane
@@ -149,9 +152,9 @@ pub record IsOrderly (skin : MadSkin) (text : List LineContent) (s : State) : Ty
 -- the premises, and the characters of the bar, if there is one, take one column each.
 pub record KeepsTextPremises (skin : MadSkin) (s : State) : Type 0 where
   pub text : List LineContent
-  pub layout : IsLayoutAt (line_rules (row_skin skin)) (Some (s.page.columns - 1)) text s.lines
-  pub typed : AreTyped (take (s.page.top + (s.page.rows - 1)) (lines_in_parts text))
-  pub keeps : KeepsPremises (paged_skin skin) (s.page.columns - 1) (take (s.page.top + (s.page.rows - 1)) (lines_in_parts text))
+  pub layout : IsLaidFor skin text s.page.columns s.lines
+  pub typed : AreTyped (take (s.page.top + (area_of s).height) (lines_in_parts text))
+  pub keeps : KeepsPremises (paged_skin skin) (layout_width s.page.columns) (take (s.page.top + (area_of s).height) (lines_in_parts text))
   pub bar : IfSome (bar_of skin s) (IsBarShown s.page.columns)
 
 -- These bytes show the text from its top row on, beside its bar. The bar has bytes of its own, which show it in the last column whatever was read
@@ -194,9 +197,13 @@ pub record ArePanesDrawn (skin : MadSkin) (name : List ℕ) (s : State) (bytes :
   pub typing : s.is_typing ≡ true → IsTypingShown skin s bytes
   pub status : s.is_typing ≡ false → IsStatusShown skin name s bytes
 
--- these bytes mark what is sought in the lines that are on the screen: the columns of the text are all but the bar's
+-- the text's rows that are on the screen
+abbrev pub rows_shown : State → List ℕ
+rows_shown s = range_with_len s.page.top (min (area_of s).height (length s.lines - s.page.top))
+
+-- these bytes mark what is sought in these rows, which have the columns that the text is drawn in
 abbrev pub AreHitsDrawn : MadSkin → State → List ℕ → Type 0
-AreHitsDrawn skin s bytes = AreRowsMarked (paged_skin skin) (s.page.columns - 1) s.sought s.lines s.starts 0 (range_with_len s.page.top (min (s.page.rows - 1) (length s.lines - s.page.top))) bytes
+AreHitsDrawn skin s bytes = AreRowsMarked (paged_skin skin) (text_columns skin s) s.sought s.lines s.starts 0 (rows_shown s) bytes
 
 -- These bytes show a session: first the text and the last row, and then, over the text, what is sought. Each byte of a hit is written in the cells of
 -- the hit alone.

@@ -86,13 +86,17 @@ prompt_cell rows = record { left = 0; top = rows - 1; width = 1; height = 1 }
 abbrev pub field_row : ℕ → ℕ → Area
 field_row columns rows = record { left = 1; top = rows - 1; width = columns - 1; height = 1 }
 
+-- the width that a text is laid out at for a screen of these columns: one is left for a bar
+abbrev pub layout_width : ℕ → ℕ
+layout_width columns = columns - 1
+
 -- these lines are a layout of a text for a screen of these columns
 abbrev pub IsLaidFor : MadSkin → List LineContent → ℕ → List FmtLine → Type 0
-IsLaidFor skin text columns lines = IsLayoutAt (line_rules (row_skin skin)) (Some (columns - 1)) text lines
+IsLaidFor skin text columns lines = IsLayoutAt (line_rules (row_skin skin)) (Some (layout_width columns)) text lines
 
 -- in these rows its parts begin
 abbrev pub AreStartsFor : MadSkin → List LineContent → ℕ → List ℕ → Type 0
-AreStartsFor skin text columns starts = ArePartStarts (line_rules (row_skin skin)) (columns - 1) text starts
+AreStartsFor skin text columns starts = ArePartStarts (line_rules (row_skin skin)) (layout_width columns) text starts
 
 -- the start of a text on a screen of this size: its first row is on top, nothing is being typed and nothing is sought; these files are beside it
 pub record IsStart (skin : MadSkin) (text : List LineContent) (columns rows : ℕ) (files : Files) (s : State) : Type 0 where

@@ -4,12 +4,13 @@ ghost use Rattle.std.specs.Prelude.{◌≡◌, OnOk, IfOk, MatchResult, ℕ, Lis
 ghost use Rattle.mad_term.specs.Trace.{TookWith, Writes};
 ghost use Rattle.mad_pager.specs.Pictures.{picture_trace};
 ghost use Rattle.mad_pager.specs.Sessions.{state_of};
-ghost use Rattle.mad_pager.specs.Screens.{AreHitsDrawn, AreLinesShown, ArePanesDrawn, IsDrawing, IsFieldRow, IsFieldShown, IsLastRow, IsPicture, IsShown, IsUnshown, is_small, question};
+ghost use Rattle.mad_pager.specs.Screens.{AreHitsDrawn, AreLinesShown, ArePanesDrawn, IsDrawing, IsFieldRow, IsFieldShown, IsLastRow, IsPicture, IsShown, IsUnshown, is_small, question, text_columns};
 
 use crate::picture::Picture;
 use crate::places::{field_row, prompt_cell, text_area};
 use crate::session::Session;
-use mad_draw::{Rows, draw_rows};
+use crate::sizes::height_of;
+use mad_draw::{Rows, ScrollBar, columns_beside, draw_rows};
 use mad_hits::draw_row_hits;
 use mad_layout::draw_text_beside;
 use mad_style::StyledChar;
@@ -97,11 +98,21 @@ impl Session<'_> {
             self.text.lines.as_slice(),
             self.starts.as_slice(),
             self.page.top,
-            self.page.columns.saturating_sub(1),
+            self.text_columns(),
             self.page.body_rows(),
             self.sought.as_str(),
         )?;
         Ok(())
+    }
+
+    // The columns that the bar leaves to the text, if there is a bar.
+    fn text_columns(&self) -> u16
+        ensures { result ≡ text_columns self.now.text.skin.now (state_of self.now) }
+    {
+        let area = text_area(self.page.columns, self.page.rows);
+        let height = height_of(&self.text);
+        let bar = ScrollBar::beside(&area, self.page.top, height, self.text.skin.scrollbar);
+        columns_beside(bar, usize::from(area.width)) as u16
     }
 
     // Draws the text from its top row on, with links that one sees, and its bar by moves of its own.

@@ -1,7 +1,7 @@
 //! Where the text, the status and what is typed are on a screen.
 
-ghost use Rattle.std.specs.Prelude.{◌≡◌, ◌-◌};
-ghost use Rattle.mad_pager.specs.Sessions.{field_row, last_row, prompt_cell, text_area};
+ghost use Rattle.std.specs.Prelude.{◌≡◌};
+ghost use Rattle.mad_pager.specs.Sessions.{field_row, last_row, layout_width, prompt_cell, text_area};
 
 use mad_fit::Area;
 
@@ -55,7 +55,7 @@ pub(crate) fn field_row(columns: u16, rows: u16) -> Area
 
 /// The width that a text is laid out at for a screen of these columns, one of which the bar has.
 pub(crate) fn layout_width(columns: u16) -> usize
-    ensures { result ≡ columns - 1 }
+    ensures { result ≡ layout_width columns }
 {
     usize::from(columns).saturating_sub(1)
 }
