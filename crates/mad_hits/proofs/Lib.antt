@@ -4,4 +4,6 @@ pub mod LineLemmas
 pub mod MatchLemmas
 pub mod PartLemmas
 pub mod RowHitLemmas
+pub mod RowStandLemmas
+pub mod StandLemmas
 pub mod TookLemmas

@@ -1,4 +1,5 @@
 pub mod Drawn
+pub mod HitLaws
 pub mod Hits
 pub mod Matches
 pub mod Overs

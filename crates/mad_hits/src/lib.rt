@@ -5,10 +5,12 @@
 //! 3. [`places`]: where the texts of a row begin; [`hits`]: what is drawn of a line.
 //! 4. [`overs`]: where it goes over the break between two rows; [`parts`]: what is drawn of a row.
 //! 5. [`drawing`]: all of it, over rows that were drawn.
+//! 6. [`laws`]: what hits change.
 #![tactic(auto)]
 
 mod drawing;
 mod hits;
+pub mod laws;
 mod matches;
 mod overs;
 mod parts;

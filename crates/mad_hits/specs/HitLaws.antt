@@ -1,0 +1,79 @@
+-- Laws of hits: what they change of the rows that they are drawn over.
+use Rattle.std.specs.Prelude.{◌≡◌, ℕ, ◌+◌, ◌^◌, ◌<◌, ◌≤◌, true, false, List, [], ◌∷◌, map, take, drop, Some, None, slice_get}
+use Rattle.std.specs.List.{AllByRecursion}
+use Rattle.mad_screen.specs.Glyph.{Glyph}
+use Rattle.mad_screen.specs.Painting.{IsWhole, look_of_style}
+use Rattle.mad_style.specs.StyledChars.{char_alone, char_style}
+use Rattle.mad_style.specs.declared.styled_chars.StyledChar.{StyledChar}
+use Rattle.mad_draw.specs.Pieces.{AreShownPieces, PennedChar, RowPiece, penned_chars, pieces_columns}
+use Rattle.mad_draw.specs.PennedCells.{penned_cells}
+use Rattle.mad_format.specs.Indents.{indent}
+use Rattle.mad_format.specs.declared.composite.FmtComposite.{FmtComposite}
+use Rattle.mad_format.specs.declared.line.FmtLine.{FmtLine}
+use Rattle.mad_format.specs.declared.line.FmtLine.TheVariants.{Normal, TableRow}
+use Rattle.mad_rows.specs.Rows.{composite_pieces, inner_columns, line_pieces, prefix_pieces, vertical_piece}
+use Rattle.mad_rows.specs.declared.row_skin.RowSkin.{RowSkin}
+use Rattle.mad_hits.specs.Drawn.{marked_columns}
+use Rattle.mad_hits.specs.Hits.{Marked}
+use Rattle.mad_hits.specs.Parts.{AreRowHits, AreRowsMarked}
+
+-- ---- cells
+
+-- a character with the pen of its style
+abbrev pub penned : StyledChar → PennedChar
+penned c = record { char = char_alone c; pen = look_of_style (char_style c).object_style }
+
+-- the characters of cells, whatever the pens
+abbrev pub cell_chars : List Glyph → List (List ℕ)
+cell_chars gs = map (λ (g : Glyph). g.chars) gs
+
+-- The cells of a row where a hit is drawn have the same characters as the hit's own cells. So drawing it changes no character.
+abbrev pub StandsIn : List RowPiece → Marked → Type 0
+StandsIn row hit = cell_chars (take (marked_columns hit) (drop hit.column (penned_cells (penned_chars row)))) ≡ cell_chars (penned_cells (map penned hit.chars))
+
+-- a hit stands in a row, where it is within the row's columns and doesn't begin with a widthless character
+abbrev pub StandsWithin : ℕ → List RowPiece → Marked → Type 0
+StandsWithin width row hit = hit.column + marked_columns hit ≤ width → IsWhole (map char_alone hit.chars) → StandsIn row hit
+
+-- ---- rows
+
+-- the prefix of a composite takes the columns of its indent
+abbrev pub HasIndent : RowSkin → FmtComposite → Type 0
+HasIndent skin l = pieces_columns (prefix_pieces skin l.kind) ≡ indent skin.list_items_indentation_mode l.kind
+
+-- a cell takes the columns of its place
+pub record IsCountedCell (skin : RowSkin) (cell : FmtComposite) : Type 0 where
+  pub indent : HasIndent skin cell
+  pub place : pieces_columns (composite_pieces skin None (0, 0) false cell) ≡ inner_columns cell
+
+-- The columns of a line are as they are counted: those of its prefix, or in a table those of each cell, and one for a border.
+abbrev pub IsCounted : RowSkin → FmtLine → Type 0
+IsCounted skin (Normal l) = HasIndent skin l
+IsCounted skin (TableRow row) = (pieces_columns (vertical_piece skin ∷ []) ≡ 1) × AllByRecursion (IsCountedCell skin) row.cells.items
+IsCounted skin line = Unit {0}
+
+-- these hits stand in the row of a line of `width` columns
+abbrev pub StandInRow : RowSkin → ℕ → FmtLine → List Marked → Type 0
+StandInRow skin width line hits = AllByRecursion (StandsWithin width (line_pieces skin (Some width) true line)) hits
+
+-- ---- laws
+
+-- Marking hits changes no character of any cell of a row: those of its own text and its parts of those that go over a break stand in it. The row has
+-- as many columns as the hits were found for.
+abbrev pub HitsChangeNoCharacter : Type 0
+HitsChangeNoCharacter =
+    (skin : RowSkin) (width : ℕ) (sought : List ℕ) (lines : List FmtLine) (starts : List ℕ) (row : ℕ) (hits : List Marked) (line : FmtLine) → slice_get lines row ≡ Some line → width < 2 ^ 16
+    → IsCounted skin line → AreShownPieces (line_pieces skin (Some width) true line) → AreRowHits skin width sought lines starts row hits → StandInRow skin width line hits
+
+-- each of the hits that these bytes show stands in its row
+abbrev pub RowsStand : (skin : RowSkin) (width : ℕ) (sought : List ℕ) (lines : List FmtLine) (starts : List ℕ) (y : ℕ) (rows bytes : List ℕ) → AreRowsMarked skin width sought lines starts y rows bytes → Type 0
+RowsStand skin width sought lines starts y [] bytes marked = Unit {0}
+RowsStand skin width sought lines starts y (row ∷ rows) bytes marked =
+    ((line : FmtLine) → slice_get lines row ≡ Some line → IsCounted skin line → AreShownPieces (line_pieces skin (Some width) true line) → StandInRow skin width line marked.3.hits)
+    × RowsStand skin width sought lines starts (y + 1) rows marked.1 marked.4
+
+-- So it is with all hits that are drawn over rows.
+abbrev pub DrawnHitsStand : Type 0
+DrawnHitsStand =
+    (skin : RowSkin) (width : ℕ) (sought : List ℕ) (lines : List FmtLine) (starts : List ℕ) (y : ℕ) (rows bytes : List ℕ) → width < 2 ^ 16
+    → (marked : AreRowsMarked skin width sought lines starts y rows bytes) → RowsStand skin width sought lines starts y rows bytes marked
