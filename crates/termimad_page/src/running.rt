@@ -1,7 +1,8 @@
 //! A run: the file is read, and then shown.
 
-use crate::call::{Call, Place, parse_call};
+use crate::call::{Place, parse_call};
 use crate::failing::Refusal;
+use crate::skins::skin_for;
 use mad_fit::printable;
 use mad_layout::MadSkin;
 use mad_steady::steady;
@@ -10,7 +11,7 @@ use markdown_layout::write_markdown_on;
 use std::io::{BufWriter, Error as IoError, ErrorKind};
 use std::{env, fs, io};
 use termimad_page_run::{End, Grammar, Sheet, run};
-use termimad_run::{Failure, skin_of};
+use termimad_run::Failure;
 
 /// Does what the arguments ask for: keys come from standard input, and standard output gets what is shown. It answers how that ended.
 ///
@@ -21,8 +22,7 @@ use termimad_run::{Failure, skin_of};
 pub fn run_on_standard_streams(rt: &HostRuntime) -> Result<End, Refusal> {
     let words = arguments(rt)?;
     let call = parse_call(words.as_slice()).ok_or(Refusal::Failed(Failure::Usage))?;
-    let (mut skin, _) = skin_of(rt.alloc(), skin_word(&call))?;
-    skin.whole_words = call.grammar == Grammar::Markdown;
+    let skin = skin_for(rt.alloc(), call.skin, call.grammar)?;
     let bytes = read(rt, call.file)?;
     let text = str::from_utf8(bytes.as_slice()).map_err(|_| Refusal::Failed(Failure::NotUtf8))?;
     let text = without_mark(text);
@@ -48,15 +48,6 @@ pub fn run_on_standard_streams(rt: &HostRuntime) -> Result<End, Refusal> {
             write_whole(rt, text, call.grammar, &skin, usize::from(columns))?;
             Ok(End::Quits)
         }
-    }
-}
-
-// The word that the skin is made of: none for a skin without styles.
-fn skin_word<'w>(call: &Call<'w>) -> Option<&'w str> {
-    match call.skin {
-        Some("none") => None,
-        Some(word) => Some(word),
-        None => Some("default"),
     }
 }
 

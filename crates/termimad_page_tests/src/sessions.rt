@@ -5,18 +5,23 @@ use mad_layout::MadSkin;
 use mad_screen::{NotPlain, Screen};
 use mad_term::Error;
 use std::alloc::{AllocError, Global};
-use termimad_page_run::{End, Files, Grammar, Sheet, run};
+use termimad_page_run::{End, Files, Grammar, Sheet, plain_skin, run};
 
 // What is put where the size is asked for.
 const SIZE_QUESTION: &[u8] = b"\x1b[999;999H\x1b[6n";
 
 /// What a session shows. The call has the columns and rows of the screen, and the name, after the word `markdown` where the text is read as
 /// people write Markdown. Before the columns stands what files there are beside it, if there are some: `first`, `between` or `last`. With the word
-/// `pens` before these each picture is shown once more as letters of its pens. The text comes first, then a line `==`, and a block a line.
+/// `plain` before these the skin has no style, and with `pens` before that each picture is shown once more as letters of its pens. The text comes
+/// first, then a line `==`, and a block a line.
 pub fn shown(alloc: Global, call: &str, text: &str) -> Result<String, AllocError> {
     let (pens, call) = match call.strip_prefix("pens ") {
         Some(call) => (true, call),
         None => (false, call),
+    };
+    let (skin, call) = match call.strip_prefix("plain ") {
+        Some(call) => (plain_skin(), call),
+        None => (MadSkin::default(), call),
     };
     let (grammar, call) = match call.strip_prefix("markdown ") {
         Some(call) => (Grammar::Markdown, call),
@@ -30,7 +35,6 @@ pub fn shown(alloc: Global, call: &str, text: &str) -> Result<String, AllocError
     let (text, blocks) = text.split_once("\n==\n").unwrap_or((text, ""));
     let blocks: String = blocks.chars().map(meant).collect(alloc)?;
     let blocks = blocks.as_str();
-    let skin = MadSkin::default();
     let sheet = Sheet {
         name,
         text,
