@@ -47,7 +47,7 @@ use Rattle.mad_pager.specs.Sessions.{State, field_row, last_row, prompt_cell, te
 -- ---- what is shown
 
 -- the columns of a layout are drawn, beside a bar too
-drawn_wide : (bar : Option ScrollBar) (width : ℕ) → width - 1 ≤ columns_beside bar width
+pub drawn_wide : (bar : Option ScrollBar) (width : ℕ) → width - 1 ≤ columns_beside bar width
 drawn_wide None width = omega arith
 drawn_wide (Some bar) width = omega arith
 

@@ -3,3 +3,4 @@ pub mod OrderLemmas
 pub mod PagerOrder
 pub mod StepLemmas
 pub mod PagerSteps
+pub mod ScreenStandLemmas

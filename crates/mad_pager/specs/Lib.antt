@@ -1,4 +1,5 @@
 pub mod Pagers
 pub mod Pictures
+pub mod ScreenLaws
 pub mod Screens
 pub mod Sessions

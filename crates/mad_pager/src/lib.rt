@@ -8,11 +8,13 @@
 //! 4. [`places`]: where all is on the screen; [`status`]: its last row.
 //! 5. [`picture`]: bytes that are drawn in memory; [`drawing`]: the whole screen.
 //! 6. [`help`]: the page of help; [`pager`]: a text, and a page over it while one is open.
+//! 7. [`laws`]: what marking hits changes.
 #![tactic(auto)]
 
 mod drawing;
 mod finding;
 mod help;
+pub mod laws;
 mod over;
 mod pager;
 mod picture;
