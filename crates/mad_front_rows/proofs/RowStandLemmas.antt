@@ -21,7 +21,8 @@ use Rattle.mad_hits.specs.Parts.{line_parts, part_above, part_below}
 use Rattle.mad_hits.specs.Styled.{styled_text}
 use Rattle.mad_style.specs.declared.styled_chars.StyledChar.{StyledChar}
 use Rattle.mad_front_rows.specs.FrontHits.{hit_behind}
-use Rattle.mad_front_rows.specs.RowHitLaws.{RowHitsStand, StandsWithin}
+use Rattle.mad_hits.specs.HitLaws.{StandsWithin}
+use Rattle.mad_front_rows.specs.RowHitLaws.{RowHitsStand}
 use Rattle.mad_front_rows.proofs.StandLemmas.{hits_change_no_character}
 
 all_behind : (P : Marked → Type 0) (n : ℕ) (f : ℕ → Marked) → ((x : ℕ) → P (hit_behind n (f x))) → (xs : List ℕ) → AllByRecursion P (map (hit_behind n) (map f xs))

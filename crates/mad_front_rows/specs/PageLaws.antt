@@ -3,26 +3,24 @@ use Rattle.std.specs.Prelude.{◌≡◌, ℕ, ◌+◌, ◌-◌, ◌^◌, ◌<◌
 use Rattle.std.specs.List.{AllByRecursion, range_with_len}
 use Rattle.mad_wrap.specs.WrapLines.{capped}
 use Rattle.mad_draw.specs.BesideBar.{columns_beside}
-use Rattle.mad_draw.specs.Pieces.{AreShownPieces, FillsRow}
+use Rattle.mad_draw.specs.Pieces.{AreShownPieces}
 use Rattle.mad_draw.specs.declared.scroll_bars.ScrollBar.{ScrollBar}
-use Rattle.mad_format.specs.Indents.{indent}
 use Rattle.mad_format.specs.declared.composite.FmtComposite.{FmtComposite}
 use Rattle.mad_format.specs.declared.line.FmtLine.{FmtLine}
 use Rattle.mad_format.specs.declared.line.FmtLine.TheVariants.{Normal}
-use Rattle.mad_rows.specs.Rows.{prefix_pieces}
 use Rattle.mad_rows.specs.declared.row_skin.RowSkin.{RowSkin}
 use Rattle.mad_page_rows.specs.FaceLaws.{AreFacesShown, IsTypedGutter, fronts}
 use Rattle.mad_page_rows.specs.Faces.{behind_pieces, line_skin, page_row_pieces}
 use Rattle.mad_fronts.specs.Fronts.{FrontContent, front_at, row_behind}
 use Rattle.mad_fronts.specs.declared.fronts.Front.{Front}
+use Rattle.mad_hits.specs.HitLaws.{HasIndent, StandsWithin}
 use Rattle.mad_front_rows.specs.FrontHits.{AreRowsMarked, hit_behind}
 use Rattle.mad_front_rows.specs.Pages.{IsPageDrawn}
-use Rattle.mad_front_rows.specs.RowHitLaws.{StandsWithin}
 
 -- the gutters and the prefix of a row are as they have to be for its columns to be counted
 pub record IsSoundFront (skin : RowSkin) (front : FrontContent) (l : FmtComposite) : Type 0 where
   pub typed : AllByRecursion IsTypedGutter front.gutters
-  pub prefix : FillsRow (indent (line_skin skin front.gutters).list_items_indentation_mode l.kind) (prefix_pieces (line_skin skin front.gutters) l.kind)
+  pub prefix : HasIndent (line_skin skin front.gutters) l
 
 -- Each of the hits that these bytes show stands in the row of the page that is drawn there: a row of the same columns.
 abbrev pub RowsStand : (skin : RowSkin) (width : ℕ) (sought : List ℕ) (lines : List FmtLine) (fs : List Front) (starts : List ℕ) (y : ℕ) (rows bytes : List ℕ) → AreRowsMarked skin width sought lines fs starts y rows bytes → Type 0
