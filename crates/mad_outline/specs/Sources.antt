@@ -1,5 +1,5 @@
 -- What a session shows: a text, the addresses of links, or the headers of a text, and the lines of each.
-use Rattle.std.specs.Prelude.{ℕ, ◌+◌, ◌*◌, ◌-◌, ◌^◌, ◌==◌, ◌&&◌, ◌||◌, nat_le, nat_lt, min, not, Bool, true, false, List, [], ◌∷◌, ◌++◌, length, count_by, Option, Some, None, if◌then◌else◌}
+use Rattle.std.specs.Prelude.{ℕ, ◌+◌, ◌*◌, ◌-◌, ◌^◌, ◌==◌, ◌&&◌, ◌||◌, nat_le, nat_lt, min, not, Bool, true, false, List, [], ◌∷◌, ◌++◌, length, count_by, Option, Some, None, if◌then◌else◌, codes}
 use Rattle.mad_blocks.specs.TextParts.{stand_together}
 use Rattle.mad_md.specs.Flagged.{Run}
 use Rattle.mad_md.specs.Lines.{LineContent, normal}
@@ -12,8 +12,6 @@ use Rattle.mad_search.specs.PagedTexts.{paged_lines}
 use Rattle.mad_search.specs.declared.paged.PagedText.{PagedText}
 use Rattle.mad_search.specs.declared.paged.PagedText.TheVariants.{Lines, Markdown}
 use Rattle.markdown_reader.specs.MarkdownSays.{LinkSaid, links_said}
-use Rattle.mad_outline.specs.declared.contents.TheConstants.{NO_HEADERS}
-use Rattle.mad_outline.specs.declared.links.TheConstants.{NO_LINKS}
 use Rattle.mad_outline.specs.declared.sources.Source.{Source}
 use Rattle.mad_outline.specs.declared.sources.Source.TheVariants.{Text, Links, Contents}
 
@@ -51,7 +49,7 @@ abbrev pub link_said : ℕ → ℕ → ℕ → LinkSaid → List LineContent
 link_said from to n link = if is_in from to link then raw_line (OrderedListItem 0 (number_after n)) link.address ∷ [] else []
 
 abbrev pub links_listed : LinksIn → List LineContent
-links_listed l = or_said NO_LINKS.now (items_by (link_said l.from l.to) 0 l.links)
+links_listed l = or_said (codes "No link is on the screen.") (items_by (link_said l.from l.to) 0 l.links)
 
 -- ---- headers
 
@@ -81,7 +79,7 @@ abbrev pub header_said : ℕ → ℕ → LineContent → List LineContent
 header_said chosen n l = header_item (n == chosen) (header_of l)
 
 abbrev pub headers_listed : List LineContent → ℕ → List LineContent
-headers_listed text chosen = or_said NO_HEADERS.now (items_by (header_said chosen) 0 text)
+headers_listed text chosen = or_said (codes "There are no headers.") (items_by (header_said chosen) 0 text)
 
 -- ---- what is shown
 

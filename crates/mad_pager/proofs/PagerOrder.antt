@@ -10,10 +10,7 @@ use Rattle.mad_page.specs.declared.page.Files.{Files}
 use Rattle.mad_pager.specs.Screens.{IsOrderly}
 use Rattle.mad_pager.specs.Sessions.{State, HasSameText, IsEventStep, IsSettled, hears_size, state_of}
 use Rattle.mad_outline.specs.Sources.{Content, TextSaid, a_text, addresses, headers, content_lines, content_of, said_of, source_lines}
-use Rattle.mad_pager.specs.Pagers.{Leaf, View, IsAnswered, IsChoice, IsCovered, IsLeafSettled, IsLeafStep, IsOpened, IsOrderlyLeaf, IsOrderlyOver, IsOrderlyView, IsOverSettled, IsOverStart, IsPageStart, IsSameLeaf, IsStep, IsStepIn, IsViewSettled, contents_page, header_row, help_page, hearing, leaf_lines, leaf_of, links_page, over_answer, sighted}
-use Rattle.mad_outline.specs.declared.contents.TheConstants.{CONTENTS_NAME}
-use Rattle.mad_pager.specs.declared.help.TheConstants.{HELP_NAME}
-use Rattle.mad_outline.specs.declared.links.TheConstants.{LINKS_NAME}
+use Rattle.mad_pager.specs.Pagers.{Leaf, View, IsAnswered, IsChoice, IsCovered, IsLeafSettled, IsLeafStep, IsOpened, IsOrderlyLeaf, IsOrderlyOver, IsOrderlyView, IsOverSettled, IsOverStart, IsPageStart, IsSameLeaf, IsStep, IsStepIn, IsViewSettled, contents_name, contents_page, header_row, help_name, help_page, hearing, leaf_lines, leaf_of, links_name, links_page, over_answer, sighted}
 use Rattle.mad_pager.specs.declared.over.Answer.{Answer}
 use Rattle.mad_pager.specs.declared.over.Answer.TheVariants.{Closes, Takes, Chooses, Passes}
 use Rattle.mad_pager.specs.declared.session.Overlay.{Overlay}
@@ -72,9 +69,9 @@ page_start_order name content below over start =
     order_at below.skin content over start.skin start.made (record { lines = begun.lines; field = record { area = begun.field.area; typed = begun.field.typed } })
 
 over_start_order : (overlay : Overlay) (below over : Leaf) → IsOverStart overlay below over → IsOrderlyLeaf over
-over_start_order overlay.Help below over start = page_start_order HELP_NAME.now help_page below over start
-over_start_order overlay.Links below over start = page_start_order LINKS_NAME.now (links_page (said_of below.content) below.state) below over start
-over_start_order overlay.Contents below over start = page_start_order CONTENTS_NAME.now (contents_page (said_of below.content).lines below.state) below over start
+over_start_order overlay.Help below over start = page_start_order help_name help_page below over start
+over_start_order overlay.Links below over start = page_start_order links_name (links_page (said_of below.content) below.state) below over start
+over_start_order overlay.Contents below over start = page_start_order contents_name (contents_page (said_of below.content).lines below.state) below over start
 
 covered_order : (opened : Option Overlay) (below : Leaf) (over : Option Leaf) → IsCovered opened below over → IsOrderlyOver over
 covered_order None below over none = subst IsOrderlyOver (sym none) tt

@@ -1,5 +1,6 @@
 -- A pager: a text, and a page over it while one is open.
-use Rattle.std.specs.Prelude.{◌≡◌, ℕ, ◌+◌, ◌-◌, ◌^◌, ◌==◌, ◌&&◌, ◌||◌, min, Bool, true, false, List, length, Option, Some, None, option_map, slice_get, slice_index, if◌then◌else◌}
+use Rattle.std.specs.Prelude.{◌≡◌, ℕ, ◌+◌, ◌-◌, ◌^◌, ◌==◌, ◌&&◌, ◌||◌, min, Bool, true, false, List, [], ◌∷◌, ◌++◌, codes, length, Option, Some, None, option_map, slice_get, slice_index, if◌then◌else◌}
+use Rattle.std.specs.List.{flat_map}
 use Rattle.mad_md.specs.Lines.{LineContent}
 use Rattle.mad_md.specs.Reading.{unread_text}
 use Rattle.mad_md.specs.Scan.{lines_of}
@@ -23,9 +24,6 @@ use Rattle.markdown_reader.specs.MarkdownSays.{LinkSaid}
 use Rattle.mad_pager.specs.Screens.{IsOrderly, IsShown, IsUnshown}
 use Rattle.mad_pager.specs.Sessions.{State, IsEventStep, IsResized, IsSettled, IsStart, at_header, hears, opens, state_of, turn_of}
 use Rattle.mad_outline.specs.Sources.{Content, LinksIn, TextSaid, a_text, addresses, headers, content_lines, content_of, lines_before, next, part_numbers, said_of}
-use Rattle.mad_outline.specs.declared.contents.TheConstants.{CONTENTS_NAME}
-use Rattle.mad_pager.specs.declared.help.TheConstants.{HELP, HELP_NAME}
-use Rattle.mad_outline.specs.declared.links.TheConstants.{LINKS_NAME, NEVER_LINKS}
 use Rattle.mad_pager.specs.declared.over.Answer.{Answer}
 use Rattle.mad_pager.specs.declared.over.Answer.TheVariants.{Closes, Takes, Chooses, Passes}
 use Rattle.mad_pager.specs.declared.pager.Pager.{Pager}
@@ -95,6 +93,16 @@ hearing event l = record l { state = hears event l.state }
 
 -- ---- pages over a text
 
+-- the names of the pages over a text: of help, of links, and of contents
+abbrev pub help_name : List ℕ
+help_name = codes "help"
+
+abbrev pub links_name : List ℕ
+links_name = codes "links"
+
+abbrev pub contents_name : List ℕ
+contents_name = codes "contents"
+
 -- A page of this content over a text, at its start: in the skin of the text, on its screen. It has heard the same size.
 pub record IsPageStart (name : List ℕ) (content : Content) (below over : Leaf) : Type 0 where
   pub skin : over.skin ≡ below.skin
@@ -103,9 +111,47 @@ pub record IsPageStart (name : List ℕ) (content : Content) (below over : Leaf)
   pub start : IsStart below.skin (content_lines content) below.state.page.columns below.state.page.rows below.state.page.files (record over.state { told = None })
   pub told : over.state.told ≡ below.state.told
 
+-- the lines of the page of help
+abbrev pub help_lines : List (List ℕ)
+help_lines =
+    codes "# Keys" ∷
+    [] ∷
+    codes "These close this page: **q**, **Esc**, **?** and **h**." ∷
+    [] ∷
+    codes "|:-|:-|" ∷
+    codes "|**keys**|**what they do**|" ∷
+    codes "|:-|:-|" ∷
+    codes "|j, e, Down, Enter|a row on|" ∷
+    codes "|k, y, Up|a row back|" ∷
+    codes "|space, PageDown|a page on|" ∷
+    codes "|b, PageUp|a page back|" ∷
+    codes "|d, u|half a page on, and back|" ∷
+    codes "|g, Home; G, End|the start; the end|" ∷
+    codes "|a number|before j or k: so many rows; before g: that row|" ∷
+    codes "|}, ]; {, [|the next header; the one before|" ∷
+    codes "|t|the contents: j and k choose a header, Enter goes there|" ∷
+    codes "|/|asks for a text: Enter seeks it, Esc gives it up|" ∷
+    codes "|n, N|the next row that has it; the one before|" ∷
+    codes "|Esc|forgets it|" ∷
+    codes "|l|the addresses of the links on the screen|" ∷
+    codes "|:n, :p|the next file; the one before|" ∷
+    codes "|?, h|this page|" ∷
+    codes "|Control-L|draws anew|" ∷
+    codes "|Control-Z|stops; fg brings it back|" ∷
+    codes "|q, Control-C|ends|" ∷
+    codes "|the wheel|three rows|" ∷
+    codes "|the scroll bar|can be clicked, and dragged|" ∷
+    codes "|-" ∷
+    [] ∷
+    codes "To select text with the mouse, as an address, hold **Shift**." ∷ []
+
+-- its text: a newline (10) ends each of them
+unfoldable pub help_text : List ℕ
+help_text = flat_map (λ line. line ++ 10 ∷ []) help_lines
+
 -- the page of help is a text, which has no links
 abbrev pub help_page : Content
-help_page = a_text (record { lines = lines_of (unread_text false HELP.now); links = None })
+help_page = a_text (record { lines = lines_of (unread_text false help_text); links = None })
 
 -- the row of a text that is in the last row which the screen has for it
 abbrev pub last_row_of : Page → ℕ
@@ -121,8 +167,13 @@ links_in lines links s =
       to = lines_before numbers (next (part_of s.starts (last_row_of s.page)));
     }
 
+-- what is said of a text whose lines stand for themselves
+abbrev pub never_links : List ℕ
+never_links = codes "With --lines there are no links."
+
+-- what the page of links is made of, over a text that has these links, if it can have some
 abbrev pub links_page_of : Option (List LinkSaid) → List LineContent → State → Content
-links_page_of None lines s = a_text (record { lines = lines_of (unread_text false NEVER_LINKS.now); links = None })
+links_page_of None lines s = a_text (record { lines = lines_of (unread_text false never_links); links = None })
 links_page_of (Some links) lines s = addresses (links_in lines links s)
 
 -- the page of links over a text: those on the screen, or that the text can't have some
@@ -135,9 +186,9 @@ contents_page lines s = headers lines (lines_before (part_numbers true 0 lines) 
 
 -- a page over a text, at its start
 abbrev pub IsOverStart : Overlay → Leaf → Leaf → Type 0
-IsOverStart overlay.Help below over = IsPageStart HELP_NAME.now help_page below over
-IsOverStart overlay.Links below over = IsPageStart LINKS_NAME.now (links_page (said_of below.content) below.state) below over
-IsOverStart overlay.Contents below over = IsPageStart CONTENTS_NAME.now (contents_page (said_of below.content).lines below.state) below over
+IsOverStart overlay.Help below over = IsPageStart help_name help_page below over
+IsOverStart overlay.Links below over = IsPageStart links_name (links_page (said_of below.content) below.state) below over
+IsOverStart overlay.Contents below over = IsPageStart contents_name (contents_page (said_of below.content).lines below.state) below over
 
 -- a page is opened over a text, or not
 abbrev pub IsCovered : Option Overlay → Leaf → Option Leaf → Type 0

@@ -131,6 +131,7 @@ impl<'s> Pager<'s> {
     }
 
     // The start of a page over the text, on the screen that the text has.
+    #[tactic(auto, unfolding(crate::specs::Pagers::help_text))]
     fn page_over(&self, alloc: Global, overlay: Overlay) -> Result<Session<'s>, AllocError>
         ensures { IfOk result (λ over. IsOverStart overlay (leaf_of self.now.text) (leaf_of over)) }
     {
