@@ -3,7 +3,7 @@ use Rattle.std.proofs.Common.{◌≡◌, ℕ, Bool, true, false, not, ◌&&◌, 
 use Rattle.std.proofs.lemmas.List.{append-nil}
 use Rattle.mad_md.specs.Lines.{LineContent, normal, table_row, table_rule, horizontal_rule}
 use Rattle.mad_format.specs.CompositeWraps.{IsCompositeWrap}
-use Rattle.mad_blocks.specs.TextParts.{is_code, is_table, stand_together, in_front, text_parts}
+use Rattle.mad_blocks.specs.TextParts.{apart, is_code, is_table, stand_together, in_front, text_parts}
 use Rattle.mad_blocks.specs.Layouts.{AreRead, IsLayoutAt}
 use Rattle.mad_format.specs.FmtLines.{IsLineRead, is_table_line}
 use Rattle.mad_blocks.specs.LayoutParts.{Part, table, block, single, is_code_kind, is_code_line, with_table, with_code, with_composite, with_line, parts_of, table_width, wrap_width, ArePartsAt}
@@ -21,12 +21,6 @@ by_bool P true on off = on refl
 by_bool P false on off = off refl
 
 -- ---- no part goes on from these lines to those
-
-abbrev pub apart : List LineContent → List LineContent → Bool
-apart [] rest = true
-apart (c ∷ []) [] = true
-apart (c ∷ []) (d ∷ ds) = not (stand_together c d)
-apart (c ∷ d ∷ cs) rest = apart (d ∷ cs) rest
 
 pub apart_end : (front : List LineContent) → apart front [] ≡ true
 apart_end [] = refl

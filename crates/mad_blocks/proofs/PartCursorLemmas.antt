@@ -11,14 +11,14 @@ use Rattle.mad_format.specs.FmtLines.{IsLineRead}
 use Rattle.mad_blocks.specs.PartCursors.{NoneNext, LaidPart}
 use Rattle.mad_blocks.specs.LayoutParts.{Part, parts_of, table_width, wrap_width, IsBlockAt, IsLineAt, ArePartsAt}
 use Rattle.mad_blocks.specs.Tables.{IsTableLaidOutBy, columns_count}
-use Rattle.mad_blocks.specs.TextParts.{is_code, is_table, stand_together, in_front, text_parts}
+use Rattle.mad_blocks.specs.TextParts.{apart, is_code, is_table, stand_together, in_front, text_parts}
 use Rattle.mad_format.specs.WrappedLines.{AllMeasured}
 use Rattle.mad_format.specs.Wraps.{IsMeasured}
 use Rattle.mad_format.specs.LineRules.{LineRules}
 use Rattle.mad_format.specs.declared.composite.FmtComposite.{FmtComposite}
 use Rattle.mad_format.specs.declared.line.FmtLine.{FmtLine}
 use Rattle.mad_format.specs.declared.line.FmtLine.TheVariants.{Normal}
-use Rattle.mad_blocks.proofs.LayoutJoins.{apart, apart_front, apart_parts, begins, both_read, by_bool, is_as_read, layouts_joined}
+use Rattle.mad_blocks.proofs.LayoutJoins.{apart_front, apart_parts, begins, both_read, by_bool, is_as_read, layouts_joined}
 use Rattle.mad_blocks.proofs.LayoutLemmas.{block_laid, table_laid}
 use Rattle.mad_format.proofs.ReadLemmas.{line_measured}
 use Rattle.mad_blocks.proofs.PartRuns.{AllTableLines, AllCode, table_parts, table_in_front, block_parts, block_in_front, alone_first}

@@ -41,6 +41,13 @@ abbrev pub text_parts : List LineContent → List (List LineContent)
 text_parts [] = []
 text_parts (l ∷ ls) = in_front l (text_parts ls)
 
+-- no part goes on from these lines to those
+abbrev pub apart : List LineContent → List LineContent → Bool
+apart [] rest = true
+apart (l ∷ []) [] = true
+apart (l ∷ []) (m ∷ ms) = not (stand_together l m)
+apart (l ∷ m ∷ ls) rest = apart (m ∷ ls) rest
+
 -- the count of cells or alignments of a line
 abbrev pub count_in : LineContent → ℕ
 count_in (normal line) = 0

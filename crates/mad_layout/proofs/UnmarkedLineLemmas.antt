@@ -43,7 +43,8 @@ use Rattle.mad_format.specs.declared.composite.FmtComposite.{FmtComposite}
 use Rattle.mad_format.specs.declared.line.FmtLine.{FmtLine}
 use Rattle.mad_format.specs.declared.line.FmtLine.TheVariants.{Normal}
 use Rattle.mad_layout.proofs.FlaggedTokens.{if_false}
-use Rattle.mad_blocks.proofs.LayoutJoins.{apart, apart_front, layouts_joined}
+use Rattle.mad_blocks.specs.TextParts.{apart}
+use Rattle.mad_blocks.proofs.LayoutJoins.{apart_front, layouts_joined}
 use Rattle.mad_blocks.proofs.PartCursorLemmas.{LaidSoFar, apart_after, laid_more, single_apart}
 use Rattle.mad_rows.proofs.PieceLemmas.{bare_piece}
 use Rattle.mad_layout.proofs.WrittenLemmas.{hands_refused, WrittenSoFar, written_more, written_refused, no_whole}

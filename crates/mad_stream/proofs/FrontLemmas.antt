@@ -16,7 +16,8 @@ use Rattle.mad_term.specs.Trace.{Trace}
 use Rattle.mad_term.specs.declared.errors.Error.{Error}
 use Rattle.mad_layout.specs.WrittenParts.{WritesPartsOf}
 use Rattle.mad_rows.specs.declared.row_skin.RowSkin.{RowSkin}
-use Rattle.mad_blocks.proofs.LayoutJoins.{apart, by_bool}
+use Rattle.mad_blocks.specs.TextParts.{apart}
+use Rattle.mad_blocks.proofs.LayoutJoins.{by_bool}
 use Rattle.mad_stream.specs.Fronts.{IsCompleteFront, IsLaidOutFront, WritesFront, settled_before, joined_by, settled_by, settled_at}
 use Rattle.mad_stream.specs.Lines.{IsFirstLine}
 use Rattle.mad_stream.specs.Sources.{MayGoOn}

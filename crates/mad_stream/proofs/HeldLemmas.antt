@@ -17,8 +17,8 @@ use Rattle.mad_md.specs.declared.line_kinds.LineKind.TheVariants.{Fence, Code, T
 use Rattle.mad_md.proofs.LineKindLemmas.{kind_fence, kind_other, resumed_fence, resumed_line, resumed_none}
 use Rattle.mad_style.specs.Kinds.{kind_of}
 use Rattle.mad_blocks.specs.LayoutParts.{is_code_kind}
-use Rattle.mad_blocks.specs.TextParts.{is_code, is_table, stand_together}
-use Rattle.mad_blocks.proofs.LayoutJoins.{apart, apart_end, by_bool}
+use Rattle.mad_blocks.specs.TextParts.{apart, is_code, is_table, stand_together}
+use Rattle.mad_blocks.proofs.LayoutJoins.{apart_end, by_bool}
 use Rattle.mad_stream.specs.Streams.{AreHeld, ReadsTo}
 use Rattle.mad_stream.specs.Steps.{IsWholeLine, LineReads, ends_before, stays_with, last_after, fence_after}
 

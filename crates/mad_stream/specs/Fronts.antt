@@ -8,7 +8,7 @@ use Rattle.mad_md.specs.declared.line_kinds.LineKind.{LineKind}
 use Rattle.mad_md.specs.declared.line_kinds.LineKind.TheVariants.{Fence, Code, Table, Alone}
 use Rattle.mad_term.specs.Trace.{Trace}
 use Rattle.mad_term.specs.declared.errors.Error.{Error}
-use Rattle.mad_blocks.proofs.LayoutJoins.{apart}
+use Rattle.mad_blocks.specs.TextParts.{apart}
 use Rattle.mad_layout.specs.WrittenParts.{WritesPartsOf}
 use Rattle.mad_rows.specs.declared.row_skin.RowSkin.{RowSkin}
 use Rattle.mad_stream.specs.Sources.{MayGoOn}

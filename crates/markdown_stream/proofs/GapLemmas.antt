@@ -5,8 +5,8 @@ use Rattle.mad_md.specs.Flagged.{Run}
 use Rattle.mad_md.specs.Lines.{LineContent, normal, table_row, table_rule, horizontal_rule}
 use Rattle.mad_md.specs.declared.composite.CompositeStyle.{CompositeStyle}
 use Rattle.mad_md.specs.declared.composite.CompositeStyle.TheVariants.{Paragraph, Header, ListItem, OrderedListItem, ListItemFollowUp, Code, Quote}
-use Rattle.mad_blocks.specs.TextParts.{is_code, is_table}
-use Rattle.mad_blocks.proofs.LayoutJoins.{apart, apart_end, by_bool}
+use Rattle.mad_blocks.specs.TextParts.{apart, is_code, is_table}
+use Rattle.mad_blocks.proofs.LayoutJoins.{apart_end, by_bool}
 use Rattle.mad_blocks.proofs.PartCursorLemmas.{apart_after}
 use Rattle.markdown_stream.specs.Gaps.{is_big, begins_big, ends_big}
 use Rattle.markdown_stream.specs.Streamed.{Showing, nothing_shown, blank_line, is_spaced, gap, added, lines_shown}

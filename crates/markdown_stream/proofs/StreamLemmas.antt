@@ -4,7 +4,8 @@ use Rattle.std.proofs.lemmas.List.{append-nil}
 use Rattle.std.proofs.lemmas.Grind.{flat_map-append}
 use Rattle.std.specs.Result.{IsErrAnd}
 use Rattle.mad_blocks.specs.Layouts.{IsLayoutAt}
-use Rattle.mad_blocks.proofs.LayoutJoins.{apart, layouts_joined}
+use Rattle.mad_blocks.specs.TextParts.{apart}
+use Rattle.mad_blocks.proofs.LayoutJoins.{layouts_joined}
 use Rattle.mad_format.specs.declared.line.FmtLine.{FmtLine}
 use Rattle.mad_md.specs.Lines.{LineContent, content_of}
 use Rattle.mad_md.specs.declared.line.Line.{Line as TextLine}
