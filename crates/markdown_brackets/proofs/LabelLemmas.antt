@@ -9,8 +9,9 @@ use Rattle.std.specs.Str.{bytes_eq}
 use Rattle.std.specs.String.{string_cmp}
 use Rattle.std.specs.declared.cmp.Ordering.{Ordering}
 use Rattle.std.specs.declared.cmp.Ordering.TheVariants.{Less, Equal, Greater}
-use Rattle.std.proofs.lemmas.Bool.{ne_eqb}
+use Rattle.std.proofs.lemmas.Bool.{eq-eqb, ne_eqb, lt-ltb, le-ltb, ltb-true, ltb-false}
 use Rattle.std.proofs.lemmas.List.Folds.{position_or_len_push}
+use Rattle.std.proofs.lemmas.List.Sums.{prefix_len-le-length}
 use Rattle.std.proofs.lemmas.Map.Text.{btree_map_updates_text}
 use Rattle.std.proofs.lemmas.Map.Views.{All-values-insert_entry}
 use Rattle.markdown_brackets.specs.Labels.{with_label}
@@ -18,13 +19,17 @@ use Rattle.markdown_brackets.specs.Numbers.{label_at, first_labels, by_number, I
 
 -- ---- where a list has an item
 
+less_next : (m n k : ℕ) (t : Bool) → k ≡ n + 1 → nat_lt m n ≡ t → nat_lt (1 + m) k ≡ t
+less_next m n k true e h = lt-ltb (1 + m) k (omega (arith, ltb-true m n h, e))
+less_next m n k false e h = le-ltb (1 + m) k (omega (arith, ltb-false m n h, e))
+
+any_more : {X : Type 0} (p : X → Bool) (x : X) (xs : List X) (t : Bool) → nat_lt (position_or_len p xs) (length xs) ≡ list_any p xs → nat_lt (cond (not t) (1 + position_or_len p xs) 0) (length (x ∷ xs)) ≡ (t || list_any p xs)
+any_more p x xs true h = lt-ltb 0 (length (x ∷ xs)) (omega arith)
+any_more p x xs false h = less_next (position_or_len p xs) (length xs) (length (x ∷ xs)) (list_any p xs) (omega arith) h
+
 any_by : {X : Type 0} (p : X → Bool) (xs : List X) → nat_lt (position_or_len p xs) (length xs) ≡ list_any p xs
 any_by p [] = refl
-any_by p (x ∷ xs) = by (p x)
-  where
-    by : (t : Bool) → nat_lt (cond (not t) (1 + position_or_len p xs) 0) (length (x ∷ xs)) ≡ (t || list_any p xs)
-    by true = grind arith
-    by false = grind (arith, any_by p xs)
+any_by p (x ∷ xs) = any_more p x xs (p x) (any_by p xs)
 
 is_some-position : {X : Type 0} (p : X → Bool) (xs : List X) → is_some (position p xs) ≡ list_any p xs
 is_some-position p xs = by (nat_lt (position_or_len p xs) (length xs)) ∙ any_by p xs
@@ -33,8 +38,30 @@ is_some-position p xs = by (nat_lt (position_or_len p xs) (length xs)) ∙ any_b
     by true = refl
     by false = refl
 
+-- a position in a list with one more item, of which this is the first place that passes, or the length
+abbrev at_place : {X : Type 0} → List X → X → ℕ → Option ℕ
+at_place xs x place = cond (nat_lt place (length (xs ++ x ∷ []))) (Some place) None
+
+push_last : {X : Type 0} (xs : List X) (x : X) (place : ℕ) (t : Bool) → place ≡ length xs + cond t 0 1 → at_place xs x place ≡ cond t (Some (length xs)) None
+push_last xs x place true is =
+    let same : place ≡ length xs = omega (arith, is) in
+    ap (at_place xs x) same ∙ ap (λ u. cond u (Some (length xs)) None) (lt-ltb (length xs) (length (xs ++ x ∷ [])) (omega (arith, length-append xs (x ∷ []))))
+push_last xs x place false is = ap (λ u. cond u (Some place) None) (le-ltb place (length (xs ++ x ∷ [])) (omega (arith, is, length-append xs (x ∷ []))))
+
+push_by : {X : Type 0} (p : X → Bool) (xs : List X) (x : X) (t : Bool) → nat_lt (position_or_len p xs) (length xs) ≡ t → position p (xs ++ x ∷ []) ≡ cond t (position p xs) (cond (p x) (Some (length xs)) None)
+push_by p xs x true h =
+    let less : position_or_len p xs < length xs = ltb-true (position_or_len p xs) (length xs) h in
+    let same : position_or_len p (xs ++ x ∷ []) ≡ position_or_len p xs =
+    position_or_len_push p xs x ∙ ap (λ u. cond u (length xs + cond (p x) 0 1) (position_or_len p xs)) (ne_eqb (position_or_len p xs) (length xs) (λ e. omega (arith, less, e))) in
+    ap (at_place xs x) same
+    ∙ ap (λ u. cond u (Some (position_or_len p xs)) None) (lt-ltb (position_or_len p xs) (length (xs ++ x ∷ [])) (omega (arith, less, length-append xs (x ∷ []))) ∙ sym h)
+push_by p xs x false h =
+    let at_end : position_or_len p xs ≡ length xs = omega (arith, ltb-false (position_or_len p xs) (length xs) h, prefix_len-le-length (λ y. not (p y)) xs) in
+    push_last xs x (position_or_len p (xs ++ x ∷ [])) (p x)
+    (position_or_len_push p xs x ∙ ap (λ u. cond u (length xs + cond (p x) 0 1) (position_or_len p xs)) (eq-eqb (position_or_len p xs) (length xs) at_end))
+
 position_push : {X : Type 0} (p : X → Bool) (xs : List X) (x : X) → position p (xs ++ x ∷ []) ≡ cond (list_any p xs) (position p xs) (cond (p x) (Some (length xs)) None)
-position_push p xs x = grind (arith, position_or_len_push p xs x, length-append xs (x ∷ []), any_by p xs)
+position_push p xs x = push_by p xs x (list_any p xs) (any_by p xs)
 
 position_or_none : {X : Type 0} (p : X → Bool) (xs : List X) → cond (list_any p xs) (position p xs) None ≡ position p xs
 position_or_none p xs = by (list_any p xs) (any_by p xs)
@@ -46,7 +73,7 @@ position_or_none p xs = by (list_any p xs) (any_by p xs)
 -- ---- numbers
 
 eqb_itself : (n : ℕ) → eqb n n ≡ true
-eqb_itself n = grind arith
+eqb_itself n = eq-eqb n n refl
 
 eqb_below : (m n : ℕ) → m < n → eqb m n ≡ false
 eqb_below m n h = ne_eqb m n (λ e. omega (arith, h, e))
@@ -73,28 +100,33 @@ All-tail x xs all = λ k d h. all (suc k) d (omega (arith, h))
 -- ---- the label of a number
 
 module _ {A : Type 0} where
+  module _ (key : String A) (new number : ℕ) (e : String A × ℕ) (es more : List (String A × ℕ)) (found : Option ℕ) where
+    -- another number, where the new entry is before one, or behind it
+    other_by : (o : Ordering) → eqb new number ≡ false → cond (is_eq o) (Some e.1) found ≡ None → (found ≡ None → label_at number more ≡ label_at number es)
+        → label_at number (match_ordering o ((key, new) ∷ e ∷ es) ((e.0, new) ∷ es) (e ∷ more)) ≡ label_at number (e ∷ es)
+    other_by Less other a behind = ap (λ t. if t then string_bytes key else label_at number (e ∷ es)) other
+    other_by Equal other a behind = absurd (not_none e.1 a)
+    other_by Greater other a behind = ap (λ (rest : List ℕ). if eqb e.1 number then string_bytes e.0 else rest) (behind a)
+
+  module _ (key : String A) (new : ℕ) (e : String A × ℕ) (es more : List (String A × ℕ)) (found : Option ℕ) where
+    -- the new number
+    new_by : (o : Ordering) → e.1 < new → cond (is_eq o) (Some e.1) found ≡ None → (found ≡ None → label_at new more ≡ string_bytes key)
+        → label_at new (match_ordering o ((key, new) ∷ e ∷ es) ((e.0, new) ∷ es) (e ∷ more)) ≡ string_bytes key
+    new_by Less below a behind = ap (λ t. if t then string_bytes key else label_at new (e ∷ es)) (eqb_itself new)
+    new_by Equal below a behind = absurd (not_none e.1 a)
+    new_by Greater below a behind = ap (λ t. if t then string_bytes e.0 else label_at new more) (eqb_below e.1 new below) ∙ behind a
+
   module _ (cmp : String A → String A → Ordering) (key : String A) (new : ℕ) where
     -- other numbers have the labels that they had
     label_at_other : (number : ℕ) (es : List (String A × ℕ)) → eqb new number ≡ false → lookup (is_at (cmp key)) es ≡ None → label_at number (insert_entry cmp es key new) ≡ label_at number es
     label_at_other number [] other absent = ap (λ t. if t then string_bytes key else []) other
-    label_at_other number (e ∷ es) other absent = by (cmp key e.0) absent
-      where
-        by : (o : Ordering) → cond (is_eq o) (Some e.1) (lookup (is_at (cmp key)) es) ≡ None
-            → label_at number (match_ordering o ((key, new) ∷ e ∷ es) ((e.0, new) ∷ es) (e ∷ insert_entry cmp es key new)) ≡ label_at number (e ∷ es)
-        by Less a = ap (λ t. if t then string_bytes key else label_at number (e ∷ es)) other
-        by Equal a = absurd (not_none e.1 a)
-        by Greater a = ap (λ (rest : List ℕ). if eqb e.1 number then string_bytes e.0 else rest) (label_at_other number es other a)
+    label_at_other number (e ∷ es) other absent =
+        other_by key new number e es (insert_entry cmp es key new) (lookup (is_at (cmp key)) es) (cmp key e.0) other absent (label_at_other number es other)
 
     label_at_new : (es : List (String A × ℕ)) → All (λ (number : ℕ). number < new) (values_of es) → lookup (is_at (cmp key)) es ≡ None → label_at new (insert_entry cmp es key new) ≡ string_bytes key
     label_at_new [] below absent = ap (λ t. if t then string_bytes key else []) (eqb_itself new)
-    label_at_new (e ∷ es) below absent = by (cmp key e.0) absent
-      where
-        by : (o : Ordering) → cond (is_eq o) (Some e.1) (lookup (is_at (cmp key)) es) ≡ None → label_at new (match_ordering o ((key, new) ∷ e ∷ es) ((e.0, new) ∷ es) (e ∷ insert_entry cmp es key new)) ≡ string_bytes key
-        by Less a = ap (λ t. if t then string_bytes key else label_at new (e ∷ es)) (eqb_itself new)
-        by Equal a = absurd (not_none e.1 a)
-        by Greater a =
-            ap (λ t. if t then string_bytes e.0 else label_at new (insert_entry cmp es key new)) (eqb_below e.1 new (All-head e.1 (values_of es) below))
-            ∙ label_at_new es (All-tail e.1 (values_of es) below) a
+    label_at_new (e ∷ es) below absent =
+        new_by key new e es (insert_entry cmp es key new) (lookup (is_at (cmp key)) es) (cmp key e.0) (All-head e.1 (values_of es) below) absent (label_at_new es (All-tail e.1 (values_of es) below))
 
     first_labels_kept : (count : ℕ) (es : List (String A × ℕ)) → count ≤ new → lookup (is_at (cmp key)) es ≡ None → first_labels count (insert_entry cmp es key new) ≡ first_labels count es
     first_labels_kept zero es few absent = refl
