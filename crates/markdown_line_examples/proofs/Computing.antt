@@ -45,7 +45,7 @@ unfolding
     Rattle.markdown_lines.specs.Tables.table_lines Rattle.markdown_lines.specs.Tables.cells_addresses Rattle.markdown_lines.specs.Tables.rows_links
     Rattle.markdown_reader.specs.Definitions.defined_in Rattle.markdown_reader.specs.Definitions.parts_defined
     Rattle.markdown_reader.specs.Mapping.shown_part Rattle.markdown_reader.specs.Mapping.shown_parts
-    Rattle.markdown_reader.specs.Markdown.printable_lines Rattle.markdown_reader.specs.Markdown.markdown_links
+    Rattle.markdown_reader.specs.Markdown.printable_lines Rattle.markdown_reader.specs.Markdown.unmarked_links
     Rattle.markdown_reader.specs.Printed.ArePrintedLinks Rattle.ucd_category.proofs.Computing.ucd_category Rattle.caseless.proofs.Computing.caseless
     Rattle.std.specs.Str.chars Rattle.std.specs.Char.encode_utf8 Rattle.std.specs.Str.is_utf8 Rattle.std.specs.Str.Lossy.utf8_lossy
     Rattle.std.specs.Str.Lossy.utf8_valid_len

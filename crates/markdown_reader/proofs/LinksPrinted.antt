@@ -22,10 +22,10 @@ use Rattle.markdown_lines.specs.Leaf.{leaf_rows, html_lines}
 use Rattle.markdown_lines.specs.Links.{Defined, LinkSaid, definition_address, address_or_none, address_by, address_in, address_of, leaf_addresses, links_at}
 use Rattle.markdown_lines.specs.Tables.{cell_text, after_cell, cells_addresses, row_addresses, rows_links, table_links}
 use Rattle.markdown_reader.specs.Definitions.{label_of, with_definition, defined_or, defined_in, leaf_defined, part_defined, parts_defined, nothing_defined, definitions_of}
-use Rattle.markdown_reader.specs.Mapping.{Mapping, nothing_shown, place_in, spaced, is_spaced, marked, passed, begun, item_ended, ended, linked, rows_in, rows_shown, unmarked, words_shown, leaf_text, big_begun, code_shown, heading_shown, table_added, leaf_shown, shown_part, shown_parts}
+use Rattle.markdown_reader.specs.Mapping.{Mapping, nothing_shown, place_in, spaced, is_spaced, marked, passed, begun, item_ended, ended, linked, rows_shown, unmarked, words_shown, leaf_text, big_begun, code_shown, heading_shown, leaf_shown, shown_part, shown_parts}
 use Rattle.markdown_reader.specs.Markdown.{unmarked_links}
 use Rattle.markdown_lines.specs.Printed.{is_obeyed}
-use Rattle.markdown_reader.specs.Printed.{IsPrintedLink, ArePrintedLinks}
+use Rattle.markdown_reader.specs.Printed.{ArePrintedLinks}
 use Rattle.markdown_reader.proofs.PrintedLemmas.{text_printed}
 use Rattle.markdown_reader.specs.declared.mapper.Place.{Place}
 

@@ -22,7 +22,7 @@ use Rattle.markdown_leaves.specs.Defining.{joined}
 use Rattle.markdown_lines.specs.Leaf.{shown_text, plain_row, leaf_rows, html_row, html_lines}
 use Rattle.markdown_lines.specs.Links.{Defined, leaf_addresses}
 use Rattle.markdown_reader.proofs.GlyphsPrinted.{none_obeyed, none_append, nothing_printed, cons_printed, leaf_printed, cell_printed}
-use Rattle.markdown_reader.specs.Mapping.{Mapping, nothing_shown, place_in, spaced, is_spaced, marked, passed, begun, item_ended, ended, rows_shown, rows_in, unmarked, first_style, follow_style, words_shown, leaf_text, big_begun, lines_added, heading_style, code_shown, leaf_shown, shown_part, shown_parts}
+use Rattle.markdown_reader.specs.Mapping.{Mapping, nothing_shown, place_in, spaced, is_spaced, marked, passed, begun, item_ended, ended, rows_shown, rows_in, unmarked, first_style, follow_style, words_shown, leaf_text, big_begun, heading_style, code_shown, leaf_shown, shown_part, shown_parts}
 use Rattle.markdown_reader.specs.Markdown.{printable_lines}
 use Rattle.markdown_lines.specs.Printed.{is_obeyed, IsPrintedRun, IsPrintedCell, IsPrintedLine, ArePrinted}
 use Rattle.markdown_lines.specs.Restyled.{empty_line, row_runs, restyled}
