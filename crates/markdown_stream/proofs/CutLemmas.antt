@@ -1,12 +1,13 @@
 -- How a text is cut line by line.
-use Rattle.std.proofs.Common.{◌≡◌, ◌≢◌, ℕ, ◌==◌, Bool, true, false, List, [], ◌∷◌, ◌++◌, refl, sym, ap, ◌∙◌, append_assoc, if◌then◌else◌}
+use Rattle.std.proofs.Common.{◌≡◌, ◌≢◌, ℕ, ◌==◌, Bool, true, false, List, [], ◌∷◌, ◌++◌, length, fold, refl, sym, ap, ◌∙◌, append_assoc, arith, if◌then◌else◌}
 use Rattle.std.proofs.lemmas.List.{append-nil}
 use Rattle.std.specs.List.{onto_first}
 use Rattle.mad_md.specs.Parts.{HasNoNewline}
 use Rattle.mad_md.proofs.PartsLemmas.{true_test}
 use Rattle.mad_stream.specs.Lines.{IsFirstLine}
+use Rattle.markdown_blocks.specs.Lines.{text_lines}
 use Rattle.markdown_blocks.specs.Steps.{State}
-use Rattle.markdown_stream.specs.Cuts.{SourcePart, Cutting, source_lines, source_read, completed, completed_if, joined_by, line_cut, open_after, lines_cut}
+use Rattle.markdown_stream.specs.Cuts.{SourcePart, Cutting, Reading, line_read, source_lines, source_read, completed, completed_if, joined_by, line_cut, open_after, lines_cut}
 use Rattle.markdown_stream.specs.declared.cuts.Role.{Role}
 
 -- ---- lines
@@ -100,3 +101,14 @@ goes_on state c (text ∷ more) =
 
 pub goes_on_to_end : (state : State) (c : Cutting) (more : List (List ℕ)) → GoesOn c (completed (lines_cut state c more))
 goes_on_to_end state c more = goes_on_both c (lines_cut state c more) (completed (lines_cut state c more)) (goes_on state c more) (goes_on_if true (lines_cut state c more))
+
+-- ---- the lines that are in one line of the source
+
+no_text_lines : text_lines [] ≡ []
+unfolding text_lines
+no_text_lines = refl
+
+-- all of them were read
+pub read_all : (rest : List ℕ) (reading whole : Reading) → length rest ≡ 0 → fold line_read reading (text_lines rest) ≡ whole → reading ≡ whole
+read_all [] reading whole none is = sym (ap (fold line_read reading) no_text_lines) ∙ is
+read_all (b ∷ rest) reading whole none is = absurd (omega arith)
