@@ -9,11 +9,10 @@ ghost use Rattle.mad_marks.specs.LineMarks.{has_mark};
 
 use crate::compounds::append_compounds;
 use crate::cursors::MarkCursor;
-use crate::fronts::{End, Front, blanks_beside, inner_blanks};
 use crate::lines::MarkedSkin;
 use mad_format::FmtComposite;
 use mad_mark_runs::runs_from;
-use mad_rows::RowPlace;
+use mad_rows::{CompositeEnd, CompositeFront, RowPlace, blanks_beside, inner_blanks};
 use std::alloc::AllocError;
 
 /// A composite at its place, before which so many counted characters of the text stand.
@@ -30,14 +29,14 @@ pub(crate) fn append_composite(
     let style = skin.skin.line_style(composite.kind);
     let (left, right) = blanks_beside(composite, style.align, place);
     let (inner_left, inner_right) = inner_blanks(composite);
-    let front = Front {
+    let front = CompositeFront {
         skin: skin.skin,
         style,
         kind: composite.kind,
         outer: left,
         inner: inner_left,
     };
-    let end = End {
+    let end = CompositeEnd {
         skin: skin.skin,
         style,
         inner: inner_right,

@@ -5,16 +5,14 @@
 //! 1. `cursors`: the marks of characters, one after the other.
 //! 2. `paints`: the style of a mark. `links`: its link.
 //! 3. `texts`: a text, cut where the mark changes, each part in the style that its mark makes of another.
-//! 4. `fronts`: what is in front of a composite's compounds and what is after them (as `mad_rows` has it for itself).
-//! 5. `compounds`: compounds with marks. `composites`: a composite in its row. `lines`: a row of a table, and any line.
-//! 6. `seen`: what is drawn again of a composite, each character in the style that its row shows it in. `written`: these, put after a string.
-//! 7. [`laws`]: marks change nothing but styles.
+//! 4. `compounds`: compounds with marks. `composites`: a composite in its row. `lines`: a row of a table, and any line.
+//! 5. `seen`: what is drawn again of a composite, each character in the style that its row shows it in. `written`: these, put after a string.
+//! 6. [`laws`]: marks change nothing but styles.
 #![tactic(auto)]
 
 mod composites;
 mod compounds;
 mod cursors;
-mod fronts;
 pub mod laws;
 mod lines;
 mod links;

@@ -19,7 +19,7 @@ pub mod rows;
 pub mod style_commands;
 pub mod tables;
 
-pub use composites::{FreeComposite, PlacedComposite};
+pub use composites::{CompositeEnd, CompositeFront, FreeComposite, PlacedComposite};
 pub use lines::{PlacedLine, PlacedLines, PlacedRow};
 pub use read_rows::{append_read, is_aligned_left};
 pub use row_skin::{
@@ -27,5 +27,8 @@ pub use row_skin::{
     style_of_kind,
 };
 pub use row_writing::{TextRows, append_line, append_lines};
-pub use rows::{RowPlace, composite_blanks, know_row, line_blanks, row_blanks};
+pub use rows::{
+    RowPlace, blanks_beside, composite_blanks, inner_blanks, know_row, line_blanks, row_blanks,
+    row_columns,
+};
 pub use style_commands::StyleCommands;

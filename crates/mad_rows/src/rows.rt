@@ -27,7 +27,7 @@ pub struct RowPlace {
 }
 
 /// The blank columns left and right of a composite in its own place.
-pub(crate) fn inner_blanks(composite: &FmtComposite) -> (usize, usize)
+pub fn inner_blanks(composite: &FmtComposite) -> (usize, usize)
     ensures { result ≡ inner_blanks composite.now }
 {
     composite.completions()
@@ -44,11 +44,7 @@ pub(crate) fn inner_columns(composite: &FmtComposite) -> usize
 }
 
 /// The blank columns left and right of a composite's own place in a row; those on its right only where the row is filled up.
-pub(crate) fn blanks_beside(
-    composite: &FmtComposite,
-    align: Alignment,
-    place: RowPlace,
-) -> (usize, usize)
+pub fn blanks_beside(composite: &FmtComposite, align: Alignment, place: RowPlace) -> (usize, usize)
     ensures { result ≡ blanks_beside align place.outer place.margins place.filled composite.now }
 {
     let (left, right) = outer_blanks(composite, align, place);
@@ -83,7 +79,7 @@ pub(crate) fn margins_of(
 }
 
 /// The columns of a row of cells: each has a border before it, and one more is the last.
-pub(crate) fn row_columns(cells: &[FmtComposite]) -> usize
+pub fn row_columns(cells: &[FmtComposite]) -> usize
     ensures { result ≡ capped (row_columns cells.now) }
 {
     let mut columns: usize = 0;
