@@ -1,5 +1,5 @@
 -- The hits of rows, row by row, and where what is sought goes over a break.
-use Rattle.std.proofs.Common.{◌≡◌, ◌≢◌, ℕ, zero, suc, ◌+◌, ◌<◌, ◌≤◌, ◌==◌, Bool, true, false, ◌&&◌, List, [], ◌∷◌, ◌++◌, cond, drop, length, get_or, map, below_more, refl, ap, sym, ◌∙◌, subst, inl, inr, arith, append_assoc}
+use Rattle.std.proofs.Common.{◌≡◌, ◌≢◌, ℕ, zero, suc, ◌+◌, ◌<◌, ◌≤◌, ◌==◌, Bool, true, false, ◌&&◌, List, [], ◌∷◌, ◌++◌, cond, drop, length, get_or, map, below_more, Result, Ok, Err, OnOk, refl, ap, sym, ◌∙◌, subst, inl, inr, arith, append_assoc}
 use Rattle.std.specs.Prelude.{chars, slice_index}
 use Rattle.std.specs.List.{filter, range_with_len}
 use Rattle.std.proofs.lemmas.Bool.Decides.{nat_tests}
@@ -7,17 +7,19 @@ use Rattle.std.proofs.lemmas.Bool.{cases_lt}
 use Rattle.std.proofs.lemmas.List.{append-nil, get_or_past, map-id}
 use Rattle.std.proofs.lemmas.List.Elements.{filter-append}
 use Rattle.std.proofs.lemmas.List.FromFn.{length-range_with_len, map-range_with_len_more}
-use Rattle.mad_term.specs.Trace.{Trace, TookWith}
+use Rattle.mad_term.specs.Draws.{Draws}
+use Rattle.mad_term.specs.Trace.{Trace, TookWith, after}
+use Rattle.mad_term.specs.declared.errors.Error.{Error}
 use Rattle.mad_format.specs.declared.line.FmtLine.{FmtLine}
 use Rattle.mad_rows.specs.declared.row_skin.RowSkin.{RowSkin}
 use Rattle.mad_search.specs.Breaks.{goes_over}
 use Rattle.mad_search.specs.Searches.{text_after}
-use Rattle.mad_hits.specs.Drawn.{AreHitsShown}
+use Rattle.mad_hits.specs.Drawn.{AreHitsShown, hits_bytes}
 use Rattle.mad_hits.specs.Hits.{Marked, marked_of}
 use Rattle.mad_hits.specs.Overs.{overs, overs_above, overs_below, overs_between}
 use Rattle.mad_hits.specs.Parts.{AreRowHits, AreRowsMarked, IsRowMarked}
 use Rattle.mad_hits.specs.declared.hits.Hit.{Hit}
-use Rattle.mad_hits.proofs.TookLemmas.{took_so}
+use Rattle.mad_hits.proofs.TookLemmas.{took_exact, took_so}
 
 -- ---- numbers in a row
 
@@ -103,10 +105,25 @@ above_is sought lines starts (suc r) before e = let same : r ≡ before = omega 
 -- ---- rows that are marked
 
 pub row_marked : (skin : RowSkin) (width : ℕ) (sought : List ℕ) (lines : List FmtLine) (starts : List ℕ) (y row : ℕ) (hits given : List Hit) (old new : Trace) → given ≡ hits
-    → AreRowHits skin width sought lines starts row (map marked_of hits) → TookWith old new (AreHitsShown width y (map marked_of given)) → TookWith old new (IsRowMarked skin width sought lines starts y row)
-row_marked skin width sought lines starts y row hits given old new same are shown =
-    took_so old new (AreHitsShown width y (map marked_of given)) (IsRowMarked skin width sought lines starts y row)
-    (λ text h. record { hits = map marked_of hits; are = are; shown = subst (λ (l : List Hit). AreHitsShown width y (map marked_of l) text) same h }) shown
+    → AreRowHits skin width sought lines starts row (map marked_of hits) → new ≡ after old (hits_bytes width y (map marked_of given)) → TookWith old new (AreHitsShown width y (map marked_of given))
+    → TookWith old new (IsRowMarked skin width sought lines starts y row)
+row_marked skin width sought lines starts y row hits given old new same are taken shown =
+    let bytes : List ℕ = hits_bytes width y (map marked_of given) in
+    took_so old new (λ text. (text ≡ bytes) × AreHitsShown width y (map marked_of given) text) (IsRowMarked skin width sought lines starts y row)
+    (λ text h. record {
+      hits = map marked_of hits;
+      are = are;
+      written = h.0 ∙ ap (λ (l : List Hit). hits_bytes width y (map marked_of l)) same;
+      shown = subst (λ (l : List Hit). AreHitsShown width y (map marked_of l) text) same h.1;
+    })
+    (took_exact old new bytes (AreHitsShown width y (map marked_of given)) taken shown)
+
+-- the same of a call that drew them, or was refused
+pub row_shown : {T : Type 0} (r : Result T Error) (skin : RowSkin) (width : ℕ) (sought : List ℕ) (lines : List FmtLine) (starts : List ℕ) (y row : ℕ) (hits given : List Hit) (old new : Trace) → given ≡ hits
+    → AreRowHits skin width sought lines starts row (map marked_of hits) → Draws old (hits_bytes width y (map marked_of given)) r new → OnOk r (TookWith old new (AreHitsShown width y (map marked_of given)))
+    → OnOk r (TookWith old new (IsRowMarked skin width sought lines starts y row))
+row_shown {T} (Ok x) skin width sought lines starts y row hits given old new same are taken shown = row_marked skin width sought lines starts y row hits given old new same are taken shown
+row_shown {T} (Err e) skin width sought lines starts y row hits given old new same are taken shown = tt
 
 rows_more : (skin : RowSkin) (width : ℕ) (sought : List ℕ) (lines : List FmtLine) (starts : List ℕ) (y n : ℕ) (rows : List ℕ) (row : ℕ) (a b : List ℕ) → n ≡ y + length rows
     → AreRowsMarked skin width sought lines starts y rows a → IsRowMarked skin width sought lines starts n row b → AreRowsMarked skin width sought lines starts y (rows ++ row ∷ []) (a ++ b)

@@ -1,5 +1,8 @@
 -- What is drawn once more of a row: the hits in its own text, and in it the parts of those that go over a break.
-use Rattle.std.specs.Prelude.{◌≡◌, ℕ, ◌+◌, ◌-◌, List, [], ◌∷◌, ◌++◌, chars, length, map, slice_get, Some}
+use Rattle.std.specs.Prelude.{◌≡◌, ◌⊎◌, ℕ, ◌+◌, ◌-◌, List, [], ◌∷◌, ◌++◌, chars, length, map, slice_get, Some, Result, IsOk, IsErr}
+use Rattle.mad_term.specs.Draws.{DrawsSome}
+use Rattle.mad_term.specs.Trace.{Trace, after}
+use Rattle.mad_term.specs.declared.errors.Error.{Error}
 use Rattle.mad_style.specs.declared.styled_chars.StyledChar.{StyledChar}
 use Rattle.mad_format.specs.declared.composite.FmtComposite.{FmtComposite}
 use Rattle.mad_format.specs.declared.line.FmtLine.{FmtLine}
@@ -7,7 +10,7 @@ use Rattle.mad_format.specs.declared.line.FmtLine.TheVariants.{Normal}
 use Rattle.mad_rows.specs.Rows.{margins_of}
 use Rattle.mad_rows.specs.declared.row_skin.RowSkin.{RowSkin}
 use Rattle.mad_search.specs.Searches.{row_text}
-use Rattle.mad_hits.specs.Drawn.{AreHitsShown}
+use Rattle.mad_hits.specs.Drawn.{AreHitsShown, hits_bytes}
 use Rattle.mad_hits.specs.Hits.{AreTextsHits, Marked, marked_at, placed_texts, text_column}
 use Rattle.mad_hits.specs.Overs.{overs_above, overs_below}
 use Rattle.mad_hits.specs.Styled.{styled_text}
@@ -40,10 +43,27 @@ pub record AreRowHits (skin : RowSkin) (width : ℕ) (sought : List ℕ) (lines 
   pub within : AreTextsHits skin sought (placed_texts skin width line) own
   pub are : hits ≡ own ++ line_parts skin sought width (overs_above sought lines starts row) (overs_below sought lines starts row) line
 
--- the bytes of the hits of what is sought in a row, in row y of the screen
+-- ---- what is written
+
+-- What a call does that draws the hits of a row, in row y of the screen: they go out whole, or it is refused. Where memory for them is refused,
+-- nothing went out.
+abbrev pub WritesRowHits : {T : Type 0} → RowSkin → ℕ → List ℕ → List FmtLine → List ℕ → ℕ → ℕ → Trace → Result T Error → Trace → Type 0
+WritesRowHits skin width sought lines starts y row old r new = DrawsSome (AreRowHits skin width sought lines starts row) (hits_bytes width y) old r new
+
+-- What a call does that draws those of rows, from row y of the screen on: those of each row go out whole, in order, up to a row that is refused.
+abbrev pub WritesRowsHits : {T : Type 0} → RowSkin → ℕ → List ℕ → List FmtLine → List ℕ → ℕ → List ℕ → Trace → Result T Error → Trace → Type 0
+WritesRowsHits skin width sought lines starts y [] old r new = IsOk r × (new ≡ old)
+WritesRowsHits skin width sought lines starts y (row ∷ rows) old r new =
+    ((hits : List Marked) × AreRowHits skin width sought lines starts row hits × WritesRowsHits skin width sought lines starts (y + 1) rows (after old (hits_bytes width y hits)) r new)
+    ⊎ (IsErr r × WritesRowHits skin width sought lines starts y row old r new)
+
+-- ---- what is shown
+
+-- The bytes of the hits of what is sought in a row, in row y of the screen: they are written in order, and shown.
 pub record IsRowMarked (skin : RowSkin) (width : ℕ) (sought : List ℕ) (lines : List FmtLine) (starts : List ℕ) (y row : ℕ) (bytes : List ℕ) : Type 0 where
   pub hits : List Marked
   pub are : AreRowHits skin width sought lines starts row hits
+  pub written : bytes ≡ hits_bytes width y hits
   pub shown : AreHitsShown width y hits bytes
 
 -- the bytes of those in rows, from row y of the screen on

@@ -2,12 +2,13 @@
 
 ghost use Rattle.std.specs.List.{range_with_len};
 ghost use Rattle.std.specs.Prelude.{◌+◌, ◌-◌, ◌<◌, ◌^◌, OnOk, length, map, min};
+ghost use Rattle.mad_term.specs.Draws.{Draws};
 ghost use Rattle.mad_term.specs.Trace.{TookWith};
 ghost use Rattle.mad_style.specs.StyledChars.{char_style};
 ghost use Rattle.mad_term.specs.Styles.{IsStyle};
-ghost use Rattle.mad_hits.specs.Drawn.{AreHitsShown, IsHitShown};
+ghost use Rattle.mad_hits.specs.Drawn.{AreHitsShown, IsHitShown, hit_bytes, hits_bytes};
 ghost use Rattle.mad_hits.specs.Hits.{marked_of};
-ghost use Rattle.mad_hits.specs.Parts.{AreRowsMarked, IsRowMarked};
+ghost use Rattle.mad_hits.specs.Parts.{AreRowsMarked, IsRowMarked, WritesRowHits, WritesRowsHits};
 
 use crate::hits::{Hit, columns_of};
 use crate::parts::row_hits;
@@ -19,15 +20,15 @@ use mad_style::StyledChar;
 use mad_term::{Error, Out};
 use std::alloc::{AllocError, Global};
 
-/// Draws the hits of what is sought over rows of a text that were drawn in an area, those from the row `top` on, as many as its height. Each row
-/// has as many columns as they are laid out at. Nothing is flushed.
+/// Draws the hits of what is sought over rows of a text that were drawn in an area, those from the row `top` on, as many as its height. The rows
+/// were drawn in `width` columns: those that the scroll bar leaves, if there is one. Nothing is flushed.
 ///
 /// Parts of the text begin in the rows `starts`, as [`mad_search::PagedText::lay`] tells. Of what goes over the break between two rows that come of
 /// one line of the text, each row has its part, also where the other one isn't in the area.
 ///
 /// # Errors
 ///
-/// A fault of the device, or out of memory. What went out by then is a beginning of the whole.
+/// A fault of the device, or out of memory. What went out by then is the hits of the rows before, and a beginning of those of one row.
 pub fn draw_row_hits<O: Out>(
     alloc: Global,
     out: &mut O,
@@ -39,7 +40,8 @@ pub fn draw_row_hits<O: Out>(
     height: u16,
     sought: &str,
 ) -> Result<(), Error>
-    ensures { OnOk result (TookWith (O.seen out.old) (O.seen out.new) (AreRowsMarked skin.now width sought.now lines.now starts.now 0 (range_with_len top (min height (length lines.now - top))))) }
+    ensures writes { WritesRowsHits skin.now width sought.now lines.now starts.now 0 (range_with_len top (min height (length lines.now - top))) (O.seen out.old) result (O.seen out.new) }
+    ensures shown { OnOk result (TookWith (O.seen out.old) (O.seen out.new) (AreRowsMarked skin.now width sought.now lines.now starts.now 0 (range_with_len top (min height (length lines.now - top))))) }
 {
     let count = usize::from(height).min(lines.len().saturating_sub(top));
     let mut y: u16 = 0;
@@ -65,11 +67,11 @@ fn draw_row<O: Out>(
 ) -> Result<(), Error>
     requires low { y + 1 < 2 ^ 16 }
     requires within { row < length lines.now }
-    ensures { OnOk result (TookWith (O.seen out.old) (O.seen out.new) (IsRowMarked skin.now width sought.now lines.now starts.now y row)) }
+    ensures writes { WritesRowHits skin.now width sought.now lines.now starts.now y row (O.seen out.old) result (O.seen out.new) }
+    ensures shown { OnOk result (TookWith (O.seen out.old) (O.seen out.new) (IsRowMarked skin.now width sought.now lines.now starts.now y row)) }
 {
     let hits = row_hits(alloc, skin, lines, starts, row, usize::from(width), sought)?;
-    draw_each(alloc, out, hits.as_slice(), width, y)?;
-    Ok(())
+    draw_each(alloc, out, hits.as_slice(), width, y)
 }
 
 // Draws hits, each where it is within the columns.
@@ -81,7 +83,8 @@ fn draw_each<O: Out>(
     y: u16,
 ) -> Result<(), Error>
     requires { y + 1 < 2 ^ 16 }
-    ensures { OnOk result (TookWith (O.seen out.old) (O.seen out.new) (AreHitsShown width y (map marked_of hits.now))) }
+    ensures writes { Draws (O.seen out.old) (hits_bytes width y (map marked_of hits.now)) result (O.seen out.new) }
+    ensures shown { OnOk result (TookWith (O.seen out.old) (O.seen out.new) (AreHitsShown width y (map marked_of hits.now))) }
 {
     for hit in hits {
         draw_hit(alloc, out, hit, width, y)?;
@@ -92,7 +95,8 @@ fn draw_each<O: Out>(
 // Draws a hit, where it is within the columns.
 fn draw_hit<O: Out>(alloc: Global, out: &mut O, hit: &Hit, width: u16, y: u16) -> Result<(), Error>
     requires { y + 1 < 2 ^ 16 }
-    ensures { OnOk result (TookWith (O.seen out.old) (O.seen out.new) (IsHitShown width y (marked_of hit.now))) }
+    ensures writes { Draws (O.seen out.old) (hit_bytes width y (marked_of hit.now)) result (O.seen out.new) }
+    ensures shown { OnOk result (TookWith (O.seen out.old) (O.seen out.new) (IsHitShown width y (marked_of hit.now))) }
 {
     let columns = columns_of(hit.chars.as_slice());
     if hit.column.saturating_add(columns) > usize::from(width) {
@@ -111,8 +115,7 @@ fn draw_hit<O: Out>(alloc: Global, out: &mut O, hit: &Hit, width: u16, y: u16) -
             chars: hit.chars.as_slice(),
         },
         &area,
-    )?;
-    Ok(())
+    )
 }
 
 // Characters in a row, each in its style.

@@ -1,11 +1,12 @@
 -- What is shown of what was drawn in turn, and what goes out of it.
-use Rattle.std.proofs.Common.{◌≡◌, ℕ, ◌-◌, ◌<◌, ◌^◌, ◌≤◌, ◌||◌, ◌&&◌, ◌==◌, eq-eqb, nat_lt, Bool, true, false, List, [], ◌∷◌, ◌++◌, Option, Some, None, Result, Err, refl, ap, sym, ◌∙◌, subst, arith, take, length, min}
+use Rattle.std.proofs.Common.{◌≡◌, ℕ, ◌-◌, ◌<◌, ◌^◌, ◌≤◌, ◌||◌, ◌&&◌, ◌==◌, eq-eqb, nat_lt, Bool, true, false, List, [], ◌∷◌, ◌++◌, Option, Some, None, Result, Ok, Err, OnOk, inl, refl, ap, sym, ◌∙◌, subst, arith, take, length, min}
 use Rattle.std.proofs.lemmas.List.{append-nil}
 use Rattle.std.specs.List.{range_with_len}
 use Rattle.std.specs.Result.{IsErrAnd}
 use Rattle.std.specs.Prelude.{MatchResult}
 use Rattle.std.proofs.lemmas.Result.{err_from_is_err_and}
 use Rattle.std.specs.declared.io.Error as io
+use Rattle.mad_term.specs.Draws.{Draws}
 use Rattle.mad_term.specs.Trace.{Trace, after, failed, flushed, CutShort, TookWith}
 use Rattle.mad_term.specs.declared.errors.Error.{Error}
 use Rattle.mad_term.specs.declared.errors.Error.TheVariants.{IO}
@@ -34,14 +35,14 @@ use Rattle.mad_layout.specs.ShownBeside.{ShowsLayoutBeside}
 use Rattle.mad_layout.specs.ShownLayouts.{ShowsDrawable}
 use Rattle.mad_format.specs.declared.line.FmtLine.{FmtLine}
 use Rattle.mad_layout.specs.Drawable.{AreDrawable}
-use Rattle.mad_layout.specs.Shown.{area_row}
+use Rattle.mad_layout.specs.Shown.{area_bytes, area_row}
 use Rattle.mad_layout.specs.declared.skin.MadSkin.{MadSkin}
 use Rattle.mad_rows.specs.RowStyles.{line_rules}
 use Rattle.mad_rows.specs.declared.row_skin.RowSkin.{RowSkin}
 use Rattle.mad_hits.specs.Parts.{AreRowsMarked}
 use Rattle.std.proofs.lemmas.Bool.{ltb-false}
 use Rattle.std.proofs.lemmas.Bool.Decides.{nat_tests}
-use Rattle.mad_pager.specs.Screens.{reversed_skin, is_small, area_of, bar_of, paged_skin, text_pane, text_rows, field_pane, prompt_pane, prompt_row, status_pane, status_words, AreHitsDrawn, ArePanesDrawn, IsFieldShown, IsLineIn, IsStatusLine, KeepsTextPremises, AreLinesShown, IsFieldRow, IsLastRow, IsStatus, IsDrawing, IsPicture, IsTypingShown, IsStatusShown, IsFieldInRow, IsShowing, IsShown, IsUnshown, question}
+use Rattle.mad_pager.specs.Screens.{reversed_skin, is_small, area_of, bar_of, paged_skin, text_pane, text_rows, field_pane, prompt_pane, prompt_row, status_pane, status_words, AreHitsDrawn, ArePanesDrawn, IsFieldShown, IsLineIn, IsStatusLine, KeepsTextPremises, AreLinesShown, IsFieldRow, IsLastRow, IsStatus, IsDrawing, WritesStatus, IsPicture, IsTypingShown, IsStatusShown, IsFieldInRow, IsShowing, IsShown, IsUnshown, question}
 use Rattle.mad_pager.specs.Sessions.{State, field_row, last_row, prompt_cell, text_area}
 
 -- ---- what is shown
@@ -169,6 +170,16 @@ line_drawn dress line items area bytes old new are one took shown =
     known old new bytes (AreDrawable (row_skin dress) area.width (line ∷ [])) (AreRowsShown (area_row (row_skin dress) None (line ∷ []) area 0) area) took
     (λ drawable. here tt (subst (λ (n : ℕ). AreDrawable (row_skin dress) area.width (take n (line ∷ []))) (sym one) drawable))
 
+-- the same of a call that drew it, or was refused
+pub line_written : {T : Type 0} (r : Result T Error) (dress : MadSkin) (line : FmtLine) (items : List FmtLine) (area : Area) (old new : Trace) → items ≡ line ∷ [] → Draws old (area_bytes (row_skin dress) None items area 0) r new
+    → Draws old (area_bytes (row_skin dress) None (line ∷ []) area 0) r new
+line_written {T} r dress line items area old new are h = subst (λ (ls : List FmtLine). Draws old (area_bytes (row_skin dress) None ls area 0) r new) are h
+
+pub line_shown : {T : Type 0} (r : Result T Error) (dress : MadSkin) (line : FmtLine) (items : List FmtLine) (area : Area) (bytes : List ℕ) (old new : Trace)
+    → items ≡ line ∷ [] → area.height ≡ 1 → Draws old bytes r new → OnOk r (ShowsDrawable (row_skin dress) None items area 0 old new) → OnOk r (TookWith old new (IsLineIn (row_skin dress) line area))
+line_shown {T} (Ok x) dress line items area bytes old new are one took shown = line_drawn dress line items area bytes old new are one took shown
+line_shown {T} (Err e) dress line items area bytes old new are one took shown = tt
+
 -- a status that was drawn in the last row
 pub status_drawn : (name words : List ℕ) (s : State) (dress : MadSkin) (line : FmtLine) (area : Area) (old new : Trace)
     → dress ≡ reversed_skin → words ≡ status_words name s → IsStatusLine dress words s.page.columns line → area ≡ last_row s.page.columns s.page.rows → TookWith old new (IsLineIn (row_skin dress) line area) → TookWith old new (IsStatus name s)
@@ -176,6 +187,24 @@ status_drawn name words s dress line area old new dressed said is at drawn =
     took_so old new (IsLineIn (row_skin dress) line (last_row s.page.columns s.page.rows)) (IsStatus name s)
     (λ text shown. record { dress = dress; dressed = dressed; line = line; is = subst (λ (w : List ℕ). IsStatusLine dress w s.page.columns line) said is; shown = shown })
     (subst (λ (a : Area). TookWith old new (IsLineIn (row_skin dress) line a)) at drawn)
+
+-- the same of a call that drew it, or was refused
+pub status_written : {T : Type 0} (r : Result T Error) (name words : List ℕ) (s : State) (dress : MadSkin) (line : FmtLine) (area : Area) (old new : Trace)
+    → dress ≡ reversed_skin → words ≡ status_words name s → IsStatusLine dress words s.page.columns line → area ≡ last_row s.page.columns s.page.rows
+    → Draws old (area_bytes (row_skin dress) None (line ∷ []) area 0) r new → WritesStatus name s old r new
+status_written {T} r name words s dress line area old new dressed said is at h =
+    let row : Area = last_row s.page.columns s.page.rows in
+    inl (
+      line,
+      subst (λ (d : MadSkin). IsStatusLine d (status_words name s) s.page.columns line) dressed (subst (λ (w : List ℕ). IsStatusLine dress w s.page.columns line) said is),
+      subst (λ (d : MadSkin). Draws old (area_bytes (row_skin d) None (line ∷ []) row 0) r new) dressed (subst (λ (a : Area). Draws old (area_bytes (row_skin dress) None (line ∷ []) a 0) r new) at h),
+    )
+
+pub status_kept : {T : Type 0} (r : Result T Error) (name words : List ℕ) (s : State) (dress : MadSkin) (line : FmtLine) (area : Area) (old new : Trace)
+    → dress ≡ reversed_skin → words ≡ status_words name s → IsStatusLine dress words s.page.columns line → area ≡ last_row s.page.columns s.page.rows
+    → OnOk r (TookWith old new (IsLineIn (row_skin dress) line area)) → OnOk r (TookWith old new (IsStatus name s))
+status_kept {T} (Ok x) name words s dress line area old new dressed said is at drawn = status_drawn name words s dress line area old new dressed said is at drawn
+status_kept {T} (Err e) name words s dress line area old new dressed said is at drawn = tt
 
 -- ---- what goes out
 

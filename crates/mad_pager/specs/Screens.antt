@@ -1,5 +1,5 @@
 -- What the screen shows of a session.
-use Rattle.std.specs.Prelude.{◌≡◌, ℕ, ◌+◌, ◌-◌, ◌<◌, ◌≤◌, ◌++◌, nat_lt, ◌||◌, Bool, true, false, List, [], ◌∷◌, length, min, take, drop, codes, decimal, Option, Some, None, IfSome, if◌then◌else◌}
+use Rattle.std.specs.Prelude.{◌≡◌, ℕ, ◌+◌, ◌-◌, ◌<◌, ◌≤◌, ◌++◌, nat_lt, ◌||◌, Bool, true, false, List, [], ◌∷◌, length, min, take, drop, codes, decimal, Option, Some, None, IfSome, Result, if◌then◌else◌}
 use Rattle.std.specs.List.{flat_map, range_with_len}
 use Rattle.std.specs.Str.{chars}
 use Rattle.mad_md.specs.Flagged.{flagged, flagged_of, unflagged}
@@ -20,6 +20,7 @@ use Rattle.mad_layout.specs.Premises.{KeepsPremises, AreTyped}
 use Rattle.mad_rows.specs.RowStyles.{line_rules, with_links}
 use Rattle.mad_page.specs.Pages.{percent}
 use Rattle.mad_search.specs.Searches.{composite_text}
+use Rattle.mad_term.specs.Draws.{DrawsSome}
 use Rattle.mad_term.specs.Trace.{Trace, after, flushed, CutShort}
 use Rattle.mad_term.specs.declared.attribute.Attribute.TheVariants.{Reverse}
 use Rattle.mad_term.specs.declared.errors.Error.{Error}
@@ -36,7 +37,7 @@ use Rattle.mad_field.specs.Drawn.{row_pieces}
 use Rattle.mad_layout.specs.Drawable.{AreDrawable}
 use Rattle.mad_layout.specs.RowSkins.{row_skin}
 use Rattle.mad_layout.specs.Skins.{no_style_skin}
-use Rattle.mad_layout.specs.Shown.{area_row, text_row}
+use Rattle.mad_layout.specs.Shown.{area_bytes, area_row, text_row}
 use Rattle.mad_layout.specs.declared.skin.MadSkin.{MadSkin}
 use Rattle.mad_rows.specs.declared.row_skin.RowSkin.{RowSkin}
 use Rattle.std.specs.List.{AllByRecursion}
@@ -129,6 +130,18 @@ pub record IsStatus (name : List ℕ) (s : State) (bytes : List ℕ) : Type 0 wh
   pub line : FmtLine
   pub is : IsStatusLine dress (status_words name s) s.page.columns line
   pub shown : IsLineIn (row_skin dress) line (last_row s.page.columns s.page.rows) bytes
+
+-- the line of a status
+abbrev pub IsLineOfStatus : List ℕ → State → FmtLine → Type 0
+IsLineOfStatus name s line = IsStatusLine reversed_skin (status_words name s) s.page.columns line
+
+-- what is written of it
+abbrev pub status_bytes : State → FmtLine → List ℕ
+status_bytes s line = area_bytes (row_skin reversed_skin) None (line ∷ []) (last_row s.page.columns s.page.rows) 0
+
+-- What a call does that draws a status: its line goes out whole, or it is refused. Where memory for the line is refused, nothing went out.
+abbrev pub WritesStatus : {T : Type 0} → List ℕ → State → Trace → Result T Error → Trace → Type 0
+WritesStatus name s old r new = DrawsSome (IsLineOfStatus name s) (status_bytes s) old r new
 
 -- ---- what a session keeps
 
