@@ -84,7 +84,7 @@ impl TblFit {
     ///
     /// `words` is a table that has seen the longest word of each cell, as this one has seen the cell. What a column is raised to its
     /// longest word, others give up in proportion to what they are wider than their own, as in the last step of `fit`. Where the
-    /// longest words don't fit together, the widths are those of `fit`. A column of which no word was seen keeps its natural width.
+    /// longest words don't fit together, the widths are those of `fit`. A column of which no word was seen may get three columns.
     ///
     /// The only error is out of memory. The time is that of sorting the columns, whatever the number of cells.
     pub fn fit_words(&self, alloc: Global, words: &TblFit) -> Result<TblFitResult, AllocError>

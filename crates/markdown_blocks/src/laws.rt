@@ -2,8 +2,8 @@
 
 ghost use Rattle.markdown_blocks.specs.KeptLines.{NothingIsLost};
 
-/// Nothing of a line is lost, whatever is open before it. In front of the text that is told of it stand blanks and signs alone: those of
-/// quotes, items, headings and fences. A line that no leaf keeps is markup alone.
+/// Nothing of a line is lost, whatever is open before it. The text that is told of it is its end. In front of that stand only blanks, and characters
+/// that signs of quotes, items, headings and fences have. A line that is told as markup is markup alone.
 pub fn nothing_is_lost()
     ensures { NothingIsLost }
 {}

@@ -9,6 +9,6 @@ use Rattle.markdown_emphasis.specs.Left.{Exhaust}
 abbrev pub PairsAreNested : Type 0
 PairsAreNested = (runs : List Run) → ArePairs (length runs) (matches runs)
 
--- no run gives more marks than it has, and nothing that matches is left
+-- No run gives more marks than it has. Of two runs that match and have marks left, the first lies inside a pair that is closed before the second.
 abbrev pub NothingIsLeft : Type 0
 NothingIsLeft = (runs : List Run) → Exhaust runs (matches runs)

@@ -28,8 +28,8 @@ pub record IsOverUntil (place last : ℕ) (pair : Pair) : Type 0 where
 abbrev pub HasEnough : List Run → List Pair → Type 0
 HasEnough runs pairs = (i : ℕ) → i < length runs → taken_at pairs i ≤ (run_at runs i).count
 
--- Pairs that take no more marks than there are, and leave nothing that matches: of two runs that fit and have marks left,
--- the first lies inside a pair that is closed before the second could close.
+-- Pairs that take no more marks than there are. Of two runs that fit and have marks left, the first lies inside a pair that is closed before the
+-- second could close.
 pub record Exhaust (runs : List Run) (pairs : List Pair) : Type 0 where
   pub enough : HasEnough runs pairs
   pub none_left : (i j : ℕ) → i < j → j < length runs → fits (run_at runs i) (run_at runs j) ≡ true
