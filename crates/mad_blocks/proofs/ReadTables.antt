@@ -37,6 +37,7 @@ use Rattle.mad_blocks.proofs.TableWidths.{CellsSeen, RowsSeen, kept_narrow, rows
 
 -- ---- what was read, one by one
 
+-- as many lines as were read
 pub read_length : (skin : LineRules) (cs : List LineContent) (ls : List FmtLine) → AreRead skin cs ls → length ls ≡ length cs
 read_length skin [] [] h = refl
 read_length skin (c ∷ cs) (l ∷ ls) h = ap suc (read_length skin cs ls h.1)
@@ -104,6 +105,7 @@ line_count skin (table_rule aligns) (TableRule rule) h = ap length h.aligns_are
 line_count skin horizontal_rule HorizontalRule h = refl
 line_count skin _ _ h = absurd h
 
+-- the columns of the lines that were read are those that the text says
 pub count_read : (skin : LineRules) (cs : List LineContent) (ls : List FmtLine) → AreRead skin cs ls → columns_count ls ≡ columns_among cs
 count_read skin [] [] h = refl
 count_read skin (c ∷ cs) (l ∷ ls) h = let own : columns_in l ≡ count_in c = line_count skin c l h.0 in let rest : columns_count ls ≡ columns_among cs = count_read skin cs ls h.1 in omega (arith, own, rest)
@@ -121,9 +123,11 @@ text_is_said (p ∷ ps) = ap (λ xs. flagged_of p ++ xs) (text_is_said ps)
 text_read : (skin : LineRules) (cell : Composite) (l : FmtComposite) → IsCompositeRead skin (styled_runs cell) l → text_of l ≡ flagged_text cell.compounds.items
 text_read skin cell l h = text_is_said l.compounds.items ∙ ap (flat_map (λ r. flagged r.flags (chars r.text))) h.text ∙ sym (text_is_said cell.compounds.items)
 
+-- the longest word of a cell's text is that of the cell as it was read
 pub word_read : (skin : LineRules) (cell : Composite) (l : FmtComposite) (n : ℕ) → n ≡ capped (longest_word (flagged_text cell.compounds.items)) → IsCompositeRead skin (styled_runs cell) l → n ≡ measure_of true l
 word_read skin cell l n is h = is ∙ ap (λ (t : List FlaggedChar). capped (longest_word t)) (sym (text_read skin cell l h))
 
+-- the columns of a cell's text, with its indent, are those of the cell as it was read
 pub length_read : (skin : LineRules) (cell : Composite) (l : FmtComposite) (n : ℕ) (kind : CompositeKind) (mode : _) → mode ≡ skin.list_items_indentation_mode → kind ≡ kind_of cell.style → n ≡ capped (indent mode kind + width_of (flagged_text cell.compounds.items)) → IsCompositeRead skin (styled_runs cell) l
     → n ≡ measure_of false l
 length_read skin cell l n kind mode mode_is kind_is is h =
@@ -132,9 +136,11 @@ length_read skin cell l n kind mode mode_is kind_is is h =
 
 -- ---- the cells of a row that was read
 
+-- however the cells are read, so many of them were seen
 abbrev pub ReadCellsSeen : LineRules → Bool → TblFit → TblFit → List Composite → ℕ → Type 0
 ReadCellsSeen skin b before fit cells column = (read : List FmtComposite) → AreCompositesRead skin (map styled_runs cells) read → CellsSeen b before fit read column
 
+-- one cell more was seen
 pub read_cell_seen : (skin : LineRules) (b : Bool) (before fit after : TblFit) (cells rest : List Composite) (column : ℕ) (cell : Composite) (n : ℕ) → ReadCellsSeen skin b before fit cells column → drop column cells ≡ cell ∷ rest → ((l : FmtComposite) → IsCompositeRead skin (styled_runs cell) l → n ≡ measure_of b l)
     → ((width : ℕ) (seen : List (List ℕ)) → TableHasSeen fit width seen → TableHasSeen after width (cell_added seen column n)) → ReadCellsSeen skin b before after cells (column + 1)
 read_cell_seen skin b before fit after cells rest column cell n held next measured sees read h =
@@ -142,11 +148,13 @@ read_cell_seen skin b before fit after cells rest column cell n held next measur
     seen_more b before fit after read column l (held read h) (there ∙ ap (λ k. l ∷ drop k read) (sym (add-one column)))
     (λ width seen s. subst (λ k. TableHasSeen after width (cell_added seen column k)) (measured l is) (sees width seen s))
 
+-- no cell is left where none is left of the text
 pub read_cells_end : (skin : LineRules) (cells : List Composite) (read : List FmtComposite) (column : ℕ) → AreCompositesRead skin (map styled_runs cells) read → drop column cells ≡ [] → drop column read ≡ []
 read_cells_end skin cells read column h none = cells_end skin (map styled_runs cells) read column h (map_drop styled_runs column cells ∙ ap (map styled_runs) none)
 
 -- ---- the rows of a table that was read
 
+-- however the lines are read, the rows of so many of them were seen
 abbrev pub ReadRowsSeen : LineRules → Bool → TblFit → TblFit → List Line → ℕ → Type 0
 ReadRowsSeen skin b before fit table i = (read : List FmtLine) → AreRead skin (map content_of table) read → RowsSeen b before fit read i
 
@@ -154,6 +162,7 @@ row_of : (skin : LineRules) (cells : List StyledRuns) (l : FmtLine) → IsLineRe
 row_of skin cells (TableRow row) h = (row, refl, h)
 row_of skin cells _ h = absurd h
 
+-- one row more was seen
 pub read_row_seen : (skin : LineRules) (b : Bool) (before fit after : TblFit) (table rest : List Line) (i : ℕ) (line : Line) (row : ReadRow) → ReadRowsSeen skin b before fit table i → drop i table ≡ line ∷ rest → line ≡ read.TableRow row
     → ((read : List FmtComposite) → AreCompositesRead skin (map styled_runs row.cells.items) read → (width n : ℕ) (rows : List (List FmtComposite)) → TableHasSeen fit width (measures_in b n rows) → TableHasSeen after width (measures_in b n (rows ++ read ∷ [])))
     → ReadRowsSeen skin b before after table (i + 1)
@@ -170,25 +179,30 @@ no_row skin (read.TableRule cells) (TableRule l) other h made is = cc
 no_row skin read.HorizontalRule HorizontalRule other h made is = cc
 no_row skin _ _ other h made is = h
 
+-- one line more was seen that is no row
 pub read_other_seen : (skin : LineRules) (b : Bool) (before fit : TblFit) (table rest : List Line) (i : ℕ) (line : Line) → ReadRowsSeen skin b before fit table i → drop i table ≡ line ∷ rest → ((row : ReadRow) → line ≡ read.TableRow row → ⊥) → ReadRowsSeen skin b before fit table (i + 1)
 read_other_seen skin b before fit table rest i line held next other read h =
     let here : drop i (map content_of table) ≡ content_of line ∷ map content_of rest = map_drop content_of i table ∙ ap (map content_of) next in
     let (l, there, was) = read_at skin (map content_of table) read i (content_of line) (map content_of rest) h here in
     rows_seen_other b before fit read i l (held read h) (there ∙ ap (λ k. l ∷ drop k read) (sym (add-one i))) (no_row skin line l other was)
 
+-- no line is left where none is left of the text
 pub read_rows_end : (skin : LineRules) (table : List Line) (read : List FmtLine) (i : ℕ) → AreRead skin (map content_of table) read → drop i table ≡ [] → drop i read ≡ []
 read_rows_end skin table read i h none = lines_end skin (map content_of table) read i h (map_drop content_of i table ∙ ap (map content_of) none)
 
 -- ---- the widths
 
+-- columns that are more than fit have the least width, however the lines are read
 pub read_narrow : {E : Type 0} (r : Result (Vec ℕ) E) (skin : LineRules) (n width : ℕ) (cs : List LineContent) → 0 < width → (width - 1) / 4 < n → IfOk r (λ ws. ws.items ≡ replicate ((width - 1) / 4) 3)
     → IfOk r (λ ws. (read : List FmtLine) → AreRead skin cs read → AreKeptWidths skin.whole_words n width read ws.items)
 read_narrow {E} (Ok ws) skin n width cs some few is = λ read h. kept_narrow skin.whole_words n width read ws.items some few is
 read_narrow {E} (Err e) skin n width cs some few is = tt
 
+-- the lines that were read are fewer than 2^64
 pub read_few : (skin : LineRules) (table : List Line) (read : List FmtLine) → AreRead skin (map content_of table) read → length table < 2 ^ 64 → length read < 2 ^ 64
 read_few skin table read h few = omega (arith, read_length skin (map content_of table) read h, length-map table content_of, few)
 
+-- the greatest count of columns, after one line more
 pub count_more : (table : List Line) (i : ℕ) (line : Line) (count new all : ℕ) → drop i table ≡ line ∷ drop (i + 1) table → max count (columns_among (map content_of (drop i table))) ≡ all → new ≡ max (count_in (content_of line)) count
     → max new (columns_among (map content_of (drop (i + 1) table))) ≡ all
 count_more table i line count new all next held is =
@@ -201,6 +215,7 @@ count_more table i line count new all next held is =
 abbrev pub Become : LineRules → List LineContent → Bool → List ℕ → List Spacing → Bool → List FmtLine → Type 0
 Become skin cs stays widths columns first lines = (read : List FmtLine) × AreRead skin cs read × BecomesBy skin stays widths columns first read lines
 
+-- nothing becomes of no lines
 pub nothing_becomes : (skin : LineRules) (cs : List LineContent) (stays : Bool) (widths : List ℕ) (columns : List Spacing) (first : Bool) → cs ≡ [] → Become skin cs stays widths columns first []
 nothing_becomes skin cs stays widths columns first none = ([], subst (λ (ds : List LineContent). AreRead skin ds []) (sym none) tt, by stays)
   where
@@ -208,11 +223,13 @@ nothing_becomes skin cs stays widths columns first none = ([], subst (λ (ds : L
     by true = refl
     by false = refl
 
+-- the next line stays, and the rest becomes what it does
 pub line_stays : (skin : LineRules) (widths : List ℕ) (columns : List Spacing) (first : Bool) (cs after : List LineContent) (c : LineContent) (made : FmtLine) (stays : Bool) (more : List FmtLine) → stays ≡ true → cs ≡ c ∷ after → IsLineRead skin c made
     → Become skin after stays widths columns first more → Become skin cs stays widths columns first (made ∷ more)
 line_stays skin widths columns first cs after c made false more is next said h = absurd (cc)
 line_stays skin widths columns first cs after c made true more is next said (read, reads, same) = (made ∷ read, subst (λ (ds : List LineContent). AreRead skin ds (made ∷ read)) (sym next) (said, reads), ap (λ (ls : List FmtLine). made ∷ ls) same)
 
+-- the next line is laid out, and the rest becomes what it does
 pub line_laid : (skin : LineRules) (widths : List ℕ) (columns new_columns : List Spacing) (first : Bool) (position : RelativePosition) (left : ℕ) (cs after : List LineContent) (c : LineContent) (made : FmtLine) (stays : Bool) (own more : List FmtLine)
     → stays ≡ false → cs ≡ c ∷ after → IsLineRead skin c made → new_columns ≡ columns_from widths columns made → left ≡ length after → position ≡ position_at first (left == 0) → IsTableLineBy IsCompositeWrap skin new_columns position made own
     → Become skin after stays widths new_columns false more → Become skin cs stays widths columns first (own ++ more)
@@ -229,6 +246,7 @@ line_laid skin widths columns new_columns first position left cs after c made fa
 
 -- ---- from the first line on
 
+-- lines that all stay are the layout of a table without columns, or without width
 pub table_stays : (skin : LineRules) (width n : ℕ) (cs lines_left : List LineContent) (widths : List ℕ) (columns : List Spacing) (lines : List FmtLine) → lines_left ≡ cs → n ≡ columns_among cs → (n ≡ 0) ⊎ (width ≡ 0) → Become skin lines_left true widths columns true lines
     → (read : List FmtLine) × AreRead skin cs read × IsTableLaidOutBy IsCompositeWrap skin (columns_count read) width read lines
 table_stays skin width n cs lines_left widths columns lines same count none (read, reads, is) =
@@ -236,6 +254,7 @@ table_stays skin width n cs lines_left widths columns lines same count none (rea
     let counted : columns_count read ≡ n = count_read skin cs read all ∙ sym count in
     (read, all, inl (subst (λ (k : ℕ). (k ≡ 0) ⊎ (width ≡ 0)) (sym counted) none, is))
 
+-- lines that are laid out one by one are the layout of their table
 pub table_by_lines : (skin : LineRules) (width n : ℕ) (cs lines_left : List LineContent) (widths : List ℕ) (columns : List Spacing) (lines : List FmtLine) → lines_left ≡ cs → n ≡ columns_among cs → 0 < n → 0 < width → ((read : List FmtLine) → AreRead skin cs read → AreKeptWidths skin.whole_words n width read widths)
     → columns ≡ centered widths → Become skin lines_left false widths columns true lines → (read : List FmtLine) × AreRead skin cs read × IsTableLaidOutBy IsCompositeWrap skin (columns_count read) width read lines
 table_by_lines skin width n cs lines_left widths columns lines same count some wide kept columns_are (read, reads, laid) =

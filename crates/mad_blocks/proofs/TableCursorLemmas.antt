@@ -25,9 +25,11 @@ pub record TableSoFar (first : LineContent) (before left read : List LineContent
   pub told : AllByRecursion (λ c. is_table c ≡ true) others
   pub are : read ≡ first ∷ others
 
+-- the first line was read
 pub table_begun : (first : LineContent) (before read : List LineContent) → read ≡ first ∷ [] → TableSoFar first before before read
 table_begun first before read is = record { others = []; joins = refl; told = tt; are = is }
 
+-- one line more was read
 pub table_goes_on : (first : LineContent) (before left after read new : List LineContent) (c : LineContent) → TableSoFar first before left read → left ≡ c ∷ after → is_table c ≡ true → new ≡ read ++ c ∷ [] → TableSoFar first before after new
 table_goes_on first before left after read new c h next on pushed = record {
   others = h.others ++ c ∷ [];
@@ -36,6 +38,7 @@ table_goes_on first before left after read new c h next on pushed = record {
   are = pushed ∙ ap (λ (cs : List LineContent). cs ++ c ∷ []) h.are;
 }
 
+-- what becomes of the whole table is what its part becomes
 pub table_whole : (skin : LineRules) (width : Option ℕ) (first : LineContent) (before left after said : List LineContent) (wide : ℕ) (lines own : List FmtLine) → is_table first ≡ true → TableSoFar first before left said → after ≡ left → NoneNext is_table left → wide ≡ table_width width
     → (read : List FmtLine) × AreRead skin said read × IsTableLaidOutBy IsCompositeWrap skin (columns_count read) wide read own → LaidPart skin width (first ∷ before) lines after (lines ++ own)
 table_whole skin width first before left after said wide lines own on h same none is (read, reads, laid) =
@@ -49,10 +52,12 @@ table_whole skin width first before left after said wide lines own on h same non
 abbrev pub PartSoFar : LineRules → Option ℕ → List LineContent → List FmtLine → List LineContent → TableCursor → List FmtLine → Type 0
 PartSoFar skin width before lines after table now = (more : List FmtLine) → TableBecomes skin table more → LaidPart skin width before lines after (now ++ more)
 
+-- one line more was laid out
 pub part_goes_on : (skin : LineRules) (width : Option ℕ) (before : List LineContent) (lines : List FmtLine) (after : List LineContent) (old new : TableCursor) (was now own : List FmtLine) → PartSoFar skin width before lines after old was → now ≡ was ++ own
     → ((more : List FmtLine) → TableBecomes skin new more → TableBecomes skin old (own ++ more)) → PartSoFar skin width before lines after new now
 part_goes_on skin width before lines after old new was now own h pushed becomes more left =
     subst (λ (ls : List FmtLine). LaidPart skin width before lines after ls) (sym (append_assoc was own more) ∙ ap (λ (ls : List FmtLine). ls ++ more) (sym pushed)) (h (own ++ more) (becomes more left))
 
+-- no line is left: the part is laid out
 pub part_ends : (skin : LineRules) (width : Option ℕ) (before : List LineContent) (lines : List FmtLine) (after : List LineContent) (table : TableCursor) (was now : List FmtLine) → PartSoFar skin width before lines after table was → now ≡ was → TableBecomes skin table [] → LaidPart skin width before lines after now
 part_ends skin width before lines after table was now h same none = subst (λ (ls : List FmtLine). LaidPart skin width before lines after ls) (append-nil was ∙ sym same) (h [] none)

@@ -94,6 +94,7 @@ abbrev pub TableRowsSoFar : RowSkin → Option ℕ → TableCursor → List ℕ 
 TableRowsSoFar skin width first old table rows =
     (more : List FmtLine) → TableBecomes (line_rules skin) table more → (own : List FmtLine) × TableBecomes (line_rules skin) first own × (rows ++ text_bytes skin width more ≡ old ++ text_bytes skin width own)
 
+-- the rows of one line more were written
 pub table_rows_more : (skin : RowSkin) (width : Option ℕ) (first table next : TableCursor) (old rows new : List ℕ) (was now own : List FmtLine) → TableRowsSoFar skin width first old table rows → was ≡ [] → now ≡ was ++ own
     → ((more : List FmtLine) → TableBecomes (line_rules skin) next more → TableBecomes (line_rules skin) table (own ++ more)) → new ≡ rows ++ text_bytes skin width now → TableRowsSoFar skin width first old next new
 table_rows_more skin width first table next old rows new was now own held none pushed becomes put more left =
@@ -104,6 +105,7 @@ table_rows_more skin width first table next old rows new was now own held none p
       ap (λ (b : List ℕ). b ++ text_bytes skin width more) are ∙ append_assoc rows (text_bytes skin width own) (text_bytes skin width more) ∙ ap (λ (b : List ℕ). rows ++ b) (sym (flat_map-append (line_bytes skin width) own more)) ∙ all.2,
     )
 
+-- no line is left: the table's rows are written
 pub table_rows_end : (skin : RowSkin) (width : Option ℕ) (first table : TableCursor) (old rows new : List ℕ) → TableRowsSoFar skin width first old table rows → TableBecomes (line_rules skin) table [] → new ≡ rows
     → (own : List FmtLine) × TableBecomes (line_rules skin) first own × (new ≡ old ++ text_bytes skin width own)
 table_rows_end skin width first table old rows new held none same = let all = held [] none in (all.0, all.1, same ∙ sym (append-nil rows) ∙ all.2)
