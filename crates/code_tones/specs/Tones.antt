@@ -8,7 +8,7 @@ use Rattle.code_tables.specs.declared.rules.Class.TheVariants.{Plain, Comment, T
 use Rattle.code_tables.specs.declared.rules.Language.{Language}
 use Rattle.code_colors.specs.declared.tokens.Token.{Token}
 use Rattle.code_colors.specs.Tokens.{tokens_by}
-use Rattle.mad_printable.specs.Pictures.{picture}
+use Rattle.mad_characters.specs.Pictures.{picture}
 
 -- ---- tones
 

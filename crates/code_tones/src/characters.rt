@@ -5,7 +5,7 @@ ghost use Rattle.bstr.specs.Utf8.{decoded, or_replacement};
 ghost use Rattle.code_tones.specs.Tones.{is_counted};
 
 use bstr::decode_lossy;
-use mad_printable::picture;
+use mad_characters::picture;
 
 /// The first character, and its bytes: U+FFFD for bytes that are no character.
 #[tactic(auto, using(crate::proofs::WalkLemmas::size_some, crate::proofs::WalkLemmas::size_within))]

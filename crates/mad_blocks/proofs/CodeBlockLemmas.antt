@@ -3,7 +3,7 @@ use Rattle.std.proofs.Common.{◌≡◌, ℕ, zero, suc, ◌+◌, ◌-◌, ◌<�
 use Rattle.std.specs.List.{AllByRecursion, flat_map}
 use Rattle.std.proofs.lemmas.List.{get_or-drop, at_drop_more, at_drop_all, map-append, drop-drop, length-append, length-drop, length-take, get_or-append_right, set-append_right, take-append-drop}
 use Rattle.std.proofs.Math.Seq.{take-add, take-length, take-suc, take-append_seam, drop-append_seam}
-use Rattle.mad_fit.proofs.AllLemmas.{all_push}
+use Rattle.mad_measure.proofs.AllLemmas.{all_push}
 use Rattle.mad_blocks.specs.CodeBlocks.{blocks_among, placed_line, with_block_placed, part_placed, blocks_placed, width_within, code_columns, NoCode, NoCodeFirst, IsClosedBlock, IsNextBlock}
 use Rattle.mad_blocks.specs.LayoutParts.{Part, table, block, single, with_table, is_code_kind, is_code_line, widest, block_width, placed_code, justified, with_code, with_composite, parts_of}
 use Rattle.mad_blocks.specs.declared.code_blocks.CodeBlock.{CodeBlock}

@@ -3,7 +3,7 @@ use Rattle.std.proofs.Common.{◌≡◌, ℕ, ◌-◌, ◌<◌, ◌≤◌, inl, 
 use Rattle.std.proofs.lemmas.Bool.Decides.{nat_tests}
 use Rattle.mad_style.specs.LineStyles.{margins_at}
 use Rattle.mad_style.specs.declared.line_styles.LineStyle.{LineStyle}
-use Rattle.mad_fit.specs.declared.spacing.Spacing.{Spacing}
+use Rattle.mad_measure.specs.declared.spacing.Spacing.{Spacing}
 use Rattle.mad_style.specs.declared.kinds.CompositeKind.TheVariants.{Code}
 use Rattle.mad_wrap.specs.WrapLines.{HasRoom}
 use Rattle.mad_wrap.proofs.WrapModes.{by_fits}

@@ -1,6 +1,6 @@
 -- A row whose cells all fit is laid out as itself, with its cells at their places.
 use Rattle.std.proofs.Common.{◌≡◌, ℕ, suc, ◌<◌, ◌≤◌, List, [], ◌∷◌, map, length, get_or, inl, refl, arith}
-use Rattle.mad_fit.specs.declared.spacing.Spacing.{Spacing}
+use Rattle.mad_measure.specs.declared.spacing.Spacing.{Spacing}
 use Rattle.mad_format.specs.LineRules.{LineRules}
 use Rattle.mad_format.specs.WrappedLines.{Wrap}
 use Rattle.mad_format.specs.declared.composite.FmtComposite.{FmtComposite}

@@ -2,8 +2,8 @@
 use Rattle.std.proofs.Common.{◌≡◌, ℕ, ◌<◌, Bool, true, false, inl, inr, List, [], ◌∷◌, ◌++◌, map, length, Option, Some, refl, ap, sym, ◌∙◌, subst, arith}
 use Rattle.std.specs.Prelude.{◌==◌}
 use Rattle.std.specs.List.{flat_map}
-use Rattle.mad_fit.specs.declared.spacing.Spacing.{Spacing}
-use Rattle.mad_fit.proofs.AllLemmas.{all_joined}
+use Rattle.mad_measure.specs.declared.spacing.Spacing.{Spacing}
+use Rattle.mad_measure.proofs.AllLemmas.{all_joined}
 use Rattle.mad_blocks.specs.CodeBlocks.{NoCodeFirst, part_placed, blocks_placed}
 use Rattle.mad_blocks.specs.LayoutLaws.{PassesAreParts, PartsArePasses}
 use Rattle.mad_blocks.specs.LayoutParts.{Part, table, block, single, is_code_kind, is_code_line, with_table, with_code, with_composite, parts_of, IsTableFixedBy, justified, code_room, IsLineAt, AreLinesAt, ArePartsAt}

@@ -13,8 +13,8 @@ use Rattle.mad_md.specs.declared.line.Line.TheVariants as read
 use Rattle.mad_md.specs.declared.line.TableRow.{TableRow as ReadRow}
 use Rattle.mad_style.specs.Kinds.{kind_of}
 use Rattle.mad_style.specs.declared.kinds.CompositeKind.{CompositeKind}
-use Rattle.mad_fit.specs.TextColumns.{width_of}
-use Rattle.mad_fit.specs.declared.spacing.Spacing.{Spacing}
+use Rattle.mad_measure.specs.TextColumns.{width_of}
+use Rattle.mad_measure.specs.declared.spacing.Spacing.{Spacing}
 use Rattle.mad_wrap.specs.WrapLines.{capped}
 use Rattle.mad_widths.specs.SeenCells.{TableHasSeen, cell_added}
 use Rattle.mad_widths.specs.declared.tbl_fit.TblFit.{TblFit}

@@ -3,7 +3,7 @@ use Rattle.std.proofs.Common.{◌≡◌, ℕ, true, List, [], ◌∷◌, ◌++�
 use Rattle.std.specs.List.{AllByRecursion}
 use Rattle.std.proofs.lemmas.List.{append-nil}
 use Rattle.mad_md.specs.Lines.{LineContent}
-use Rattle.mad_fit.proofs.AllLemmas.{all_push}
+use Rattle.mad_measure.proofs.AllLemmas.{all_push}
 use Rattle.mad_format.specs.CompositeWraps.{IsCompositeWrap}
 use Rattle.mad_format.specs.LineRules.{LineRules}
 use Rattle.mad_format.specs.declared.line.FmtLine.{FmtLine}

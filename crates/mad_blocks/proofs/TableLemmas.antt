@@ -5,8 +5,8 @@ use Rattle.std.specs.List.{AllByRecursion}
 use Rattle.std.proofs.lemmas.List.{append-nil, map-append, length-map, drop_more, drop_all, drop-drop, take_all, get_or_at, set_at}
 use Rattle.mad_md.specs.declared.alignment.Alignment.{Alignment}
 use Rattle.mad_md.specs.declared.alignment.Alignment.TheVariants.{Unspecified}
-use Rattle.mad_fit.specs.declared.spacing.Spacing.{Spacing}
-use Rattle.mad_fit.proofs.AllLemmas.{all_push}
+use Rattle.mad_measure.specs.declared.spacing.Spacing.{Spacing}
+use Rattle.mad_measure.proofs.AllLemmas.{all_push}
 use Rattle.mad_format.specs.CompositeWraps.{IsCompositeWrap}
 use Rattle.mad_blocks.specs.LayoutParts.{Part, IsTableFixedBy, AreTablesLaidOut}
 use Rattle.mad_blocks.proofs.PartRuns.{AllTableLines, NoTableFirst, one_table, line_stays}

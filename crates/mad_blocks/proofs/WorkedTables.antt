@@ -1,7 +1,7 @@
 -- Worked tables, by computing their widths; and what is no table, each by the part of the definition that it breaks.
 use Rattle.std.proofs.Common.{◌≡◌, ℕ, suc, ◌<◌, inl, inr, Bool, true, false, List, [], ◌∷◌, ◌++◌, length, map, Some, refl, sym, ap, ap₂, ◌∙◌, subst, arith}
 use Rattle.std.specs.Prelude.{◌==◌}
-use Rattle.mad_fit.specs.declared.spacing.Spacing.{Spacing}
+use Rattle.mad_measure.specs.declared.spacing.Spacing.{Spacing}
 use Rattle.mad_widths.specs.Turns.{grants}
 use Rattle.mad_widths.specs.ColumnWidths.{needs_of, first_requests, second_requests, after_first, after_second, column_widths, natural_widths, AreShared}
 use Rattle.mad_widths.specs.WordWidths.{least_of, word_widths}

@@ -1,6 +1,6 @@
 -- Rows of a table whose cells all fit their columns.
 use Rattle.std.specs.Prelude.{◌≡◌, ℕ, ◌<◌, ◌≤◌, List, length, get_or}
-use Rattle.mad_fit.specs.declared.spacing.Spacing.{Spacing}
+use Rattle.mad_measure.specs.declared.spacing.Spacing.{Spacing}
 use Rattle.mad_format.specs.declared.composite.FmtComposite.{FmtComposite}
 use Rattle.mad_blocks.specs.Tables.{in_column}
 

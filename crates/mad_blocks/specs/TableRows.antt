@@ -1,7 +1,7 @@
 -- The lines of a row's cells while its rows are built one after the other.
 use Rattle.std.specs.Prelude.{◌≡◌, List, [], ◌∷◌, map}
 use Rattle.std.specs.Vec.Iter.{into_iter_items}
-use Rattle.mad_fit.specs.declared.spacing.Spacing.{Spacing}
+use Rattle.mad_measure.specs.declared.spacing.Spacing.{Spacing}
 use Rattle.mad_format.specs.CompositeWraps.{IsCompositeWrap}
 use Rattle.mad_blocks.specs.Tables.{AreCellsLaidOut, IsTop, below}
 use Rattle.mad_format.specs.LineRules.{LineRules}

@@ -6,7 +6,7 @@ use Rattle.mad_md.specs.declared.alignment.Alignment.TheVariants.{Unspecified, C
 use Rattle.mad_style.specs.declared.kinds.CompositeKind.TheVariants.{Paragraph}
 use Rattle.mad_widths.specs.ColumnWidths.{needs_of, natural_widths, column_widths, AreShared}
 use Rattle.mad_widths.specs.WordWidths.{least_of, word_widths}
-use Rattle.mad_fit.specs.declared.spacing.Spacing.{Spacing}
+use Rattle.mad_measure.specs.declared.spacing.Spacing.{Spacing}
 use Rattle.mad_format.specs.FmtLines.{bordered}
 use Rattle.mad_format.specs.WrappedLines.{Wrap}
 use Rattle.mad_format.specs.Wraps.{text_of}

@@ -11,11 +11,11 @@ ghost use Rattle.mad_format.specs.Wraps.{IsMeasured};
 ghost use Rattle.mad_format.specs.declared.line.FmtLine.{FmtLine};
 ghost use Rattle.mad_format.specs.declared.line.FmtLine.TheVariants.{Normal};
 
-use mad_fit::Spacing;
 use mad_format::{
     FmtComposite, FmtLine, LineSkin, margins_and_rest, push_composite, push_read, put_line,
 };
 use mad_md::{Alignment, Composite};
+use mad_measure::Spacing;
 use mad_style::{CompositeKind, LEAST_WIDTH};
 use std::alloc::{AllocError, Global};
 

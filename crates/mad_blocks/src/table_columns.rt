@@ -11,9 +11,9 @@ ghost use Rattle.mad_format.specs.FmtLines.{AreCompositesRead, IsCompositeRead};
 ghost use Rattle.mad_format.specs.declared.composite.FmtComposite.{FmtComposite};
 ghost use Rattle.mad_format.specs.declared.line.FmtLine.{FmtLine};
 
-use mad_fit::Spacing;
 use mad_format::{FmtComposite, FmtLine, LineSkin, composite_columns};
 use mad_md::{Alignment, Composite, Line};
+use mad_measure::Spacing;
 use mad_sections::cell_words::longest_word;
 use mad_style::CompositeKind;
 use mad_widths::TblFit;

@@ -10,9 +10,9 @@ ghost use Rattle.mad_blocks.specs.Tables.{columns_count, IsTableLaidOutBy};
 
 use crate::table_columns::{centered, columns_among, columns_from, read_widths};
 use crate::table_layout::{position_at, push_table_line};
-use mad_fit::Spacing;
 use mad_format::{FmtLine, LineSkin, put_line};
 use mad_md::Line;
+use mad_measure::Spacing;
 use std::alloc::{AllocError, Global};
 use std::mem;
 use std::vec::IntoIter;

@@ -15,10 +15,10 @@ ghost use Rattle.mad_format.specs.declared.line.FmtLine.TheVariants.{TableRow};
 
 use crate::table_columns::{centered, columns_count, columns_from, kept_widths};
 use crate::table_rows::lay_row_in;
-use mad_fit::Spacing;
 use mad_format::{
     FmtComposite, FmtLine, FmtTableRow, FmtTableRule, LineSkin, RelativePosition, put_line,
 };
+use mad_measure::Spacing;
 use std::alloc::{AllocError, Global};
 use std::mem;
 use std::vec::IntoIter;

@@ -9,9 +9,9 @@ ghost use Rattle.mad_blocks.specs.TableRows.{TakesRow, AreCellsLeft, cell_lines_
 ghost use Rattle.mad_format.specs.Wraps.{IsMeasured};
 
 use crate::table_columns::columns_with;
-use mad_fit::Spacing;
 use mad_format::{FmtComposite, FmtTableRow, LineSkin, wrap_composite};
 use mad_md::Alignment;
+use mad_measure::Spacing;
 use std::alloc::{AllocError, Global};
 use std::vec::IntoIter;
 

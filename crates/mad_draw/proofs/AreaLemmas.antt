@@ -10,9 +10,9 @@ use Rattle.mad_term.proofs.Exits.{refused_between}
 use Rattle.mad_term.proofs.Traces.{after-nil, took_both, took_with}
 use Rattle.mad_screen.specs.Drawing.{drawing}
 use Rattle.mad_screen.proofs.RowLoops.{drawing-append}
-use Rattle.mad_fit.specs.Areas.{IsWithinLimits}
-use Rattle.mad_fit.specs.declared.area.Area.{Area}
-use Rattle.mad_fit.proofs.AllLemmas.{all_push}
+use Rattle.mad_measure.specs.Areas.{IsWithinLimits}
+use Rattle.mad_measure.specs.declared.area.Area.{Area}
+use Rattle.mad_measure.proofs.AllLemmas.{all_push}
 use Rattle.mad_draw.specs.Pieces.{RowPiece, AreKnown, pieces_bytes}
 use Rattle.mad_draw.specs.DrawnRows.{rows_from, rows_bytes, FillArea, AreRowsShown}
 use Rattle.mad_draw.proofs.ShownLemmas.{area_shown}

@@ -10,7 +10,7 @@ use Rattle.mad_screen.specs.Grid.{Grid, blank, cell_at}
 use Rattle.mad_screen.specs.Glyph.{Glyph}
 use Rattle.mad_style.specs.StyledChars.{char_alone}
 use Rattle.mad_style.specs.declared.styled_chars.StyledChar.{StyledChar}
-use Rattle.mad_fit.specs.declared.area.Area.{Area}
+use Rattle.mad_measure.specs.declared.area.Area.{Area}
 use Rattle.mad_draw.specs.BarsApart.{AreShownBeside, FillBeside, bar_row, but_last_column, joined_pane, last_column, panes_beside, parted_panes}
 use Rattle.mad_draw.specs.BesideBar.{IsBarShown, bar_char, beside_bar, char_cell}
 use Rattle.mad_draw.specs.DrawnRows.{AreRowsShown, FillArea, IsOnScreen}

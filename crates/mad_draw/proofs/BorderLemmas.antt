@@ -4,8 +4,8 @@ use Rattle.std.specs.Prelude.{unwrap_or}
 use Rattle.std.specs.Char.{IsScalar}
 use Rattle.unicode_width.specs.Width.{char_width}
 use Rattle.unicode_width.proofs.Computing.{unicode_width}
-use Rattle.mad_columns.specs.Columns.{char_columns}
-use Rattle.mad_columns.proofs.CharColumns.{char_columns-ascii}
+use Rattle.mad_characters.specs.Columns.{char_columns}
+use Rattle.mad_characters.proofs.CharColumns.{char_columns-ascii}
 use Rattle.mad_draw.specs.Pieces.{IsColumnChar}
 
 one_column : (c : ℕ) → IsScalar c → char_width false c ≡ Some 1 → IsColumnChar c

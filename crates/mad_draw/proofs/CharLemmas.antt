@@ -8,14 +8,14 @@ use Rattle.std.proofs.Math.Utf8.{scalar}
 use Rattle.std.proofs.lemmas.List.Concat.{flat_map-append}
 use Rattle.std.proofs.lemmas.Str.{IsUtf8-encode, chars-encodes, chars-IsAscii}
 use Rattle.unicode_width.specs.Width.{char_width}
-use Rattle.mad_columns.specs.Columns.{char_columns}
+use Rattle.mad_characters.specs.Columns.{char_columns}
 use Rattle.mad_screen.specs.Glyph.{Glyph, Look}
 use Rattle.mad_screen.specs.Painting.{IsShown, attach, look_of_style}
 use Rattle.mad_style.specs.Repeats.{styled_char_bytes}
 use Rattle.mad_style.specs.StyledChars.{char_alone, char_style}
 use Rattle.mad_style.specs.declared.compound_styles.CompoundStyle.{CompoundStyle}
 use Rattle.mad_style.specs.declared.styled_chars.StyledChar.{StyledChar}
-use Rattle.mad_fit.specs.TextColumns.{columns}
+use Rattle.mad_measure.specs.TextColumns.{columns}
 use Rattle.mad_draw.specs.Pieces.{IsColumnChar}
 use Rattle.mad_draw.specs.Pieces.{RowPiece, PennedChar, IsColumnPiece, char_piece, single_chars, spaces, penned_chars, AreShownPieces, AreKnown, pieces_bytes, pieces_columns}
 use Rattle.mad_draw.specs.PennedCells.{penned_attached, penned_cells}

@@ -7,17 +7,17 @@ use Rattle.std.proofs.lemmas.Bool.{cases_lt}
 use Rattle.std.proofs.lemmas.Bool.Decides.{nat_tests}
 use Rattle.std.proofs.lemmas.List.{take-append-drop, take_all}
 use Rattle.std.proofs.lemmas.Result.{err_from_is_err_and}
-use Rattle.mad_columns.specs.Columns.{char_columns}
-use Rattle.mad_columns.proofs.CharColumns.{char_columns-ascii}
+use Rattle.mad_characters.specs.Columns.{char_columns}
+use Rattle.mad_characters.proofs.CharColumns.{char_columns-ascii}
 use Rattle.mad_term.specs.declared.errors.Error.{Error}
 use Rattle.mad_term.specs.declared.errors.Error.TheVariants.{Memory}
 use Rattle.mad_term.specs.Draws.{Draws}
 use Rattle.mad_term.specs.Trace.{Trace}
 use Rattle.mad_term.proofs.QueueExits.{memory_first}
 use Rattle.mad_term.proofs.Traces.{took_none}
-use Rattle.mad_fit.specs.RunningWidths.{columns_on, columns_back, forward, backward, running_width, StaysWithin, IsLongestFront, tabs_replaced}
-use Rattle.mad_fit.specs.TextColumns.{columns}
-use Rattle.mad_fit.proofs.StrFitLemmas.{backward-append}
+use Rattle.mad_measure.specs.RunningWidths.{columns_on, columns_back, forward, backward, running_width, StaysWithin, IsLongestFront, tabs_replaced}
+use Rattle.mad_measure.specs.TextColumns.{columns}
+use Rattle.mad_measure.proofs.StrFitLemmas.{backward-append}
 use Rattle.mad_draw.specs.Crops.{Given, Text, Char, Counted, Filled, Crop, nothing, some, filled, IsKept, unless_full, left_after, Crops, IsMeasured, written_chars, AreKept, KeepsTheLimit}
 
 -- ---- the calls

@@ -8,7 +8,7 @@ use Rattle.std.proofs.lemmas.Str.{IsUtf8-from_ascii, chars-IsAscii}
 use Rattle.std.proofs.lemmas.List.{append-nil, length-replicate, map-append, take_more}
 use Rattle.std.proofs.lemmas.List.Concat.{flat_map-append}
 use Rattle.std.proofs.lemmas.List.Sums.{sum_by-cons}
-use Rattle.mad_columns.specs.Columns.{char_columns}
+use Rattle.mad_characters.specs.Columns.{char_columns}
 use Rattle.mad_term.specs.Styles.{IsStyle, piece_bytes, styled_repeat_bytes}
 use Rattle.mad_screen.specs.Glyph.{Glyph}
 use Rattle.mad_screen.specs.Grid.{plain_pen}
@@ -21,7 +21,7 @@ use Rattle.mad_style.specs.declared.styled_chars.StyledChar.{StyledChar}
 use Rattle.mad_style.specs.Repeats.{repeat_bytes}
 use Rattle.mad_style.specs.StyledChars.{char_style, char_alone}
 use Rattle.std.specs.Prelude.{encode_utf8}
-use Rattle.mad_fit.specs.TextColumns.{columns}
+use Rattle.mad_measure.specs.TextColumns.{columns}
 use Rattle.mad_draw.specs.Pieces.{RowPiece, pieces_bytes, spaces, single_spaces, char_repeat, AreKnown, AreShownPieces, pieces_columns}
 
 -- ---- bytes

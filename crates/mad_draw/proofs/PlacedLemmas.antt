@@ -7,8 +7,8 @@ use Rattle.mad_screen.specs.Glyph.{Glyph}
 use Rattle.mad_screen.specs.Grid.{Grid, cell_at, blank}
 use Rattle.mad_screen.specs.Terminal.{after_bytes}
 use Rattle.mad_screen.proofs.Strips.{strips_drawn}
-use Rattle.mad_fit.specs.Areas.{IsWithinLimits}
-use Rattle.mad_fit.specs.declared.area.Area.{Area}
+use Rattle.mad_measure.specs.Areas.{IsWithinLimits}
+use Rattle.mad_measure.specs.declared.area.Area.{Area}
 use Rattle.mad_draw.specs.DrawnRows.{IsOnScreen}
 use Rattle.mad_draw.specs.Pieces.{AreKnown, pieces_columns}
 use Rattle.mad_draw.specs.PlacedPieces.{Placed, placed_bytes, one_placed_bytes, IsPlacedIn, placed_strip, ArePlacedShown}

@@ -4,8 +4,8 @@ use Rattle.std.specs.List.{AllByRecursion}
 use Rattle.std.proofs.lemmas.Bool.{cases_eq, cases_lt}
 use Rattle.std.proofs.lemmas.Bool.Decides.{nat_tests}
 use Rattle.std.proofs.lemmas.List.{map-append, length-replicate, get_or_append_left, get_or-replicate, get_or_at}
-use Rattle.mad_columns.specs.Columns.{char_columns}
-use Rattle.mad_columns.proofs.CharColumns.{char_columns-ascii}
+use Rattle.mad_characters.specs.Columns.{char_columns}
+use Rattle.mad_characters.proofs.CharColumns.{char_columns-ascii}
 use Rattle.mad_term.specs.Styles.{IsStyle}
 use Rattle.mad_screen.specs.Drawing.{Strip, covers, cell_under}
 use Rattle.mad_screen.specs.Glyph.{Glyph, Look}
@@ -13,7 +13,7 @@ use Rattle.mad_screen.specs.Grid.{cell_at, blank}
 use Rattle.mad_screen.specs.Painting.{look_of_style}
 use Rattle.mad_style.specs.StyledChars.{styled_char}
 use Rattle.mad_style.specs.declared.styled_chars.StyledChar.{StyledChar}
-use Rattle.mad_fit.specs.Areas.{IsWithinLimits}
+use Rattle.mad_measure.specs.Areas.{IsWithinLimits}
 use Rattle.mad_draw.specs.Pieces.{IsColumnChar}
 use Rattle.mad_draw.specs.Pieces.{RowPiece, AreKnown, single_chars, spaces, pieces_columns, penned_chars}
 use Rattle.mad_draw.specs.PennedCells.{penned_cells}

@@ -8,7 +8,7 @@ use Rattle.mad_screen.specs.Painting.{IsPrinted, IsWhole}
 use Rattle.mad_screen.proofs.Paints.{printed_both}
 use Rattle.mad_style.specs.declared.styled_chars.StyledChar.{StyledChar}
 use Rattle.mad_style.specs.StyledChars.{char_alone}
-use Rattle.mad_fit.specs.TextColumns.{columns}
+use Rattle.mad_measure.specs.TextColumns.{columns}
 use Rattle.mad_draw.specs.Pieces.{char_piece, char_repeat, AreShownPieces, IsColumnPiece, pieces_columns}
 
 columns-append : (cs ds : List ℕ) → columns (cs ++ ds) ≡ columns cs + columns ds

@@ -7,7 +7,7 @@ use Rattle.mad_screen.specs.Drawing.{PaintRows, AreWide, ShowsRows, FitsArea, Is
 use Rattle.mad_screen.specs.Glyph.{Glyph}
 use Rattle.mad_screen.specs.Grid.{blank}
 use Rattle.mad_screen.proofs.DrawingLemmas.{drawn}
-use Rattle.mad_fit.specs.declared.area.Area.{Area}
+use Rattle.mad_measure.specs.declared.area.Area.{Area}
 use Rattle.mad_draw.specs.DrawnRows.{rows_from, rows_bytes, FillArea, AreRowsShown}
 use Rattle.mad_draw.specs.Pieces.{RowPiece, AreKnown, FillsRow, pieces_bytes, penned_chars}
 use Rattle.mad_draw.specs.PennedCells.{penned_cells}

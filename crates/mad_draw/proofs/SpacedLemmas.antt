@@ -3,8 +3,8 @@ use Rattle.std.proofs.Common.{◌≡◌, ℕ, ◌+◌, ◌-◌, ◌<◌, false, 
 use Rattle.std.specs.Prelude.{nat_le, chars, take, encode_utf8_all}
 use Rattle.std.proofs.lemmas.Bool.Decides.{nat_tests}
 use Rattle.mad_style.specs.CompoundStyles.{unstyled}
-use Rattle.mad_fit.specs.Completions.{Completes, left_completion}
-use Rattle.mad_fit.specs.declared.spacing.Spacing.{Spacing}
+use Rattle.mad_measure.specs.Completions.{Completes, left_completion}
+use Rattle.mad_measure.specs.declared.spacing.Spacing.{Spacing}
 use Rattle.mad_draw.specs.Pieces.{pieces_bytes, spaces}
 use Rattle.mad_draw.specs.SpacedTexts.{spaced_text}
 use Rattle.mad_draw.specs.declared.spaces.Spaces.{Spaces}

@@ -14,9 +14,9 @@ use Rattle.mad_md.specs.Flagged.{RunSpan, run_at}
 use Rattle.mad_md.specs.Inline.{Item, IsInlineReading, runs}
 use Rattle.mad_md.specs.Parts.{HasNoNewline}
 use Rattle.mad_md.proofs.RunBorders.{IsBordered, runs_bordered}
-use Rattle.mad_printable.specs.Pictures.{is_printable_char}
-use Rattle.mad_fit.specs.Printable.{are_printable}
-use Rattle.mad_fit.proofs.AllLemmas.{all_front, all_back}
+use Rattle.mad_characters.specs.Pictures.{is_printable_char}
+use Rattle.mad_measure.specs.Printable.{are_printable}
+use Rattle.mad_measure.proofs.AllLemmas.{all_front, all_back}
 use Rattle.mad_screen.specs.Painting.{IsPrinted}
 use Rattle.mad_draw.specs.Untrusted.{PrintableLinesArePrinted, PrintableSlicesArePrinted, PrintableInlinesArePrinted}
 

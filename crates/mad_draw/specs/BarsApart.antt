@@ -1,7 +1,7 @@
 -- Rows beside a scroll bar that has moves of its own: it stays in its column, whatever a terminal shows of the rows.
 use Rattle.std.specs.Prelude.{ℕ, ◌+◌, ◌-◌, ◌<◌, nat_lt, List, [], ◌∷◌, Option, Some, None, IfSome, if◌then◌else◌}
 use Rattle.std.specs.List.{flat_map}
-use Rattle.mad_fit.specs.declared.area.Area.{Area}
+use Rattle.mad_measure.specs.declared.area.Area.{Area}
 use Rattle.mad_draw.specs.BesideBar.{IsBarShown, bar_char, beside_bar, columns_beside}
 use Rattle.mad_draw.specs.DrawnRows.{AreRowsShown, rows_bytes}
 use Rattle.mad_draw.specs.Panes.{Pane, ShowsEach}

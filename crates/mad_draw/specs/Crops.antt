@@ -1,7 +1,7 @@
 -- What a crop writer writes of what it is given, and how many of its columns it takes off for it.
 use Rattle.std.specs.Prelude.{◌≡◌, ◌⊎◌, ℕ, zero, suc, ◌+◌, ◌-◌, ◌<◌, ◌≤◌, ◌==◌, min, List, [], ◌∷◌, ◌++◌, length, take, replicate, Option, Some, None, IsNone, Result, Ok, Err, IsOk, IsErrOf, encode_utf8_all, if◌then◌else◌}
 use Rattle.std.specs.List.{AllByRecursion}
-use Rattle.mad_columns.specs.Columns.{char_columns}
+use Rattle.mad_characters.specs.Columns.{char_columns}
 use Rattle.mad_term.specs.declared.errors.Error.{Error}
 use Rattle.mad_term.specs.declared.errors.Error.TheVariants.{IO, InsufficientWidth, Memory}
 use Rattle.mad_term.specs.Draws.{Draws}
@@ -9,8 +9,8 @@ use Rattle.mad_term.specs.Styles.{piece_bytes}
 use Rattle.mad_term.specs.Trace.{Trace}
 use Rattle.mad_style.specs.declared.compound_styles.CompoundStyle.{CompoundStyle}
 use Rattle.mad_style.specs.declared.styled_chars.StyledChar.{StyledChar}
-use Rattle.mad_fit.specs.RunningWidths.{IsLongestFront, tabs_replaced, running_width, backward}
-use Rattle.mad_fit.specs.TextColumns.{columns}
+use Rattle.mad_measure.specs.RunningWidths.{IsLongestFront, tabs_replaced, running_width, backward}
+use Rattle.mad_measure.specs.TextColumns.{columns}
 use Rattle.mad_draw.specs.Fillings.{filling_pieces}
 use Rattle.mad_draw.specs.Pieces.{pieces_bytes}
 

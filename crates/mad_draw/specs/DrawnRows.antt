@@ -3,7 +3,7 @@ use Rattle.std.specs.Prelude.{◌≡◌, ℕ, zero, suc, ◌+◌, ◌<◌, ◌�
 use Rattle.mad_screen.specs.Drawing.{drawing, ShowsRows}
 use Rattle.mad_screen.specs.Grid.{Grid, IsGrid, plain_pen}
 use Rattle.mad_screen.specs.Terminal.{after_bytes}
-use Rattle.mad_fit.specs.declared.area.Area.{Area}
+use Rattle.mad_measure.specs.declared.area.Area.{Area}
 use Rattle.mad_draw.specs.Pieces.{RowPiece, FillsRow, pieces_bytes, penned_chars}
 use Rattle.mad_draw.specs.PennedCells.{penned_cells}
 

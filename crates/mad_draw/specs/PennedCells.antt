@@ -1,6 +1,6 @@
 -- The cells of characters, each with its pen.
 use Rattle.std.specs.Prelude.{ℕ, List, [], ◌∷◌, Some}
-use Rattle.mad_columns.specs.Columns.{char_columns}
+use Rattle.mad_characters.specs.Columns.{char_columns}
 use Rattle.mad_screen.specs.Glyph.{Glyph}
 use Rattle.mad_screen.specs.Painting.{attach}
 use Rattle.mad_draw.specs.Pieces.{PennedChar}

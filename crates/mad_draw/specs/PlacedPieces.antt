@@ -5,8 +5,8 @@ use Rattle.mad_term.specs.Commands.{move_to_bytes}
 use Rattle.mad_screen.specs.Drawing.{Strip, cell_under, IsOutside}
 use Rattle.mad_screen.specs.Grid.{Grid, IsGrid, plain_pen, cell_at}
 use Rattle.mad_screen.specs.Terminal.{after_bytes}
-use Rattle.mad_fit.specs.Areas.{IsWithinLimits}
-use Rattle.mad_fit.specs.declared.area.Area.{Area}
+use Rattle.mad_measure.specs.Areas.{IsWithinLimits}
+use Rattle.mad_measure.specs.declared.area.Area.{Area}
 use Rattle.mad_draw.specs.DrawnRows.{IsOnScreen}
 use Rattle.mad_draw.specs.Pieces.{RowPiece, AreKnown, AreShownPieces, pieces_bytes, pieces_columns, penned_chars}
 use Rattle.mad_draw.specs.PennedCells.{penned_cells}

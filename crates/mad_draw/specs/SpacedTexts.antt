@@ -1,7 +1,7 @@
 -- Texts in a place of some columns.
 use Rattle.std.specs.Prelude.{ℕ, ◌-◌, List, ◌++◌, take, chars, replicate, encode_utf8_all, nat_le, if◌then◌else◌}
-use Rattle.mad_fit.specs.Completions.{left_completion}
-use Rattle.mad_fit.specs.declared.spacing.Spacing.{Spacing}
+use Rattle.mad_measure.specs.Completions.{left_completion}
+use Rattle.mad_measure.specs.declared.spacing.Spacing.{Spacing}
 
 -- Where a text is counted as `width` columns, and its place has more: the text between spaces. Else its first characters, as many as the
 -- place has columns.

@@ -5,7 +5,7 @@ use Rattle.std.specs.Str.{IsUtf8}
 use Rattle.mad_md.specs.Flagged.{run_at}
 use Rattle.mad_md.specs.Inline.{Item, IsInlineReading, runs}
 use Rattle.mad_md.specs.Parts.{HasNoNewline}
-use Rattle.mad_fit.specs.Printable.{are_printable}
+use Rattle.mad_measure.specs.Printable.{are_printable}
 use Rattle.mad_screen.specs.Painting.{IsPrinted}
 
 -- a printable text without a newline has no control character

@@ -2,17 +2,17 @@
 
 ghost use Rattle.std.specs.Prelude.{◌≡◌, ◌≤◌, ◌<◌, ◌==◌, chars, IfOk, OnErr, IsOk, IsErrOf, MatchOption, if◌then◌else◌};
 ghost use Rattle.std.specs.Cow.{cow_str_bytes, IsOwnedStr};
-ghost use Rattle.mad_columns.specs.Columns.{char_columns};
+ghost use Rattle.mad_characters.specs.Columns.{char_columns};
 ghost use Rattle.mad_term.specs.Draws.{Draws};
 ghost use Rattle.mad_term.specs.declared.errors.Error.TheVariants.{Memory};
 ghost use Rattle.mad_term.specs.Styles.{foreground_bytes, background_bytes, present_bytes};
 ghost use Rattle.mad_style.specs.StyledChars.{styled_char};
-ghost use Rattle.mad_fit.specs.RunningWidths.{IsCropped, HasTabWithin};
+ghost use Rattle.mad_measure.specs.RunningWidths.{IsCropped, HasTabWithin};
 ghost use Rattle.mad_draw.specs.Crops.{Text, Char, Counted, Filled, Crops, default_tab, unstyled_bytes, styled_bytes, filled_bytes, left_after, unless_full};
 
 use crate::fillings::{Filling, queue_spaces};
-use mad_columns::char_columns;
-use mad_fit::{DEFAULT_TAB_REPLACEMENT, StrFit, first_chars};
+use mad_characters::char_columns;
+use mad_measure::{DEFAULT_TAB_REPLACEMENT, StrFit, first_chars};
 use mad_style::CompoundStyle;
 use mad_term::{Error, Out, put_text};
 use std::alloc::{AllocError, Global};

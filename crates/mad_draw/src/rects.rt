@@ -5,14 +5,14 @@ ghost use Rattle.mad_term.specs.Draws.{Draws};
 ghost use Rattle.mad_term.specs.Styles.{IsStyle};
 ghost use Rattle.mad_term.specs.Trace.{TookWith};
 ghost use Rattle.mad_style.specs.StyledChars.{styled_char};
-ghost use Rattle.mad_fit.specs.Areas.{IsWithinLimits};
+ghost use Rattle.mad_measure.specs.Areas.{IsWithinLimits};
 ghost use Rattle.mad_draw.specs.PlacedPieces.{one_placed_bytes, placed_bytes};
 ghost use Rattle.mad_draw.specs.Rects.{bland, edge, sides, rect_pieces, AreBorderChars, IsRectShown};
 
 use crate::char_repeats::SingleChars;
 use crate::parts::{Parts, put_parts};
 use crate::spaces::Spaces;
-use mad_fit::Area;
+use mad_measure::Area;
 use mad_style::{CompoundStyle, StyledChar};
 use mad_term::{Error, MoveTo, Out, put_displayed};
 use std::alloc::{AllocError, Global};

@@ -4,11 +4,11 @@ ghost use Rattle.std.specs.Prelude.{◌≡◌, ℕ, List, ◌++◌, ◌+◌, ◌
 ghost use Rattle.mad_term.specs.Commands.{move_to_bytes};
 ghost use Rattle.mad_term.specs.Draws.{Draws};
 ghost use Rattle.mad_term.specs.Trace.{TookWith};
-ghost use Rattle.mad_fit.specs.Areas.{IsWithinLimits};
+ghost use Rattle.mad_measure.specs.Areas.{IsWithinLimits};
 ghost use Rattle.mad_draw.specs.DrawnRows.{rows_bytes, FillArea, AreRowsShown};
 ghost use Rattle.mad_draw.specs.Pieces.{RowPiece, AreKnown, pieces_bytes};
 
-use mad_fit::Area;
+use mad_measure::Area;
 use mad_term::{Error, Out, push_move, put_text};
 use std::alloc::{AllocError, Global};
 

@@ -5,11 +5,11 @@ ghost use Rattle.mad_term.specs.Draws.{Draws};
 ghost use Rattle.mad_term.specs.Styles.{piece_bytes};
 ghost use Rattle.mad_term.specs.declared.errors.Error.TheVariants.{Memory};
 ghost use Rattle.mad_style.specs.CompoundStyles.{unstyled};
-ghost use Rattle.mad_fit.specs.declared.spacing.Spacing.{Spacing};
+ghost use Rattle.mad_measure.specs.declared.spacing.Spacing.{Spacing};
 ghost use Rattle.mad_draw.specs.SpacedTexts.{spaced_text};
 
 use crate::spaces::Spaces;
-use mad_fit::{Spacing, first_chars};
+use mad_measure::{Spacing, first_chars};
 use mad_style::CompoundStyle;
 use mad_term::{Error, Out};
 use std::alloc::Global;

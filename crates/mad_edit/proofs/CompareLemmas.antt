@@ -5,9 +5,9 @@ use Rattle.std.specs.Cmp.{first_so, second_so, unsigned_Decides}
 use Rattle.std.specs.Cmp.Lexicographic.{pointwise, bytes_decides}
 use Rattle.std.specs.Option.{option_eq, unwrap_or}
 use Rattle.std.proofs.lemmas.Bool.{and_from}
-use Rattle.mad_lines.specs.declared.line.Line.{Line}
-use Rattle.mad_lines.specs.declared.position.Pos.{Pos}
-use Rattle.mad_lines.specs.TextLines.{lines, chars_of, lines_of, text_of, offset_of}
+use Rattle.mad_edit_lines.specs.declared.line.Line.{Line}
+use Rattle.mad_edit_lines.specs.declared.position.Pos.{Pos}
+use Rattle.mad_edit_lines.specs.TextLines.{lines, chars_of, lines_of, text_of, offset_of}
 use Rattle.mad_edit.proofs.EditorLemmas.{Seen, lines_seen, line_seen, index_seen}
 use Rattle.mad_edit.specs.Editor.{Editor, IsValid, same_editor, same_position, cursor_line, cursor_index}
 

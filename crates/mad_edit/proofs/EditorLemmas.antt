@@ -1,9 +1,9 @@
 -- An editor and the lines that it keeps.
 use Rattle.std.proofs.Common.{ℕ, ◌-◌, ◌≤◌, ◌≡◌, List, length, take, drop, arith, ap, ◌∙◌, sym, subst, Option, None, Some, max, refl}
 use Rattle.std.proofs.lemmas.List.{length-take-le, length-drop}
-use Rattle.mad_lines.proofs.PositionLemmas.{length-text}
-use Rattle.mad_lines.specs.declared.position.Pos.{Pos}
-use Rattle.mad_lines.specs.TextLines.{lines, text_of, offset_of, line_at}
+use Rattle.mad_edit_lines.proofs.PositionLemmas.{length-text}
+use Rattle.mad_edit_lines.specs.declared.position.Pos.{Pos}
+use Rattle.mad_edit_lines.specs.TextLines.{lines, text_of, offset_of, line_at}
 use Rattle.mad_edit.proofs.SplitLemmas.{lines-text_of, accepted_text}
 use Rattle.mad_edit.proofs.LineLemmas.{newlines_before, length_front, front_before, rest_after}
 use Rattle.mad_edit.specs.Editor.{Editor, IsValid, IsEditor, tail_offset, cursor_line, cursor_index, front_of_line, rest_of_line}

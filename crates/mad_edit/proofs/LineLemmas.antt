@@ -6,11 +6,11 @@ use Rattle.std.specs.Prelude.{All, count_by}
 use Rattle.std.specs.List.{prefix_len, suffix_len}
 use Rattle.std.proofs.lemmas.List.{take_at, drop_at, length-take-le, length-drop, reverse-append}
 use Rattle.std.proofs.lemmas.List.Elements.{All-head, All-tail, All-take, All-drop, All-get_or}
-use Rattle.mad_lines.specs.declared.position.Pos.{Pos}
+use Rattle.mad_edit_lines.specs.declared.position.Pos.{Pos}
 use Rattle.mad_edit.proofs.SplitLemmas.{IsLineChar, not_newline}
 use Rattle.mad_edit.specs.Editor.{is_in_line}
-use Rattle.mad_lines.specs.TextLines.{is_newline, led_lines, text_of, line_at, IsPosition, IsLineText, is_accepted, offset_of}
-use Rattle.mad_lines.proofs.PositionLemmas.{before, after, take_before, drop_after, led_cons, earlier_line}
+use Rattle.mad_edit_lines.specs.TextLines.{is_newline, led_lines, text_of, line_at, IsPosition, IsLineText, is_accepted, offset_of}
+use Rattle.mad_edit_lines.proofs.PositionLemmas.{before, after, take_before, drop_after, led_cons, earlier_line}
 
 none_in_line : (b r : Bool) → (not b && r) ≡ true → not b ≡ true
 none_in_line true r h = cc

@@ -4,8 +4,8 @@ use Rattle.std.specs.Option.{ForSome}
 use Rattle.std.specs.List.{onto_first}
 use Rattle.std.proofs.lemmas.List.Splits.{length-slice_split}
 use Rattle.std.proofs.lemmas.List.{take_all, drop_all}
-use Rattle.mad_lines.specs.declared.position.Pos.{Pos}
-use Rattle.mad_lines.specs.TextLines.{lines, is_newline, led_lines, IsPosition, offset_of, accepted}
+use Rattle.mad_edit_lines.specs.declared.position.Pos.{Pos}
+use Rattle.mad_edit_lines.specs.TextLines.{lines, is_newline, led_lines, IsPosition, offset_of, accepted}
 use Rattle.mad_edit.specs.Editor.{IsPositionIn, offset_at, clamp_tail, replaced}
 use Rattle.mad_edit.proofs.UndoLemmas.{clamp_position}
 

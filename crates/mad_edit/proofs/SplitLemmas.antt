@@ -4,7 +4,7 @@ use Rattle.std.specs.Prelude.{All}
 use Rattle.std.specs.Char.{IsScalar}
 use Rattle.std.proofs.lemmas.List.Elements.{All-head, All-tail, All-cons, All-nil, All-append}
 use Rattle.std.specs.List.{onto_first}
-use Rattle.mad_lines.specs.TextLines.{led_lines, text_of, lines, is_line_char, is_accepted, IsLineText, IsAcceptedChar}
+use Rattle.mad_edit_lines.specs.TextLines.{led_lines, text_of, lines, is_line_char, is_accepted, IsLineText, IsAcceptedChar}
 
 -- a character that a line can have
 abbrev pub IsLineChar : ℕ → Type 0

@@ -4,7 +4,7 @@ use Rattle.std.specs.Prelude.{All}
 use Rattle.std.specs.List.{swap}
 use Rattle.std.proofs.lemmas.List.Edits.{swap_is, length-swap}
 use Rattle.std.proofs.lemmas.List.Elements.{All-set, All-get_or, All-same}
-use Rattle.mad_lines.specs.TextLines.{lines, text_of, IsLineText}
+use Rattle.mad_edit_lines.specs.TextLines.{lines, text_of, IsLineText}
 use Rattle.mad_edit.proofs.SplitLemmas.{lines-text_of}
 
 -- lines of which two were exchanged are lines still

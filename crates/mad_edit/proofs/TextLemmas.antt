@@ -9,7 +9,7 @@ use Rattle.std.proofs.lemmas.Str.{chars-encodes, chars-nil, encode_ascii}
 use Rattle.std.proofs.lemmas.List.{take_at, drop_at, length-take-le}
 use Rattle.std.proofs.lemmas.List.Edits.{split_between}
 use Rattle.std.proofs.lemmas.List.Elements.{All-head, All-tail, All-take, All-drop}
-use Rattle.mad_lines.specs.TextLines.{accepted, IsAcceptedChar}
+use Rattle.mad_edit_lines.specs.TextLines.{accepted, IsAcceptedChar}
 use Rattle.mad_edit.specs.Editor.{Editor, IsEditor, IsCut, selection_start, selection_end, selected, inserted, without}
 
 -- of no bytes no character is accepted

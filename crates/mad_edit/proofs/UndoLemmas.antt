@@ -3,8 +3,8 @@ use Rattle.std.proofs.Common.{ℕ, ◌≡◌, List, [], ◌∷◌, ◌++◌, len
 use Rattle.std.specs.Prelude.{All, Option}
 use Rattle.std.proofs.lemmas.List.{take_at, drop_at, take-append-drop}
 use Rattle.std.proofs.lemmas.List.Elements.{All-append, All-take, All-drop, All-same}
-use Rattle.mad_lines.specs.declared.position.Pos.{Pos}
-use Rattle.mad_lines.specs.TextLines.{accepted, IsAcceptedChar, IsPosition, clamp, line_at, end_of}
+use Rattle.mad_edit_lines.specs.declared.position.Pos.{Pos}
+use Rattle.mad_edit_lines.specs.TextLines.{accepted, IsAcceptedChar, IsPosition, clamp, line_at, end_of}
 use Rattle.mad_edit.specs.Editor.{Editor, IsReplaced, replaced, offset_at, clamp_in, clamp_tail}
 use Rattle.mad_edit.specs.Undo.{Cut, Removes, LeadsTo, put_in, all_undone}
 use Rattle.mad_edit.proofs.TextLemmas.{all_accepted}

@@ -5,11 +5,11 @@ use Rattle.std.specs.Cmp.Lexicographic.{pointwise}
 use Rattle.std.specs.Option.{ForSome, option_eq}
 use Rattle.std.specs.Ordering.{on, eq_of_both}
 use Rattle.std.specs.List.{prefix_len, suffix_len}
-use Rattle.mad_lines.specs.declared.position.Pos.{Pos}
-use Rattle.mad_lines.specs.declared.words.CharClass.{CharClass}
-use Rattle.mad_lines.specs.CharClasses.{is_alphanumeric, is_of}
-use Rattle.mad_lines.specs.LineColumns.{columns, IsIndexAtColumn}
-use Rattle.mad_lines.specs.TextLines.{lines, line_at, IsPosition, IsLineText, IsAcceptedChar, is_newline, offset_of, accepted, clamp}
+use Rattle.mad_edit_lines.specs.declared.position.Pos.{Pos}
+use Rattle.mad_edit_lines.specs.declared.words.CharClass.{CharClass}
+use Rattle.mad_edit_lines.specs.CharClasses.{is_alphanumeric, is_of}
+use Rattle.mad_edit_lines.specs.LineColumns.{columns, IsIndexAtColumn}
+use Rattle.mad_edit_lines.specs.TextLines.{lines, line_at, IsPosition, IsLineText, IsAcceptedChar, is_newline, offset_of, accepted, clamp}
 use Rattle.mad_edit.specs.Words.{removed_after}
 
 -- an editor

@@ -1,7 +1,7 @@
 -- How far a word goes from the cursor, in its line.
 use Rattle.std.specs.Prelude.{ℕ, ◌+◌, ◌-◌, ◌==◌, List, length, take, drop, min, if◌then◌else◌}
 use Rattle.std.specs.List.{prefix_len, suffix_len}
-use Rattle.mad_lines.specs.CharClasses.{is_alphanumeric}
+use Rattle.mad_edit_lines.specs.CharClasses.{is_alphanumeric}
 
 -- to the left, of the characters before the cursor: one, and those before it that are letters and numbers
 abbrev pub word_before : List ℕ → ℕ

@@ -2,7 +2,7 @@
 
 ghost use Rattle.std.specs.Prelude.{◌≡◌, ◌<◌, ◌≤◌, ◌+◌, ◌-◌, ◌↔◌, [], None, Some, length, chars, min, max, option_map, IfOk, IfSome, IsSome, OnOk, OnErr, IsTrue, string_bytes, encode_utf8_all, slice_range};
 ghost use Rattle.std.specs.Option.{ForSome};
-ghost use Rattle.mad_lines.specs.TextLines.{lines, lines_of, accepted, clamp, IsPosition};
+ghost use Rattle.mad_edit_lines.specs.TextLines.{lines, lines_of, accepted, clamp, IsPosition};
 ghost use Rattle.mad_edit.specs.Editor.{IsPositionIn, offset_at, IsAt, clamp_in, clamp_tail, replaced, cursor_line, cursor_index, front_of_line, rest_of_line, IsEditor, IsWide, IsMovedToLine, selection_start, selection_last, selection_end};
 
 mod comparing;
@@ -11,7 +11,7 @@ mod rewriting;
 mod showing;
 mod undo;
 
-use mad_lines::{
+use mad_edit_lines::{
     Line, Pos, Range, clone_lines, columns, edit_lines, end_position, front_at, in_order,
     index_at_column, is_before, line_count, line_len, position_after, position_before,
     position_past, rest_at, text_between, valid_pos,
@@ -30,7 +30,7 @@ pub struct InputFieldContent {
 
 impl Model for InputFieldContent {
     ghost use Rattle.mad_edit.specs.Editor.{Editor, IsValid};
-    ghost use Rattle.mad_lines.specs.TextLines.{lines_of, text_of, offset_of};
+    ghost use Rattle.mad_edit_lines.specs.TextLines.{lines_of, text_of, offset_of};
 
     ghost Value = { Editor };
 

@@ -1,13 +1,13 @@
 //! Edits at the cursor.
 
 ghost use Rattle.std.specs.Prelude.{◌≡◌, ◌<◌, ◌≤◌, ◌+◌, ◌-◌, ◌↔◌, ◌⊎◌, [], ◌∷◌, ◌++◌, false, length, chars, IfOk, OnOk, OnErr, IsTrue};
-ghost use Rattle.mad_lines.specs.TextLines.{accepted};
+ghost use Rattle.mad_edit_lines.specs.TextLines.{accepted};
 ghost use Rattle.mad_edit.specs.Editor.{IsPositionIn, offset_at, IsReplaced, IsRemoved, IsRemovedBelow, IsWordRemoved, below_start, below_end, front_of_line, rest_of_line, after_word_removed};
 ghost use Rattle.mad_edit.specs.Words.{word_before};
 
 use crate::content::InputFieldContent;
 use crate::words::word_before;
-use mad_lines::{CharClass, Pos};
+use mad_edit_lines::{CharClass, Pos};
 use std::alloc::AllocError;
 
 impl InputFieldContent {

@@ -16,4 +16,4 @@ mod selections;
 mod words;
 
 pub use content::InputFieldContent;
-pub use mad_lines::{Chars, Line, Pos, Range};
+pub use mad_edit_lines::{Chars, Line, Pos, Range};

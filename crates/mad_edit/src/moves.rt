@@ -2,13 +2,13 @@
 
 ghost use Rattle.std.specs.Prelude.{◌≡◌, ◌<◌, ◌+◌, ◌-◌, ◌↔◌, length, min, IsTrue};
 ghost use Rattle.std.specs.Bool.{OnTrue, OnFalse};
-ghost use Rattle.mad_lines.specs.TextLines.{lines};
+ghost use Rattle.mad_edit_lines.specs.TextLines.{lines};
 ghost use Rattle.mad_edit.specs.Editor.{offset_at, clamp_in, front_of_line, rest_of_line, cursor_line, IsMovedToLine};
 ghost use Rattle.mad_edit.specs.Words.{word_before, word_after};
 
 use crate::content::InputFieldContent;
 use crate::words::{word_after, word_before};
-use mad_lines::Pos;
+use mad_edit_lines::Pos;
 
 impl InputFieldContent {
     /// Puts the cursor at the nearest position of the text.

@@ -2,11 +2,11 @@
 
 ghost use Rattle.std.specs.Prelude.{◌≡◌, ◌<◌, ◌≤◌, ◌+◌, ◌↔◌, false, length, chars, IfOk, OnOk, OnErr, IsTrue, string_bytes, encode_utf8_all, None};
 ghost use Rattle.mad_edit.specs.Undo.{Removes};
-ghost use Rattle.mad_lines.specs.declared.position.Pos.{Pos};
+ghost use Rattle.mad_edit_lines.specs.declared.position.Pos.{Pos};
 ghost use Rattle.mad_edit.specs.Editor.{IsEditor, inserted, IsAt, IsCut, IsRemovedBelow, IsReplaced, IsSelectionReplaced, IsWide, selected, selection_start, selection_last, selection_end, below_start, below_end, SelectsAround};
 
 use crate::content::InputFieldContent;
-use mad_lines::CharClass;
+use mad_edit_lines::CharClass;
 use std::alloc::AllocError;
 
 impl InputFieldContent {

@@ -3,7 +3,7 @@
 ghost use Rattle.std.specs.Prelude.{◌≡◌, ◌≤◌, ◌<◌, ◌↔◌, length};
 ghost use Rattle.mad_edit.specs.Words.{word_before, word_after};
 
-use mad_lines::CharClass;
+use mad_edit_lines::CharClass;
 
 /// How far a word goes to the left, of the characters before the cursor in its line.
 pub(crate) fn word_before(front: &[char]) -> usize

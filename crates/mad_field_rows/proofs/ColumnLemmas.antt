@@ -2,8 +2,8 @@
 use Rattle.std.proofs.Common.{◌≡◌, ℕ, zero, suc, ◌+◌, ◌-◌, ◌<◌, ◌≤◌, ◌==◌, Bool, true, false, cond, List, [], ◌∷◌, ◌++◌, replicate, nat_lt, refl, ap, ◌∙◌, arith}
 use Rattle.std.proofs.lemmas.Bool.Decides.{nat_tests}
 use Rattle.std.proofs.lemmas.List.Sums.{sum_by-cons}
-use Rattle.mad_columns.proofs.CharColumns.{char_columns-ascii}
-use Rattle.mad_lines.specs.LineColumns.{char_width}
+use Rattle.mad_characters.proofs.CharColumns.{char_columns-ascii}
+use Rattle.mad_edit_lines.specs.LineColumns.{char_width}
 use Rattle.mad_field_rows.specs.declared.line_rows.RowChar.{RowChar}
 use Rattle.mad_field_rows.specs.RowChars.{row_columns, ellipsis, space, does_fit, fitted, spaces_after, filled_row}
 use Rattle.mad_field_rows.proofs.Choices.{by_bool}

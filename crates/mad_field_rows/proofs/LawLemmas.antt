@@ -1,7 +1,7 @@
 -- A line that fits into its row.
 use Rattle.std.proofs.Common.{◌≡◌, ℕ, ◌-◌, ◌+◌, ◌<◌, ◌==◌, Bool, true, false, cond, List, [], ◌∷◌, ◌++◌, refl, ap, ◌∙◌, arith}
 use Rattle.std.proofs.lemmas.Bool.Decides.{nat_tests}
-use Rattle.mad_lines.specs.LineColumns.{char_width}
+use Rattle.mad_edit_lines.specs.LineColumns.{char_width}
 use Rattle.mad_field_rows.specs.declared.line_rows.RowChar.{RowChar}
 use Rattle.mad_field_rows.specs.RowChars.{row_columns, ellipsis, does_fit, fitted, spaces_after, filled_row}
 use Rattle.mad_field_rows.proofs.ColumnLemmas.{columns-cons}

@@ -3,7 +3,7 @@ use Rattle.std.proofs.Common.{◌≡◌, ℕ, suc, ◌+◌, ◌-◌, ◌<◌, �
 use Rattle.std.specs.Prelude.{◌&&◌, if◌then◌else◌}
 use Rattle.std.proofs.lemmas.Bool.Decides.{nat_tests}
 use Rattle.std.proofs.lemmas.List.{drop_more, drop_all}
-use Rattle.mad_lines.specs.LineColumns.{char_width}
+use Rattle.mad_edit_lines.specs.LineColumns.{char_width}
 use Rattle.mad_field_rows.specs.declared.line_rows.RowChar.{RowChar}
 use Rattle.mad_field_rows.specs.RowChars.{row_columns, ellipsis, space, does_fit, fitted, spaces_after, filled_row}
 use Rattle.mad_field_rows.specs.LineRows.{marked_between, shown_at}

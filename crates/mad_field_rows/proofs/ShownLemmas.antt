@@ -9,18 +9,18 @@ use Rattle.std.proofs.lemmas.Str.{IsUtf8-encode}
 use Rattle.std.proofs.lemmas.Bool.Decides.{nat_tests}
 use Rattle.unicode_width.specs.Width.{char_width as unicode_char_width}
 use Rattle.unicode_width.proofs.Computing.{unicode_width}
-use Rattle.mad_columns.specs.Columns.{char_columns}
-use Rattle.mad_columns.proofs.CharColumns.{char_columns-ascii}
+use Rattle.mad_characters.specs.Columns.{char_columns}
+use Rattle.mad_characters.proofs.CharColumns.{char_columns-ascii}
 use Rattle.mad_screen.specs.Painting.{IsShown}
 use Rattle.mad_style.specs.declared.compound_styles.CompoundStyle.{CompoundStyle}
 use Rattle.mad_style.specs.declared.styled_chars.StyledChar.{StyledChar}
-use Rattle.mad_fit.specs.TextColumns.{columns}
+use Rattle.mad_measure.specs.TextColumns.{columns}
 use Rattle.mad_draw.specs.Fillings.{piece_chars, filling_pieces}
 use Rattle.mad_draw.specs.Pieces.{RowPiece, char_piece as style_piece, AreShownPieces, IsColumnPiece, IsShownPiece, char_repeat, pieces_columns}
 use Rattle.mad_draw.proofs.ColumnChars.{one_char}
 use Rattle.mad_draw.proofs.PieceLemmas.{columns-both}
 use Rattle.mad_draw.proofs.RunLemmas.{run_shown, run_columns}
-use Rattle.mad_lines.specs.LineColumns.{char_width}
+use Rattle.mad_edit_lines.specs.LineColumns.{char_width}
 use Rattle.mad_field_rows.specs.declared.line_rows.RowChar.{RowChar}
 use Rattle.mad_field_rows.specs.RowChars.{row_columns, ellipsis, space, does_fit, fitted, spaces_after, filled_row, from_column}
 use Rattle.mad_field_rows.specs.RowPieces.{char_pieces}

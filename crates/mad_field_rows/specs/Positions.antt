@@ -1,6 +1,6 @@
 -- Which character a column of a line is at.
 use Rattle.std.specs.Prelude.{ℕ, ◌+◌, ◌-◌, ◌^◌, ◌==◌, List, [], ◌∷◌, min, if◌then◌else◌}
-use Rattle.mad_lines.specs.LineColumns.{char_width}
+use Rattle.mad_edit_lines.specs.LineColumns.{char_width}
 
 -- as far as a `usize` counts
 abbrev pub capped : ℕ → ℕ

@@ -1,6 +1,6 @@
 -- The characters of a line in a row of the screen, from left to right.
 use Rattle.std.specs.Prelude.{ℕ, ◌-◌, ◌==◌, ◌&&◌, Bool, true, false, List, [], ◌∷◌, ◌++◌, replicate, sum_by, nat_lt, nat_le, if◌then◌else◌}
-use Rattle.mad_lines.specs.LineColumns.{char_width}
+use Rattle.mad_edit_lines.specs.LineColumns.{char_width}
 use Rattle.mad_field_rows.specs.declared.line_rows.RowChar.{RowChar}
 
 -- the columns of characters in a row

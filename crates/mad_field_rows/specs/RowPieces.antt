@@ -3,7 +3,7 @@ use Rattle.std.specs.Prelude.{ℕ, ◌+◌, List, [], ◌∷◌, Option, Some, N
 use Rattle.std.specs.Option.{option_or}
 use Rattle.mad_style.specs.declared.compound_styles.CompoundStyle.{CompoundStyle}
 use Rattle.mad_draw.specs.Pieces.{RowPiece}
-use Rattle.mad_lines.specs.LineColumns.{char_width}
+use Rattle.mad_edit_lines.specs.LineColumns.{char_width}
 use Rattle.mad_field_rows.specs.declared.line_rows.RowChar.{RowChar}
 
 -- each character of a row as a piece of its own: marked ones in one style, the others in another

@@ -1,6 +1,6 @@
 -- Where a field is scrolled to, by numbers.
 use Rattle.std.specs.Prelude.{ℕ, ◌+◌, ◌-◌, ◌&&◌, Bool, min, nat_lt, nat_le, if◌then◌else◌}
-use Rattle.mad_fit.specs.declared.area.Area.{Area}
+use Rattle.mad_measure.specs.declared.area.Area.{Area}
 
 -- ---- down
 

@@ -3,7 +3,7 @@
 ghost use Rattle.std.specs.Prelude.{◌≡◌, ◌<◌, ◌≤◌, ◌&&◌, [], ◌∷◌, length, slice_index, nat_le, nat_lt, IfSome, IfNone, if◌then◌else◌};
 ghost use Rattle.std.specs.Iterator.{YieldsFirst, item_count};
 
-use mad_lines::char_width;
+use mad_edit_lines::char_width;
 
 /// What is shown where characters are hidden.
 const ELLIPSIS: char = '…';

@@ -3,7 +3,7 @@
 ghost use Rattle.std.specs.Prelude.{◌≡◌, ◌+◌, nat_lt, if◌then◌else◌};
 ghost use Rattle.mad_field_rows.specs.Positions.{capped, index_at};
 
-use mad_lines::{Pos, index_at_column};
+use mad_edit_lines::{Pos, index_at_column};
 
 /// How many characters of a line are before the first one that starts at a column or after it.
 pub fn index_at(line: &[char], column: usize) -> usize

@@ -11,7 +11,7 @@ ghost use Rattle.mad_field_rows.specs.RowPieces.{char_pieces, last_marked};
 
 use crate::line_rows::{LineRow, RowChar};
 use mad_draw::Spaces;
-use mad_lines::char_width;
+use mad_edit_lines::char_width;
 use mad_style::CompoundStyle;
 use mad_term::push_styled;
 use std::alloc::AllocError;

@@ -3,7 +3,7 @@
 ghost use Rattle.std.specs.Prelude.{◌≡◌, ◌<◌, ◌≤◌, ◌^◌};
 ghost use Rattle.mad_field_rows.specs.Scrolls.{line_in_view, lines_hidden, text_width, char_in_view, column_in_view, columns_hidden};
 
-use mad_fit::Area;
+use mad_measure::Area;
 
 // The first line to show so that line `y` of `count` is in view.
 fn line_in_view(rows: usize, count: usize, y: usize, first: usize) -> usize

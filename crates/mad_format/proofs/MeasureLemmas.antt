@@ -3,8 +3,8 @@ use Rattle.std.proofs.Common.{◌≡◌, ℕ, ◌+◌, ◌<◌, List, ◌∷◌,
 use Rattle.std.proofs.lemmas.List.{at_drop_more}
 use Rattle.mad_md.specs.Flagged.{flags_of, flagged_of, flagged_text}
 use Rattle.mad_md.specs.declared.compound.Compound.{Compound}
-use Rattle.mad_fit.specs.TextColumns.{columns, width_of}
-use Rattle.mad_fit.proofs.FlaggedLemmas.{width_of-append, width_of-flagged}
+use Rattle.mad_measure.specs.TextColumns.{columns, width_of}
+use Rattle.mad_measure.proofs.FlaggedLemmas.{width_of-append, width_of-flagged}
 use Rattle.mad_wrap.specs.WrapLines.{capped}
 
 -- a sum is capped alike where one part of it was capped before

@@ -9,7 +9,7 @@ use Rattle.std.proofs.lemmas.Bool.{and_parts}
 use Rattle.std.proofs.lemmas.List.{map-append, length-append, length-map, append_cancel_left, at_drop_more, at_drop_all}
 use Rattle.std.proofs.lemmas.Str.{encodes-chars, encodes-append, scalars-chars, chars-encodes, chars-append, chars-nil, IsCharBoundary-at_seam, IsUtf8-nil, IsUtf8-append}
 use Rattle.std.proofs.Math.Seq.{drop-append_seam, take-append_seam}
-use Rattle.mad_columns.specs.Columns.{char_columns}
+use Rattle.mad_characters.specs.Columns.{char_columns}
 use Rattle.mad_md.specs.Flagged.{FlaggedChar, Run, unflagged, flagged, flags_of, flagged_of, flagged_text, run_of, is_blank}
 use Rattle.mad_md.specs.Lines.{content_of}
 use Rattle.mad_md.specs.Parts.{AreParts, LineSpan, line_spans, line_text}
@@ -18,12 +18,12 @@ use Rattle.mad_md.specs.Tables.{plain_text}
 use Rattle.mad_md.specs.declared.line.Line.{Line}
 use Rattle.mad_md.specs.declared.text.Text.{Text}
 use Rattle.mad_md.specs.declared.compound.Compound.{Compound}
-use Rattle.mad_fit.specs.TextColumns.{columns, width_of}
-use Rattle.mad_fit.specs.Tokens.{flagged_token, tokens_text, token_run}
-use Rattle.mad_fit.specs.declared.tokens.Token.{Token}
-use Rattle.mad_fit.proofs.AllLemmas.{all_front, all_back, all_each}
-use Rattle.mad_fit.proofs.FlaggedLemmas.{width_of-flagged}
-use Rattle.mad_fit.proofs.TokenTexts.{IsHonest, tokens_text-append, some_flagged, text_of_all, all_honest}
+use Rattle.mad_measure.specs.TextColumns.{columns, width_of}
+use Rattle.mad_measure.specs.Tokens.{flagged_token, tokens_text, token_run}
+use Rattle.mad_measure.specs.declared.tokens.Token.{Token}
+use Rattle.mad_measure.proofs.AllLemmas.{all_front, all_back, all_each}
+use Rattle.mad_measure.proofs.FlaggedLemmas.{width_of-flagged}
+use Rattle.mad_measure.proofs.TokenTexts.{IsHonest, tokens_text-append, some_flagged, text_of_all, all_honest}
 use Rattle.mad_wrap.specs.Breaks.{LineAndGap, lines_and_gaps}
 use Rattle.mad_wrap.specs.CleanCut.{AreTexts}
 use Rattle.mad_wrap.specs.Keeps.{AllWhite, Keeps}

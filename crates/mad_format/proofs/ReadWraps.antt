@@ -9,7 +9,7 @@ use Rattle.mad_style.specs.Kinds.{kind_of}
 use Rattle.mad_style.specs.LineStyles.{margins_at}
 use Rattle.mad_style.specs.declared.line_styles.LineStyle.{LineStyle}
 use Rattle.mad_style.specs.declared.kinds.CompositeKind.{CompositeKind}
-use Rattle.mad_fit.specs.TextColumns.{width_of}
+use Rattle.mad_measure.specs.TextColumns.{width_of}
 use Rattle.mad_wrap.specs.LeastWords.{IsWrapOf}
 use Rattle.mad_wrap.specs.WrapLines.{capped, compounds_of, AreCounted}
 use Rattle.mad_wrap.specs.declared.room.Room.{Room}

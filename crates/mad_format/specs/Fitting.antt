@@ -1,9 +1,9 @@
 -- Composites that are fitted to a width, or get a wider place.
 use Rattle.std.specs.Prelude.{ℕ, ◌-◌, max, nat_lt, Option, Some, None, if◌then◌else◌}
 use Rattle.mad_md.specs.declared.alignment.Alignment.{Alignment}
-use Rattle.mad_fit.specs.declared.spacing.Spacing.{Spacing}
-use Rattle.mad_ellipsis.specs.Fitted.{IsFitted}
-use Rattle.mad_ellipsis.specs.Turns.{IsReplacedAs}
+use Rattle.mad_measure.specs.declared.spacing.Spacing.{Spacing}
+use Rattle.mad_fitting.specs.Fitted.{IsFitted}
+use Rattle.mad_fitting.specs.Turns.{IsReplacedAs}
 use Rattle.mad_format.specs.Indents.{indent}
 use Rattle.mad_format.specs.LineRules.{LineRules}
 use Rattle.mad_format.specs.Wraps.{columns_of}

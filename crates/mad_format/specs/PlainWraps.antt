@@ -2,13 +2,13 @@
 use Rattle.std.specs.Prelude.{◌≡◌, ℕ, ◌<◌, ◌≤◌, false, List, [], ◌∷◌, ◌++◌, map, chars, length}
 use Rattle.std.specs.List.{AllByRecursion, flat_map}
 use Rattle.std.specs.Str.{skip_leading_whitespace}
-use Rattle.mad_columns.specs.Columns.{char_columns}
+use Rattle.mad_characters.specs.Columns.{char_columns}
 use Rattle.mad_md.specs.Flagged.{unflagged, run_of, flagged_text}
 use Rattle.mad_md.specs.Parts.{AreParts, line_spans, line_text}
 use Rattle.mad_md.specs.Tables.{plain_text}
 use Rattle.mad_md.specs.declared.compound.Compound.{Compound}
-use Rattle.mad_fit.specs.TextColumns.{columns}
-use Rattle.mad_fit.specs.declared.tokens.Token.{Token}
+use Rattle.mad_measure.specs.TextColumns.{columns}
+use Rattle.mad_measure.specs.declared.tokens.Token.{Token}
 use Rattle.mad_wrap.specs.Breaks.{LineAndGap, TrimmingBreak}
 use Rattle.mad_wrap.specs.CleanCut.{AreTexts}
 use Rattle.mad_wrap.specs.Keeps.{Keeps}

@@ -1,7 +1,7 @@
 -- What is said of a composite: its text, its columns, and that its cached length is right.
 use Rattle.std.specs.Prelude.{◌≡◌, ℕ, ◌+◌, List}
 use Rattle.mad_md.specs.Flagged.{FlaggedChar, flagged_text}
-use Rattle.mad_fit.specs.TextColumns.{width_of}
+use Rattle.mad_measure.specs.TextColumns.{width_of}
 use Rattle.mad_wrap.specs.WrapLines.{capped}
 use Rattle.mad_format.specs.Indents.{indent}
 use Rattle.mad_format.specs.LineRules.{LineRules}

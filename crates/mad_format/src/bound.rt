@@ -1,7 +1,7 @@
 //! Where the lines of a wrap start, and checking such starts.
 
 ghost use Rattle.std.specs.Prelude.{◌≡◌, ◌≤◌, ◌<◌, List, length, IfOk, IfErr, IsOk, IsTrue};
-ghost use Rattle.mad_fit.specs.declared.tokens.Token.{Token};
+ghost use Rattle.mad_measure.specs.declared.tokens.Token.{Token};
 ghost use Rattle.mad_format.specs.Indents.{room_of};
 ghost use Rattle.mad_format.specs.Wraps.{text_of};
 ghost use Rattle.mad_term.specs.declared.errors.Error.TheVariants.{InsufficientWidth, Memory};

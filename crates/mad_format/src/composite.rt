@@ -1,16 +1,16 @@
 //! Composites with their measured length.
 
 ghost use Rattle.std.specs.Prelude.{◌≡◌, ◌+◌, ◌<◌, ◌≤◌, ◌++◌, ◌∷◌, [], IsOk, IfOk, OnOk, OnErr, MatchOption};
-ghost use Rattle.mad_fit.specs.TextColumns.{width_of};
-ghost use Rattle.mad_fit.specs.Completions.{Completes};
+ghost use Rattle.mad_measure.specs.TextColumns.{width_of};
+ghost use Rattle.mad_measure.specs.Completions.{Completes};
 ghost use Rattle.mad_md.specs.Flagged.{flagged_of};
 ghost use Rattle.mad_format.specs.Fitting.{extended};
 
 use crate::fitter::Fitter;
 use crate::indents::composite_columns;
 use crate::line_skin::LineSkin;
-use mad_fit::{Spacing, columns};
 use mad_md::{Alignment, Composite, Compound};
+use mad_measure::{Spacing, columns};
 use mad_style::CompositeKind;
 use std::alloc::{AllocError, Global};
 

@@ -6,7 +6,7 @@ ghost use Rattle.mad_md.specs.declared.alignment.Alignment.TheVariants.{Unspecif
 use crate::composite::FmtComposite;
 use crate::indents::indent_of;
 use crate::line_skin::LineSkin;
-use mad_ellipsis::fit_compounds;
+use mad_fitting::fit_compounds;
 use mad_md::Alignment;
 use std::alloc::AllocError;
 

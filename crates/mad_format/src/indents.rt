@@ -2,13 +2,13 @@
 
 ghost use Rattle.std.specs.Prelude.{◌≡◌, ◌+◌, ◌<◌, ◌^◌};
 ghost use Rattle.mad_md.specs.Flagged.{flagged_text};
-ghost use Rattle.mad_fit.specs.TextColumns.{width_of};
+ghost use Rattle.mad_measure.specs.TextColumns.{width_of};
 ghost use Rattle.mad_wrap.specs.WrapLines.{capped};
 ghost use Rattle.mad_format.specs.Indents.{follow_up, indent, later_indent};
 
 use crate::line_skin::LineSkin;
-use mad_fit::columns;
 use mad_md::Compound;
+use mad_measure::columns;
 use mad_style::{CompositeKind, ListItemsIndentationMode, ordered_item_indent};
 
 /// The columns in front of the first line of a composite of this kind, and in front of its other lines.

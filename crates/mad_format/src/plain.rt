@@ -8,8 +8,8 @@ ghost use Rattle.mad_format.specs.PlainWraps.{chars_of, AreFronts, IsFront, IsPl
 ghost use Rattle.mad_term.specs.declared.errors.Error.TheVariants.{InsufficientWidth, Memory};
 
 use crate::room::{Room, check_width};
-use mad_fit::columns_within;
 use mad_md::{Compound, Line, Text};
+use mad_measure::columns_within;
 use mad_term::Error;
 use mad_wrap::{WrappedLine, wrap_compounds};
 use std::alloc::{AllocError, Global};

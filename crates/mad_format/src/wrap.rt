@@ -4,7 +4,7 @@ ghost use Rattle.std.specs.Prelude.{◌≡◌, ◌+◌, ◌≤◌, ◌<◌, ◌�
 ghost use Rattle.std.specs.Vec.Iter.{into_iter_items};
 ghost use Rattle.mad_md.specs.Flagged.{flagged_text};
 ghost use Rattle.mad_md.specs.Lines.{styled_runs};
-ghost use Rattle.mad_fit.specs.TextColumns.{width_of};
+ghost use Rattle.mad_measure.specs.TextColumns.{width_of};
 ghost use Rattle.mad_format.specs.CompositeWraps.{AreComposites, IsCompositeWrap, composite_of};
 ghost use Rattle.mad_format.specs.LinesLeft.{AreCompositesLeft};
 ghost use Rattle.mad_format.specs.PutWraps.{PutsLines, PutsWrap};
@@ -20,8 +20,8 @@ use crate::indents::follow_up;
 use crate::line::{FmtLine, put_line};
 use crate::line_skin::LineSkin;
 use crate::room::{Room, check_width, margins_and_rest, room_of};
-use mad_fit::Spacing;
 use mad_md::{Composite, Compound};
+use mad_measure::Spacing;
 use mad_style::CompositeKind;
 use mad_term::Error;
 use mad_wrap::{WrappedLine, fit_columns, wrap_compounds};

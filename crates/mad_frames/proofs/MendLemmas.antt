@@ -7,7 +7,7 @@ use Rattle.std.proofs.lemmas.Bool.{false≢true, cases_lt}
 use Rattle.std.proofs.lemmas.List.{length-replicate, take_all, take-append-le, drop_at, drop-append-le, take-replicate, drop-replicate}
 use Rattle.std.proofs.lemmas.Nat.{row_fits}
 use Rattle.unicode_width.specs.Width.{char_width}
-use Rattle.mad_columns.specs.Columns.{char_columns}
+use Rattle.mad_characters.specs.Columns.{char_columns}
 use Rattle.mad_screen.specs.Glyph.{Glyph, Look}
 use Rattle.mad_screen.specs.Grid.{Grid, plain_pen, blank, empty_grid, is_tail}
 use Rattle.mad_screen.specs.Pictures.{same_look, row_cells}

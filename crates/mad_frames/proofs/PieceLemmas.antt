@@ -10,7 +10,7 @@ use Rattle.std.proofs.lemmas.Bool.{false≢true, eqb-true, ltb-true}
 use Rattle.std.proofs.lemmas.List.{get_or-take, length-take-le, append-nil}
 use Rattle.std.proofs.lemmas.Str.{chars_from_encodes, encodes-append}
 use Rattle.unicode_width.specs.Width.{char_width}
-use Rattle.mad_columns.specs.Columns.{char_columns}
+use Rattle.mad_characters.specs.Columns.{char_columns}
 use Rattle.mad_term.specs.declared.styles.ContentStyle.{ContentStyle}
 use Rattle.mad_term.specs.Styles.{piece_bytes, IsStyle}
 use Rattle.mad_screen.specs.Glyph.{Glyph, Look}

@@ -6,7 +6,7 @@ ghost use Rattle.mad_screen.specs.Glyph.{look_of};
 ghost use Rattle.mad_screen.specs.Pictures.{same_look};
 ghost use Rattle.mad_frames.specs.Whole.{is_kept, is_writable, are_joined, is_cell_text, tails_of, are_whole, IsWholeGrid};
 
-use mad_columns::char_columns;
+use mad_characters::char_columns;
 use mad_screen::{Cell, Pen, Screen};
 use mad_term::{Attribute, Color};
 use unicode_width::UnicodeWidthChar;

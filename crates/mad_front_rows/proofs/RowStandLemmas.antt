@@ -4,7 +4,7 @@ use Rattle.std.specs.Prelude.{chars}
 use Rattle.std.specs.List.{AllByRecursion}
 use Rattle.std.proofs.lemmas.List.{append-nil, map-append}
 use Rattle.std.proofs.lemmas.Option.{same_Some}
-use Rattle.mad_fit.proofs.AllLemmas.{all_joined}
+use Rattle.mad_measure.proofs.AllLemmas.{all_joined}
 use Rattle.mad_wrap.specs.WrapLines.{capped}
 use Rattle.mad_format.specs.declared.line.FmtLine.{FmtLine}
 use Rattle.mad_format.specs.declared.line.FmtLine.TheVariants.{Normal}

@@ -1,7 +1,7 @@
 -- Hits stand in their rows, behind what is in front of these.
 use Rattle.std.proofs.Common.{◌≡◌, ℕ, ◌+◌, ◌-◌, true, List, Option, Some, refl, ap, subst, arith}
 use Rattle.mad_draw.specs.Pieces.{AreShownPieces, IsShownPiece, RowPiece}
-use Rattle.mad_fit.proofs.AllLemmas.{all_joined}
+use Rattle.mad_measure.proofs.AllLemmas.{all_joined}
 use Rattle.mad_format.specs.declared.line.FmtLine.TheVariants.{Normal}
 use Rattle.mad_rows.specs.Rows.{margins_of}
 use Rattle.mad_rows.specs.declared.row_skin.RowSkin.{RowSkin}

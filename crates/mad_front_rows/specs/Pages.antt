@@ -1,7 +1,7 @@
 -- Rows of a page beside a scroll bar, and the hits over them.
 use Rattle.std.specs.Prelude.{◌≡◌, ℕ, ◌-◌, List, ◌++◌, drop, length, min, Option}
 use Rattle.std.specs.List.{range_with_len}
-use Rattle.mad_fit.specs.declared.area.Area.{Area}
+use Rattle.mad_measure.specs.declared.area.Area.{Area}
 use Rattle.mad_draw.specs.BarsApart.{AreShownBeside, FillBeside}
 use Rattle.mad_draw.specs.BesideBar.{columns_beside}
 use Rattle.mad_draw.specs.Pieces.{RowPiece}

@@ -3,7 +3,7 @@
 ghost use Rattle.std.specs.List.{range_with_len};
 ghost use Rattle.std.specs.Prelude.{◌≡◌, ◌+◌, ◌-◌, ◌<◌, ◌^◌, ℕ, OnOk, length, map, min};
 ghost use Rattle.mad_term.specs.Trace.{TookWith};
-ghost use Rattle.mad_fit.specs.TextColumns.{columns};
+ghost use Rattle.mad_measure.specs.TextColumns.{columns};
 ghost use Rattle.mad_style.specs.StyledChars.{char_alone, char_style};
 ghost use Rattle.mad_term.specs.Styles.{IsStyle};
 ghost use Rattle.mad_wrap.specs.WrapLines.{capped};
@@ -12,11 +12,11 @@ ghost use Rattle.mad_hits.specs.Hits.{marked_of};
 ghost use Rattle.mad_front_rows.specs.FrontHits.{AreRowsMarked, IsRowMarked, hit_behind};
 
 use crate::columns::columns_in_front;
-use mad_columns::char_columns;
+use mad_characters::char_columns;
 use mad_draw::{Rows, draw_rows};
-use mad_fit::Area;
 use mad_format::FmtLine;
 use mad_hits::{Hit, row_hits};
+use mad_measure::Area;
 use mad_page_rows::faces::{columns_left, line_skin};
 use mad_pages::{Front, front_at};
 use mad_rows::RowSkin;

@@ -6,8 +6,8 @@ use Rattle.mad_draw.specs.Pieces.{AreKnown, char_piece}
 use Rattle.mad_style.specs.declared.styled_chars.StyledChar.{StyledChar}
 use Rattle.mad_term.specs.Styles.{IsStyle}
 use Rattle.mad_draw.specs.DrawnRows.{AreRowsShown, FillArea}
-use Rattle.mad_fit.specs.TextColumns.{columns}
-use Rattle.mad_fit.specs.declared.area.Area.{Area}
+use Rattle.mad_measure.specs.TextColumns.{columns}
+use Rattle.mad_measure.specs.declared.area.Area.{Area}
 use Rattle.mad_style.specs.StyledChars.{char_alone, char_style}
 use Rattle.mad_term.specs.Trace.{Trace, TookWith, after}
 use Rattle.mad_wrap.specs.WrapLines.{capped}

@@ -2,8 +2,8 @@
 use Rattle.std.proofs.Common.{◌≡◌, ℕ, zero, suc, ◌+◌, ◌-◌, ◌^◌, ◌<◌, ◌≤◌, ◌==◌, Bool, true, false, List, [], ◌∷◌, ◌++◌, map, take, drop, length, get_or, min, refl, ap, sym, ◌∙◌, inl, inr, arith, if◌then◌else◌}
 use Rattle.std.proofs.lemmas.Bool.{cases_lt}
 use Rattle.std.proofs.lemmas.List.{length-drop, length-map, map_more}
-use Rattle.mad_columns.specs.Columns.{char_columns}
-use Rattle.mad_fit.specs.TextColumns.{columns}
+use Rattle.mad_characters.specs.Columns.{char_columns}
+use Rattle.mad_measure.specs.TextColumns.{columns}
 use Rattle.mad_wrap.specs.WrapLines.{capped}
 use Rattle.mad_style.specs.StyledChars.{char_alone}
 use Rattle.mad_style.specs.declared.styled_chars.StyledChar.{StyledChar}

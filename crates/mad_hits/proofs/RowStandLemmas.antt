@@ -4,7 +4,7 @@ use Rattle.std.specs.Prelude.{chars, slice_get}
 use Rattle.std.specs.List.{AllByRecursion, flat_map}
 use Rattle.std.proofs.lemmas.List.{append-nil}
 use Rattle.std.proofs.lemmas.Option.{same_Some}
-use Rattle.mad_fit.proofs.AllLemmas.{all_joined}
+use Rattle.mad_measure.proofs.AllLemmas.{all_joined}
 use Rattle.mad_style.specs.declared.styled_chars.StyledChar.{StyledChar}
 use Rattle.mad_draw.specs.Pieces.{AreShownPieces, RowPiece, pieces_columns, spaces}
 use Rattle.mad_draw.proofs.PieceLemmas.{columns-both, spaces_columns}

@@ -1,7 +1,7 @@
 -- Hits drawn over the rows of an area that begins in the screen's first column and row.
 use Rattle.std.specs.Prelude.{◌≡◌, ℕ, ◌+◌, ◌≤◌, List, [], ◌∷◌, ◌++◌, map}
-use Rattle.mad_fit.specs.TextColumns.{columns}
-use Rattle.mad_fit.specs.declared.area.Area.{Area}
+use Rattle.mad_measure.specs.TextColumns.{columns}
+use Rattle.mad_measure.specs.declared.area.Area.{Area}
 use Rattle.mad_style.specs.StyledChars.{char_alone}
 use Rattle.mad_draw.specs.DrawnRows.{AreRowsShown, FillArea}
 use Rattle.mad_draw.specs.Pieces.{RowPiece, char_piece}

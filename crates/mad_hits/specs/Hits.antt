@@ -1,7 +1,7 @@
 -- What is drawn once more of a line where what is sought is in it.
 use Rattle.std.specs.Prelude.{◌≡◌, ℕ, ◌+◌, ◌==◌, List, [], ◌∷◌, ◌++◌, length, map, take, drop, chars, Option, Some, None, if◌then◌else◌}
-use Rattle.mad_columns.specs.Columns.{char_columns}
-use Rattle.mad_fit.specs.TextColumns.{columns}
+use Rattle.mad_characters.specs.Columns.{char_columns}
+use Rattle.mad_measure.specs.TextColumns.{columns}
 use Rattle.mad_wrap.specs.WrapLines.{capped}
 use Rattle.mad_style.specs.StyledChars.{char_alone}
 use Rattle.mad_style.specs.declared.styled_chars.StyledChar.{StyledChar}

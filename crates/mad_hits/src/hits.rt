@@ -2,7 +2,7 @@
 
 ghost use Rattle.std.specs.Prelude.{◌≡◌, ◌++◌, ◌+◌, ◌≤◌, ℕ, IfOk, OnOk, length, map, min};
 ghost use Rattle.mad_wrap.specs.WrapLines.{capped};
-ghost use Rattle.mad_fit.specs.TextColumns.{columns};
+ghost use Rattle.mad_measure.specs.TextColumns.{columns};
 ghost use Rattle.mad_format.specs.declared.line.FmtLine.TheVariants.{Normal};
 ghost use Rattle.mad_style.specs.StyledChars.{char_alone};
 ghost use Rattle.mad_hits.specs.Styled.{reversed};
@@ -11,7 +11,7 @@ ghost use Rattle.mad_hits.specs.Hits.{marked_at, marked_of, placed_cells, placed
 use crate::matches::{letters_of, starts};
 use crate::places::{column_in_cell, column_in_row, inner_columns, table_column};
 use crate::styled::{reversed, styled_text};
-use mad_columns::char_columns;
+use mad_characters::char_columns;
 use mad_format::{FmtComposite, FmtLine};
 use mad_rows::RowSkin;
 use mad_search::has_capital;

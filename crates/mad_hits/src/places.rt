@@ -6,9 +6,9 @@ ghost use Rattle.mad_rows.specs.Rows.{inner_blanks, inner_columns, left_of_place
 ghost use Rattle.mad_format.specs.Indents.{indent};
 ghost use Rattle.mad_hits.specs.Hits.{text_column};
 
-use mad_fit::Spacing;
 use mad_format::{FmtComposite, indent_of};
 use mad_md::Alignment;
+use mad_measure::Spacing;
 use mad_rows::RowSkin;
 
 /// The column in which the text of a line begins in a row of `width` columns, after its blanks and its prefix.

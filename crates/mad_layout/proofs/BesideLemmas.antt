@@ -2,8 +2,8 @@
 use Rattle.std.proofs.Common.{◌≡◌, ℕ, List, drop, Option, Result, Ok, Err, OnOk, ap, ◌∙◌, subst}
 use Rattle.std.specs.Prelude.{slice_get}
 use Rattle.mad_term.specs.Trace.{Trace, TookWith}
-use Rattle.mad_fit.specs.Areas.{IsWithinLimits}
-use Rattle.mad_fit.specs.declared.area.Area.{Area}
+use Rattle.mad_measure.specs.Areas.{IsWithinLimits}
+use Rattle.mad_measure.specs.declared.area.Area.{Area}
 use Rattle.mad_draw.specs.BarsApart.{AreShownBeside, FillBeside, panes_beside, panes_bytes}
 use Rattle.mad_draw.specs.BesideBar.{columns_beside}
 use Rattle.mad_draw.specs.Pieces.{RowPiece}

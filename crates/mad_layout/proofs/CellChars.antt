@@ -10,8 +10,8 @@ use Rattle.mad_style.specs.declared.compound_styles.CompoundStyle.{CompoundStyle
 use Rattle.mad_style.specs.declared.kinds.CompositeKind.{CompositeKind}
 use Rattle.mad_style.specs.declared.kinds.CompositeKind.TheVariants.{Paragraph}
 use Rattle.mad_style.specs.declared.line_styles.LineStyle.{LineStyle}
-use Rattle.mad_fit.specs.Completions.{left_completion}
-use Rattle.mad_fit.specs.declared.spacing.Spacing.{Spacing}
+use Rattle.mad_measure.specs.Completions.{left_completion}
+use Rattle.mad_measure.specs.declared.spacing.Spacing.{Spacing}
 use Rattle.mad_draw.specs.Pieces.{RowPiece, spaces}
 use Rattle.mad_draw.specs.TableRules.{border_piece, horizontals, junction, rule_pieces}
 use Rattle.mad_draw.specs.declared.table_rules.RuleChars.{RuleChars}

@@ -2,19 +2,19 @@
 use Rattle.std.proofs.Common.{◌≡◌, ℕ, zero, suc, ◌+◌, ◌-◌, ◌^◌, ◌<◌, ◌≤◌, Bool, true, false, inl, inr, List, [], ◌∷◌, ◌++◌, map, max, Option, None, Contains, length, take, refl, ap, sym, ◌∙◌, subst, arith, append_assoc}
 use Rattle.std.specs.Prelude.{IfSome, unwrap_or, ◌==◌}
 use Rattle.std.specs.List.{AllByRecursion}
-use Rattle.mad_columns.specs.Columns.{char_columns}
+use Rattle.mad_characters.specs.Columns.{char_columns}
 use Rattle.mad_md.specs.Flagged.{FlaggedChar, Run, run_of, flagged_text}
 use Rattle.mad_md.specs.Lines.{StyledRuns, LineContent, normal, table_row, table_rule, horizontal_rule}
 use Rattle.mad_md.specs.declared.alignment.Alignment.{Alignment}
 use Rattle.mad_md.specs.declared.compound.Compound.{Compound}
 use Rattle.mad_style.specs.Kinds.{kind_of}
 use Rattle.mad_style.specs.declared.kinds.CompositeKind.{CompositeKind}
-use Rattle.mad_fit.specs.TextColumns.{width_of}
-use Rattle.mad_fit.specs.Tokens.{token_run}
-use Rattle.mad_fit.specs.declared.spacing.Spacing.{Spacing}
-use Rattle.mad_fit.specs.declared.tokens.Token.{Token}
-use Rattle.mad_fit.proofs.AllLemmas.{all_joined, all_each}
-use Rattle.mad_fit.proofs.ExistLemmas.{tokens_of_all}
+use Rattle.mad_measure.specs.TextColumns.{width_of}
+use Rattle.mad_measure.specs.Tokens.{token_run}
+use Rattle.mad_measure.specs.declared.spacing.Spacing.{Spacing}
+use Rattle.mad_measure.specs.declared.tokens.Token.{Token}
+use Rattle.mad_measure.proofs.AllLemmas.{all_joined, all_each}
+use Rattle.mad_measure.proofs.ExistLemmas.{tokens_of_all}
 use Rattle.mad_wrap.specs.Rooms.{most_indent, token_limit}
 use Rattle.mad_wrap.specs.WrapLines.{HasRoom, LinesFit, IsMadeOf}
 use Rattle.mad_wrap.specs.declared.room.Room.{Room}

@@ -5,12 +5,12 @@ use Rattle.std.proofs.lemmas.List.{length-map, map-append}
 use Rattle.mad_wrap.proofs.PromisedStarts.{blank_token}
 use Rattle.mad_md.specs.Flagged.{FlaggedChar, flagged_of, is_blank}
 use Rattle.mad_md.specs.declared.compound.Compound.{Compound}
-use Rattle.mad_fit.specs.TextColumns.{width_of}
-use Rattle.mad_fit.specs.Tokens.{AreTokensOf, flagged_token}
-use Rattle.mad_fit.specs.declared.tokens.Token.{Token}
-use Rattle.mad_fit.proofs.AllLemmas.{all_front, all_back}
-use Rattle.mad_fit.proofs.FlaggedLemmas.{width_of-append}
-use Rattle.mad_fit.proofs.TokenTexts.{IsHonest, all_honest, some_flagged}
+use Rattle.mad_measure.specs.TextColumns.{width_of}
+use Rattle.mad_measure.specs.Tokens.{AreTokensOf, flagged_token}
+use Rattle.mad_measure.specs.declared.tokens.Token.{Token}
+use Rattle.mad_measure.proofs.AllLemmas.{all_front, all_back}
+use Rattle.mad_measure.proofs.FlaggedLemmas.{width_of-append}
+use Rattle.mad_measure.proofs.TokenTexts.{IsHonest, all_honest, some_flagged}
 use Rattle.mad_wrap.specs.Breaks.{LineAndGap, lines_and_gaps, total_width, AllBlank, FitsFrom, FittingBreak, EndsWithLine}
 use Rattle.mad_wrap.specs.Rooms.{token_limit}
 use Rattle.mad_layout.specs.FlaggedRows.{whole, tokens_of, pieces_from, pieces_of_line, IsFittingBreak}

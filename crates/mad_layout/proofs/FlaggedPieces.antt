@@ -6,10 +6,10 @@ use Rattle.std.proofs.lemmas.List.{length-map, map-append}
 use Rattle.std.proofs.lemmas.List.Concat.{flat_map-append}
 use Rattle.mad_md.specs.Flagged.{FlaggedChar, flagged_of, is_blank}
 use Rattle.mad_md.specs.declared.compound.Compound.{Compound}
-use Rattle.mad_fit.specs.Tokens.{AreTokensOf, flagged_token}
-use Rattle.mad_fit.specs.declared.tokens.Token.{Token}
-use Rattle.mad_fit.proofs.AllLemmas.{all_push}
-use Rattle.mad_fit.proofs.TokenTexts.{IsHonest, all_honest, some_flagged}
+use Rattle.mad_measure.specs.Tokens.{AreTokensOf, flagged_token}
+use Rattle.mad_measure.specs.declared.tokens.Token.{Token}
+use Rattle.mad_measure.proofs.AllLemmas.{all_push}
+use Rattle.mad_measure.proofs.TokenTexts.{IsHonest, all_honest, some_flagged}
 use Rattle.mad_wrap.specs.Breaks.{LineAndGap, lines_and_gaps, total_width, TrimmingBreak}
 use Rattle.mad_wrap.specs.Rooms.{token_limit}
 use Rattle.mad_wrap.specs.Words.{Piece, piece_tokens, pieces_tokens, alone, together, word_pieces, pieces_after, pieces_of, token_break}

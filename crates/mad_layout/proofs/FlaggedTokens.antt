@@ -5,15 +5,15 @@ use Rattle.std.specs.List.{AllByRecursion}
 use Rattle.std.proofs.lemmas.Bool.Decides.{nat_tests}
 use Rattle.std.proofs.lemmas.List.{append-nil, length-append, drop_all, map-append}
 use Rattle.std.proofs.lemmas.Str.{chars-nil}
-use Rattle.mad_columns.specs.Columns.{char_columns}
+use Rattle.mad_characters.specs.Columns.{char_columns}
 use Rattle.mad_md.specs.Flagged.{FlaggedChar, flagged, flags_of, flagged_of, is_blank}
 use Rattle.mad_md.specs.declared.compound.Compound.{Compound}
-use Rattle.mad_fit.specs.TextColumns.{width_of}
-use Rattle.mad_fit.specs.Tokens.{StopsBefore, AreTokensFrom, AreTokensOf, flagged_token}
-use Rattle.mad_fit.specs.declared.tokens.Token.{Token}
-use Rattle.mad_fit.proofs.AllLemmas.{all_front, all_back}
-use Rattle.mad_fit.proofs.FlaggedLemmas.{width_of-append}
-use Rattle.mad_fit.proofs.TokenTexts.{text_at, some_flagged}
+use Rattle.mad_measure.specs.TextColumns.{width_of}
+use Rattle.mad_measure.specs.Tokens.{StopsBefore, AreTokensFrom, AreTokensOf, flagged_token}
+use Rattle.mad_measure.specs.declared.tokens.Token.{Token}
+use Rattle.mad_measure.proofs.AllLemmas.{all_front, all_back}
+use Rattle.mad_measure.proofs.FlaggedLemmas.{width_of-append}
+use Rattle.mad_measure.proofs.TokenTexts.{text_at, some_flagged}
 use Rattle.mad_wrap.specs.Rooms.{token_limit}
 use Rattle.mad_wrap.specs.declared.room.Room.{Room}
 use Rattle.mad_layout.specs.FlaggedRows.{goes_on, tokens_from, tokens_of}

@@ -10,8 +10,8 @@ use Rattle.mad_term.specs.Trace.{Trace, failed, flushed}
 use Rattle.mad_term.specs.Draws.{Draws, AndFlushes}
 use Rattle.mad_term.proofs.Exits.{flushing_refused}
 use Rattle.mad_term.proofs.Traces.{flush_failed, took_flushed}
-use Rattle.mad_fit.specs.Areas.{IsWithinLimits}
-use Rattle.mad_fit.specs.declared.area.Area.{Area}
+use Rattle.mad_measure.specs.Areas.{IsWithinLimits}
+use Rattle.mad_measure.specs.declared.area.Area.{Area}
 use Rattle.mad_blocks.specs.Fronts.{IsFrontLayout}
 use Rattle.mad_layout.specs.InArea.{IsAreaFront, ShowsText, WritesInArea}
 use Rattle.mad_layout.specs.Shown.{area_bytes, AreShownIn}

@@ -4,15 +4,15 @@ use Rattle.std.specs.Prelude.{slice_get, unwrap_or}
 use Rattle.std.proofs.Math.ListN.{get_or-map}
 use Rattle.std.proofs.lemmas.List.{append-nil, length-map, map-append}
 use Rattle.std.specs.Str.{IsUtf8}
-use Rattle.mad_columns.specs.Columns.{char_columns}
+use Rattle.mad_characters.specs.Columns.{char_columns}
 use Rattle.mad_screen.specs.Glyph.{Glyph, Look}
 use Rattle.mad_screen.specs.Grid.{Grid, plain_pen, cell_at, blank, glyphs}
 use Rattle.mad_screen.specs.Painting.{attach}
 use Rattle.mad_term.specs.Trace.{Trace, flushed}
 use Rattle.mad_term.proofs.Traces.{took_flushed}
 use Rattle.mad_md.specs.Lines.{LineContent}
-use Rattle.mad_fit.specs.Areas.{IsWithinLimits}
-use Rattle.mad_fit.specs.declared.area.Area.{Area}
+use Rattle.mad_measure.specs.Areas.{IsWithinLimits}
+use Rattle.mad_measure.specs.declared.area.Area.{Area}
 use Rattle.mad_draw.specs.Pieces.{RowPiece, FillsRow, PennedChar, penned_chars}
 use Rattle.mad_draw.specs.PennedCells.{penned_attached, penned_cells}
 use Rattle.mad_draw.specs.BesideBar.{IsBarShown, bar_char, columns_beside}

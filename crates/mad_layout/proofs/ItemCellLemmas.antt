@@ -5,8 +5,8 @@ use Rattle.std.specs.Str.{chars, trim_start, trim_end, IsAscii}
 use Rattle.std.proofs.Math.Utf8.{encode}
 use Rattle.std.proofs.lemmas.Str.{IsUtf8-from_ascii, chars-IsAscii}
 use Rattle.std.proofs.lemmas.Str.Ascii.{IsAscii-cons}
-use Rattle.mad_columns.specs.Columns.{char_columns}
-use Rattle.mad_columns.proofs.CharColumns.{char_columns-ascii}
+use Rattle.mad_characters.specs.Columns.{char_columns}
+use Rattle.mad_characters.proofs.CharColumns.{char_columns-ascii}
 use Rattle.mad_md.specs.Flagged.{unflagged, flagged}
 use Rattle.mad_md.specs.Lines.{StyledRuns, LineContent, table_row}
 use Rattle.mad_md.specs.Cells.{AreCells, IsCell, part_says}
@@ -17,7 +17,7 @@ use Rattle.mad_md.specs.Reading.{IsReading, IsRead, unread_text}
 use Rattle.mad_md.specs.declared.composite.CompositeStyle.TheVariants.{ListItem}
 use Rattle.mad_style.specs.Kinds.{kind_of}
 use Rattle.mad_widths.specs.ColumnWidths.{needs_of, column_widths}
-use Rattle.mad_fit.specs.TextColumns.{width_of}
+use Rattle.mad_measure.specs.TextColumns.{width_of}
 use Rattle.mad_layout.specs.ItemCells.{item_in_a_cell, hanging_skin, ItemInACellKeepsPremises}
 use Rattle.mad_layout.specs.Premises.{IsColumnChar, AreRuleChars, IsPrintableText, AreBordersShown, ArePrintableIn, KeepsPremises, runs_text}
 use Rattle.mad_rows.specs.Rows.{rule_chars}

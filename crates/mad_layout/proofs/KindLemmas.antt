@@ -5,8 +5,8 @@ use Rattle.std.specs.Str.{chars, IsAscii}
 use Rattle.std.proofs.lemmas.Str.{IsUtf8-from_ascii, chars-IsAscii}
 use Rattle.std.proofs.lemmas.Fmt.{length-decimal-le_succ}
 use Rattle.std.proofs.lemmas.Str.Ascii.{IsAscii-nil, IsAscii-cons}
-use Rattle.mad_columns.specs.Columns.{char_columns}
-use Rattle.mad_columns.proofs.CharColumns.{char_columns-ascii}
+use Rattle.mad_characters.specs.Columns.{char_columns}
+use Rattle.mad_characters.proofs.CharColumns.{char_columns-ascii}
 use Rattle.mad_md.specs.Flagged.{unflagged, flagged}
 use Rattle.mad_md.specs.Lines.{StyledRuns, LineContent, normal, horizontal_rule}
 use Rattle.mad_md.specs.Spans.{LineSpans, normal_at, horizontal_rule_at, content_at}
@@ -16,7 +16,7 @@ use Rattle.mad_md.specs.Parts.{AreParts, HasNoNewline, line_spans}
 use Rattle.mad_md.specs.declared.composite.CompositeStyle.{CompositeStyle}
 use Rattle.mad_md.specs.declared.composite.CompositeStyle.TheVariants.{Header, Paragraph, ListItem, OrderedListItem, Code, Quote}
 use Rattle.mad_style.specs.Kinds.{kind_of}
-use Rattle.mad_fit.specs.TextColumns.{width_of}
+use Rattle.mad_measure.specs.TextColumns.{width_of}
 use Rattle.mad_format.specs.Indents.{indent}
 use Rattle.mad_layout.specs.Premises.{IsPrintablePrefix, IsPrintableText, KeepsPremises, inner_width, runs_text}
 use Rattle.mad_layout.specs.SeveralKinds.{ascii_skin, several_kinds, SeveralKindsKeepPremises}

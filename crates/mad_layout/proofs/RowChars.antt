@@ -6,7 +6,7 @@ use Rattle.std.specs.Str.{IsUtf8}
 use Rattle.std.proofs.lemmas.Fmt.{IsAscii-decimal}
 use Rattle.std.proofs.lemmas.List.{append-nil, map-append}
 use Rattle.std.proofs.lemmas.Str.{chars-IsAscii, chars-append, chars-nil}
-use Rattle.mad_fit.proofs.UniqueLemmas.{chars_of_flagged}
+use Rattle.mad_measure.proofs.UniqueLemmas.{chars_of_flagged}
 use Rattle.mad_screen.specs.Glyph.{Look}
 use Rattle.mad_screen.specs.Painting.{look_of_style}
 use Rattle.mad_md.specs.declared.alignment.Alignment.TheVariants.{Left}
@@ -20,8 +20,8 @@ use Rattle.mad_style.specs.declared.kinds.CompositeKind.{CompositeKind}
 use Rattle.mad_style.specs.declared.kinds.CompositeKind.TheVariants.{ListItem, ListItemFollowUp, OrderedListItem, OrderedListItemFollowUp, Quote}
 use Rattle.mad_style.specs.declared.line_styles.LineStyle.{LineStyle}
 use Rattle.mad_style.specs.declared.styled_chars.StyledChar.{StyledChar}
-use Rattle.mad_fit.specs.Completions.{left_completion}
-use Rattle.mad_fit.specs.declared.spacing.Spacing.{Spacing}
+use Rattle.mad_measure.specs.Completions.{left_completion}
+use Rattle.mad_measure.specs.declared.spacing.Spacing.{Spacing}
 use Rattle.mad_draw.specs.Pieces.{RowPiece, IsColumnPiece, char_piece, char_repeat, PennedChar, penned_chars, spaces, single_spaces}
 use Rattle.mad_draw.proofs.PieceLemmas.{ascii_spaces}
 use Rattle.mad_layout.specs.FlaggedLines.{widest_in, skin_char, front_of, placed_columns, row_across}

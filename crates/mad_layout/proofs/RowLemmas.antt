@@ -9,11 +9,11 @@ use Rattle.mad_md.specs.Flagged.{flagged_text, flagged_of, flags_of}
 use Rattle.mad_style.specs.declared.compound_styles.CompoundStyle.{CompoundStyle}
 use Rattle.mad_style.specs.declared.line_styles.LineStyle.{LineStyle}
 use Rattle.mad_style.specs.LineStyles.{margins_at}
-use Rattle.mad_fit.specs.TextColumns.{columns, width_of}
-use Rattle.mad_fit.specs.Completions.{left_completion}
-use Rattle.mad_fit.specs.declared.spacing.Spacing.{Spacing}
-use Rattle.mad_fit.proofs.AllLemmas.{all_joined}
-use Rattle.mad_fit.proofs.FlaggedLemmas.{width_of-append, width_of-flagged}
+use Rattle.mad_measure.specs.TextColumns.{columns, width_of}
+use Rattle.mad_measure.specs.Completions.{left_completion}
+use Rattle.mad_measure.specs.declared.spacing.Spacing.{Spacing}
+use Rattle.mad_measure.proofs.AllLemmas.{all_joined}
+use Rattle.mad_measure.proofs.FlaggedLemmas.{width_of-append, width_of-flagged}
 use Rattle.mad_draw.specs.Pieces.{RowPiece, IsShownPiece, AreShownPieces, pieces_columns, spaces}
 use Rattle.mad_draw.proofs.PieceLemmas.{columns-both, spaces_columns, shown_spaces}
 use Rattle.mad_rows.specs.declared.row_skin.RowSkin.{RowSkin}

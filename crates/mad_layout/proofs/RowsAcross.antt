@@ -10,8 +10,8 @@ use Rattle.mad_style.specs.Kinds.{kind_of}
 use Rattle.mad_style.specs.LineStyles.{margins_at}
 use Rattle.mad_style.specs.declared.kinds.CompositeKind.{CompositeKind}
 use Rattle.mad_style.specs.declared.kinds.CompositeKind.TheVariants.{Paragraph, Header, Code}
-use Rattle.mad_fit.specs.TextColumns.{width_of}
-use Rattle.mad_fit.specs.declared.spacing.Spacing.{Spacing}
+use Rattle.mad_measure.specs.TextColumns.{width_of}
+use Rattle.mad_measure.specs.declared.spacing.Spacing.{Spacing}
 use Rattle.mad_wrap.proofs.WrapModes.{by_fits, by_keeps}
 use Rattle.mad_wrap.specs.Keeps.{Keeps}
 use Rattle.mad_wrap.specs.WrapLines.{HasRoom, LinesFit}

@@ -7,12 +7,12 @@ use Rattle.std.proofs.lemmas.Bool.{leb-true}
 use Rattle.std.proofs.lemmas.Bool.Decides.{nat_tests}
 use Rattle.std.proofs.lemmas.List.{append-nil, length-map}
 use Rattle.std.proofs.lemmas.List.Concat.{flat_map-append}
-use Rattle.mad_columns.specs.Columns.{char_columns}
+use Rattle.mad_characters.specs.Columns.{char_columns}
 use Rattle.mad_md.specs.Flagged.{FlaggedChar, is_blank}
-use Rattle.mad_fit.specs.TextColumns.{width_of}
-use Rattle.mad_fit.proofs.AllLemmas.{all_push, all_front, all_back, all_joined}
-use Rattle.mad_fit.proofs.FlaggedLemmas.{width_of-append}
-use Rattle.mad_fit.specs.declared.tokens.Token.{Token}
+use Rattle.mad_measure.specs.TextColumns.{width_of}
+use Rattle.mad_measure.proofs.AllLemmas.{all_push, all_front, all_back, all_joined}
+use Rattle.mad_measure.proofs.FlaggedLemmas.{width_of-append}
+use Rattle.mad_measure.specs.declared.tokens.Token.{Token}
 use Rattle.mad_wrap.proofs.LeastLemmas.{least_from}
 use Rattle.mad_wrap.specs.Breaks.{LineAndGap, lines_and_gaps, total_width, AllBlank, FitsFrom}
 use Rattle.mad_wrap.specs.Keeps.{Keeps, AllWhite}

@@ -6,9 +6,9 @@ use Rattle.std.specs.Str.{chars}
 use Rattle.mad_md.specs.declared.alignment.Alignment.{Alignment}
 use Rattle.mad_style.specs.StyledChars.{styled_char}
 use Rattle.mad_style.specs.declared.compound_styles.CompoundStyle.{CompoundStyle}
-use Rattle.mad_fit.specs.TextColumns.{columns}
-use Rattle.mad_fit.specs.Completions.{left_completion}
-use Rattle.mad_fit.proofs.AllLemmas.{all_joined}
+use Rattle.mad_measure.specs.TextColumns.{columns}
+use Rattle.mad_measure.specs.Completions.{left_completion}
+use Rattle.mad_measure.proofs.AllLemmas.{all_joined}
 use Rattle.mad_draw.specs.Pieces.{RowPiece, AreShownPieces, IsColumnPiece, IsShownPiece, pieces_columns, spaces}
 use Rattle.mad_draw.specs.TableRules.{border_piece, horizontals, junction, rule_pieces}
 use Rattle.mad_draw.specs.declared.table_rules.RuleChars.{RuleChars}

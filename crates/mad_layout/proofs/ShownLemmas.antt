@@ -2,7 +2,7 @@
 use Rattle.std.proofs.Common.{◌≡◌, ℕ, zero, suc, ◌<◌, List, [], ◌∷◌, drop, take, Option, Result, Ok, Err, OnOk, arith, ap, subst, ◌∙◌}
 use Rattle.std.specs.Prelude.{slice_get}
 use Rattle.mad_term.specs.Trace.{Trace, TookWith}
-use Rattle.mad_fit.specs.declared.area.Area.{Area}
+use Rattle.mad_measure.specs.declared.area.Area.{Area}
 use Rattle.mad_draw.specs.DrawnRows.{FillArea, AreRowsShown, rows_bytes}
 use Rattle.mad_draw.specs.Pieces.{RowPiece, FillsRow}
 use Rattle.mad_draw.specs.BesideBar.{beside_bar, columns_beside}

@@ -12,7 +12,7 @@ use Rattle.mad_style.specs.Kinds.{kind_of}
 use Rattle.mad_style.specs.StyledChars.{char_alone}
 use Rattle.mad_style.specs.declared.kinds.CompositeKind.{CompositeKind}
 use Rattle.mad_style.specs.declared.kinds.CompositeKind.TheVariants.{ListItem, OrderedListItem, Quote}
-use Rattle.mad_fit.specs.TextColumns.{width_of}
+use Rattle.mad_measure.specs.TextColumns.{width_of}
 use Rattle.mad_format.specs.Indents.{indent, room_of}
 use Rattle.mad_format.specs.Wraps.{IsMeasured}
 use Rattle.mad_format.specs.declared.composite.FmtComposite.{FmtComposite}

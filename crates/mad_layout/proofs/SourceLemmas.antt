@@ -7,8 +7,8 @@ use Rattle.std.proofs.lemmas.Bool.Decides.{nat_tests}
 use Rattle.std.proofs.lemmas.List.{take-append-drop}
 use Rattle.std.proofs.lemmas.Str.{chars-append, IsUtf8-take, IsUtf8-between}
 use Rattle.unicode_width.specs.Width.{char_width}
-use Rattle.mad_columns.specs.Columns.{char_columns}
-use Rattle.mad_columns.proofs.CharColumns.{char_columns-three}
+use Rattle.mad_characters.specs.Columns.{char_columns}
+use Rattle.mad_characters.proofs.CharColumns.{char_columns-three}
 use Rattle.mad_md.specs.Flagged.{Flags, FlaggedChar, RunSpan, flagged, is_blank, run_at}
 use Rattle.mad_md.specs.Inline.{Item, runs, IsInlineReading}
 use Rattle.mad_md.specs.Lines.{LineContent}
@@ -24,8 +24,8 @@ use Rattle.mad_term.proofs.Traces.{took_flushed}
 use Rattle.mad_layout.specs.Shown.{AreShownIn}
 use Rattle.mad_style.specs.LineStyles.{margins_at}
 use Rattle.mad_style.specs.declared.line_styles.LineStyle.{LineStyle}
-use Rattle.mad_fit.specs.declared.area.Area.{Area}
-use Rattle.mad_fit.proofs.AllLemmas.{all_front, all_back, all_each}
+use Rattle.mad_measure.specs.declared.area.Area.{Area}
+use Rattle.mad_measure.proofs.AllLemmas.{all_front, all_back, all_each}
 use Rattle.mad_layout.specs.InArea.{ShowsText}
 use Rattle.mad_style.specs.Kinds.{kind_of}
 use Rattle.mad_layout.specs.Premises.{AreJoined, IsPrintableRun, IsPrintableText, IsPrintableContent, KeepsPremises, inner_width, runs_text}

@@ -16,11 +16,11 @@ use Rattle.mad_md.specs.ReadRaw.{raw_runs, unflagged_line}
 use Rattle.mad_md.specs.declared.compound.Compound.{Compound}
 use Rattle.mad_style.specs.LineStyles.{margins_at}
 use Rattle.mad_style.specs.declared.kinds.CompositeKind.TheVariants.{Paragraph}
-use Rattle.mad_fit.specs.TextColumns.{columns, width_of}
-use Rattle.mad_fit.specs.Completions.{left_completion}
-use Rattle.mad_fit.proofs.AllLemmas.{all_push}
-use Rattle.mad_fit.proofs.FlaggedLemmas.{width_of-flagged}
-use Rattle.mad_fit.proofs.AsciiFrontLemmas.{ascii_front_is}
+use Rattle.mad_measure.specs.TextColumns.{columns, width_of}
+use Rattle.mad_measure.specs.Completions.{left_completion}
+use Rattle.mad_measure.proofs.AllLemmas.{all_push}
+use Rattle.mad_measure.proofs.FlaggedLemmas.{width_of-flagged}
+use Rattle.mad_measure.proofs.AsciiFrontLemmas.{ascii_front_is}
 use Rattle.mad_term.specs.Styles.{IsUnstyled}
 use Rattle.mad_term.specs.Draws.{Refused}
 use Rattle.mad_term.specs.Trace.{Trace, after}

@@ -5,14 +5,14 @@ use Rattle.std.specs.Char.{is_whitespace}
 use Rattle.std.specs.Str.{IsUtf8}
 use Rattle.std.proofs.lemmas.Bool.{false≢true}
 use Rattle.std.proofs.lemmas.List.{map-append}
-use Rattle.mad_columns.specs.Columns.{char_columns}
+use Rattle.mad_characters.specs.Columns.{char_columns}
 use Rattle.mad_screen.specs.Painting.{IsPrinted, IsWhole, IsShown}
 use Rattle.mad_md.specs.Flagged.{Flags, FlaggedChar, Run, flagged, flags_of, run_of, flagged_of, flagged_text, is_blank}
 use Rattle.mad_md.specs.declared.compound.Compound.{Compound}
-use Rattle.mad_fit.specs.Tokens.{StopsBefore, IsAlike, AreTokensFrom, AreTokensOf, flagged_token, token_text, token_run}
-use Rattle.mad_fit.specs.declared.tokens.Token.{Token}
-use Rattle.mad_fit.proofs.AllLemmas.{all_joined, all_front, all_back}
-use Rattle.mad_fit.proofs.TokenTexts.{text_at, some_flagged}
+use Rattle.mad_measure.specs.Tokens.{StopsBefore, IsAlike, AreTokensFrom, AreTokensOf, flagged_token, token_text, token_run}
+use Rattle.mad_measure.specs.declared.tokens.Token.{Token}
+use Rattle.mad_measure.proofs.AllLemmas.{all_joined, all_front, all_back}
+use Rattle.mad_measure.proofs.TokenTexts.{text_at, some_flagged}
 use Rattle.mad_layout.specs.Premises.{AreJoined}
 use Rattle.mad_layout.proofs.SoundLines.{IsSoundRun}
 

@@ -4,11 +4,11 @@ use Rattle.std.specs.List.{AllByRecursion, join_with_byte}
 use Rattle.std.specs.Str.{IsAscii}
 use Rattle.std.proofs.lemmas.Str.{IsUtf8-from_ascii, chars-IsAscii}
 use Rattle.std.proofs.lemmas.Str.Ascii.{IsAscii-cons, IsAscii-nil}
-use Rattle.mad_columns.specs.Columns.{char_columns}
-use Rattle.mad_columns.proofs.CharColumns.{char_columns-ascii}
+use Rattle.mad_characters.specs.Columns.{char_columns}
+use Rattle.mad_characters.proofs.CharColumns.{char_columns-ascii}
 use Rattle.mad_md.specs.Parts.{AreParts, HasNoNewline, line_spans, line_text}
 use Rattle.mad_md.specs.ReadByMarks.{IsParagraphText}
-use Rattle.mad_fit.proofs.AllLemmas.{all_back}
+use Rattle.mad_measure.proofs.AllLemmas.{all_back}
 use Rattle.mad_layout.specs.Sources.{TakesColumns, LinesTakeColumns}
 use Rattle.mad_layout.specs.Words.{words}
 

@@ -17,8 +17,8 @@ use Rattle.mad_screen.specs.Terminal.{after_bytes}
 use Rattle.mad_style.specs.declared.kinds.CompositeKind.{CompositeKind}
 use Rattle.mad_style.specs.declared.kinds.CompositeKind.TheVariants.{Paragraph}
 use Rattle.mad_style.specs.LineStyles.{margins_at}
-use Rattle.mad_fit.specs.TextColumns.{width_of}
-use Rattle.mad_fit.specs.declared.area.Area.{Area}
+use Rattle.mad_measure.specs.TextColumns.{width_of}
+use Rattle.mad_measure.specs.declared.area.Area.{Area}
 use Rattle.mad_draw.specs.DrawnRows.{IsOnScreen, rows_bytes, rows_from}
 use Rattle.mad_draw.specs.Pieces.{RowPiece, PennedChar, AreKnown, penned_chars, spaces}
 use Rattle.mad_draw.proofs.CellLemmas.{cells_of_pieces}
@@ -33,7 +33,7 @@ use Rattle.std.specs.Str.{IsAscii}
 use Rattle.std.proofs.lemmas.Str.{chars-IsAscii, IsUtf8-from_ascii}
 use Rattle.std.proofs.lemmas.Str.Ascii.{IsAscii-cons, IsAscii-nil}
 use Rattle.unicode_width.specs.Width.{char_width}
-use Rattle.mad_columns.specs.Columns.{char_columns}
+use Rattle.mad_characters.specs.Columns.{char_columns}
 use Rattle.mad_draw.specs.PennedCells.{penned_cells, penned_attached}
 use Rattle.mad_format.specs.Indents.{indent}
 use Rattle.mad_format.specs.CompositeWraps.{IsCompositeWrap}

@@ -9,11 +9,11 @@ use Rattle.std.proofs.lemmas.Str.{chars-nil}
 use Rattle.mad_wrap.proofs.CutLemmas.{white_flagged}
 use Rattle.mad_md.specs.Flagged.{FlaggedChar, Flags, is_blank, flagged, run_of, flags_of, flagged_of, flagged_text}
 use Rattle.mad_md.specs.declared.compound.Compound.{Compound}
-use Rattle.mad_fit.specs.TextColumns.{width_of}
-use Rattle.mad_fit.specs.Tokens.{flagged_token, token_run, tokens_text, AreTokensOf}
-use Rattle.mad_fit.specs.declared.tokens.Token.{Token}
-use Rattle.mad_fit.proofs.AllLemmas.{all_front, all_back, all_joined}
-use Rattle.mad_fit.proofs.TokenTexts.{IsHonest, all_honest}
+use Rattle.mad_measure.specs.TextColumns.{width_of}
+use Rattle.mad_measure.specs.Tokens.{flagged_token, token_run, tokens_text, AreTokensOf}
+use Rattle.mad_measure.specs.declared.tokens.Token.{Token}
+use Rattle.mad_measure.proofs.AllLemmas.{all_front, all_back, all_joined}
+use Rattle.mad_measure.proofs.TokenTexts.{IsHonest, all_honest}
 use Rattle.mad_wrap.specs.Breaks.{LineAndGap, lines_and_gaps, AllBlank}
 use Rattle.mad_wrap.specs.CleanCut.{clean_cut, drops_middle, is_white, both_fit}
 use Rattle.mad_wrap.specs.Keeps.{Keeps, AllWhite}

@@ -8,9 +8,9 @@ use Rattle.mad_term.specs.Trace.{Trace}
 use Rattle.mad_term.specs.declared.errors.Error.{Error}
 use Rattle.mad_style.specs.Kinds.{kind_of}
 use Rattle.mad_draw.specs.Pieces.{pieces_bytes}
-use Rattle.mad_fit.specs.TextColumns.{width_of}
+use Rattle.mad_measure.specs.TextColumns.{width_of}
 use Rattle.mad_wrap.specs.WrapLines.{capped}
-use Rattle.mad_ellipsis.specs.Fitted.{IsFitted}
+use Rattle.mad_fitting.specs.Fitted.{IsFitted}
 use Rattle.mad_format.specs.Fitting.{extended}
 use Rattle.mad_format.specs.Indents.{indent}
 use Rattle.mad_format.specs.Wraps.{IsMeasured}

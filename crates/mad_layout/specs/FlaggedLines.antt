@@ -8,8 +8,8 @@ use Rattle.mad_style.specs.LineStyles.{margins_at}
 use Rattle.mad_style.specs.StyledChars.{char_alone}
 use Rattle.mad_style.specs.declared.kinds.CompositeKind.{CompositeKind}
 use Rattle.mad_style.specs.declared.kinds.CompositeKind.TheVariants.{ListItem, OrderedListItem, Quote}
-use Rattle.mad_fit.specs.TextColumns.{width_of}
-use Rattle.mad_fit.specs.Completions.{left_completion}
+use Rattle.mad_measure.specs.TextColumns.{width_of}
+use Rattle.mad_measure.specs.Completions.{left_completion}
 use Rattle.mad_format.specs.Indents.{indent, follow_up}
 use Rattle.mad_format.specs.Lists.{most}
 use Rattle.mad_blocks.specs.LayoutParts.{is_code_kind}

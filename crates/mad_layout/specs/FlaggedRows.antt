@@ -1,9 +1,9 @@
 -- The rows of a line, in the subject's own words: lists of flagged characters.
 use Rattle.std.specs.Prelude.{◌≡◌, ℕ, ◌+◌, ◌<◌, ◌≤◌, Bool, true, ◌&&◌, nat_le, not, List, [], ◌∷◌, ◌++◌, map, length, if◌then◌else◌}
 use Rattle.std.specs.List.{AllByRecursion, flat_map, list_all}
-use Rattle.mad_columns.specs.Columns.{char_columns}
+use Rattle.mad_characters.specs.Columns.{char_columns}
 use Rattle.mad_md.specs.Flagged.{FlaggedChar, is_blank}
-use Rattle.mad_fit.specs.TextColumns.{width_of}
+use Rattle.mad_measure.specs.TextColumns.{width_of}
 use Rattle.mad_wrap.specs.Breaks.{LineAndGap, EndsWithLine, lines_and_gaps}
 use Rattle.mad_wrap.specs.Keeps.{Keeps, AllWhite}
 use Rattle.mad_wrap.specs.Rooms.{token_limit}

@@ -5,9 +5,9 @@ use Rattle.mad_md.specs.Flagged.{FlaggedChar}
 use Rattle.mad_md.specs.Lines.{StyledRuns}
 use Rattle.mad_style.specs.Kinds.{kind_of}
 use Rattle.mad_style.specs.declared.kinds.CompositeKind.{CompositeKind}
-use Rattle.mad_fit.specs.TextColumns.{width_of}
-use Rattle.mad_fit.specs.Completions.{left_completion}
-use Rattle.mad_fit.specs.declared.spacing.Spacing.{Spacing}
+use Rattle.mad_measure.specs.TextColumns.{width_of}
+use Rattle.mad_measure.specs.Completions.{left_completion}
+use Rattle.mad_measure.specs.declared.spacing.Spacing.{Spacing}
 use Rattle.mad_draw.specs.declared.table_rules.RuleChars.{RuleChars}
 use Rattle.mad_layout.specs.FlaggedLines.{skin_char, front_of, marked_parts}
 use Rattle.mad_layout.specs.FlaggedRows.{AreRowsOf}

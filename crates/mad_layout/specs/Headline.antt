@@ -6,7 +6,7 @@ use Rattle.mad_screen.specs.Terminal.{after_bytes}
 use Rattle.mad_term.specs.Trace.{Trace, TookWith}
 use Rattle.mad_md.specs.Lines.{LineContent}
 use Rattle.mad_md.specs.Reading.{IsRead, unread_text}
-use Rattle.mad_fit.specs.declared.area.Area.{Area}
+use Rattle.mad_measure.specs.declared.area.Area.{Area}
 use Rattle.mad_draw.specs.DrawnRows.{IsOnScreen}
 use Rattle.mad_draw.specs.PennedCells.{penned_cells}
 use Rattle.mad_draw.specs.BesideBar.{bar_char, char_cell, columns_beside}

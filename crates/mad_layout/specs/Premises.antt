@@ -8,11 +8,11 @@ use Rattle.mad_md.specs.TypedLines.{IsTypedLine}
 use Rattle.mad_md.specs.Lines.{StyledRuns, LineContent, normal, table_row, table_rule, horizontal_rule}
 use Rattle.mad_style.specs.declared.kinds.CompositeKind.{CompositeKind}
 use Rattle.mad_style.specs.declared.kinds.CompositeKind.TheVariants.{ListItem, OrderedListItem, Quote}
-use Rattle.mad_columns.specs.Columns.{char_columns}
+use Rattle.mad_characters.specs.Columns.{char_columns}
 use Rattle.mad_screen.specs.Painting.{IsPrinted}
 use Rattle.mad_style.specs.Kinds.{kind_of}
 use Rattle.mad_style.specs.StyledChars.{char_alone}
-use Rattle.mad_fit.specs.TextColumns.{width_of}
+use Rattle.mad_measure.specs.TextColumns.{width_of}
 use Rattle.mad_format.specs.Indents.{indent, room_of}
 pub use Rattle.mad_layout.specs.LineTexts.{runs_text, inner_width}
 pub use Rattle.mad_draw.specs.Pieces.{IsColumnChar}

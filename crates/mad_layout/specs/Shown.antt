@@ -1,6 +1,6 @@
 -- What an area shows of lines that were drawn in it.
 use Rattle.std.specs.Prelude.{ℕ, List, drop, length, slice_get, take, Bool, Option, None, if◌then◌else◌}
-use Rattle.mad_fit.specs.declared.area.Area.{Area}
+use Rattle.mad_measure.specs.declared.area.Area.{Area}
 use Rattle.mad_draw.specs.DrawnRows.{rows_bytes, AreRowsShown}
 use Rattle.mad_draw.specs.Pieces.{RowPiece}
 use Rattle.mad_draw.specs.BesideBar.{bar_beside, beside_bar, columns_beside}

@@ -2,7 +2,7 @@
 use Rattle.std.specs.Prelude.{ℕ, ◌+◌, ◌≤◌, List, take, drop, Option, Some, IfSome}
 use Rattle.mad_md.specs.Lines.{LineContent}
 use Rattle.mad_term.specs.Trace.{Trace, TookWith}
-use Rattle.mad_fit.specs.declared.area.Area.{Area}
+use Rattle.mad_measure.specs.declared.area.Area.{Area}
 use Rattle.mad_draw.specs.BesideBar.{IsBarShown, columns_beside}
 use Rattle.mad_draw.specs.declared.scroll_bars.ScrollBar.{ScrollBar}
 use Rattle.mad_blocks.specs.FittingLayouts.{IsFittingLayout}

@@ -2,11 +2,11 @@
 use Rattle.std.specs.Prelude.{ℕ, ◌<◌, List, None}
 use Rattle.std.specs.List.{AllByRecursion}
 use Rattle.std.specs.Str.{chars, IsUtf8}
-use Rattle.mad_columns.specs.Columns.{char_columns}
+use Rattle.mad_characters.specs.Columns.{char_columns}
 use Rattle.mad_md.specs.Parts.{AreParts, line_spans, line_text}
 use Rattle.mad_md.specs.ReadByMarks.{IsParagraphText}
 use Rattle.mad_term.specs.Trace.{Trace, TookWith}
-use Rattle.mad_fit.specs.declared.area.Area.{Area}
+use Rattle.mad_measure.specs.declared.area.Area.{Area}
 use Rattle.mad_layout.specs.InArea.{IsAreaFront}
 use Rattle.mad_layout.specs.Shown.{AreShownIn}
 use Rattle.mad_rows.specs.declared.row_skin.RowSkin.{RowSkin}

@@ -3,7 +3,7 @@ use Rattle.std.specs.Prelude.{◌≡◌, ℕ, false, List, ◌++◌, Option, Som
 use Rattle.std.specs.List.{AllByRecursion}
 use Rattle.mad_md.specs.Lines.{LineContent}
 use Rattle.mad_style.specs.LineStyles.{margins_at}
-use Rattle.mad_fit.specs.Completions.{left_completion}
+use Rattle.mad_measure.specs.Completions.{left_completion}
 use Rattle.mad_term.specs.Styles.{IsUnstyled}
 use Rattle.mad_term.specs.Trace.{Trace}
 use Rattle.mad_term.specs.declared.errors.Error.{Error}

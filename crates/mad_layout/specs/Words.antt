@@ -4,7 +4,7 @@ use Rattle.mad_term.specs.Trace.{Trace}
 use Rattle.mad_screen.specs.Glyph.{Glyph}
 use Rattle.mad_screen.specs.Grid.{plain_pen}
 use Rattle.mad_style.specs.CompoundStyles.{unstyled}
-use Rattle.mad_fit.specs.declared.area.Area.{Area}
+use Rattle.mad_measure.specs.declared.area.Area.{Area}
 use Rattle.mad_draw.specs.DrawnRows.{rows_bytes}
 use Rattle.mad_draw.specs.Pieces.{spaces}
 use Rattle.mad_layout.specs.InArea.{ShowsText}

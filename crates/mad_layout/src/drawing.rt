@@ -2,7 +2,7 @@
 
 ghost use Rattle.std.specs.Prelude.{◌≡◌, OnOk, drop};
 ghost use Rattle.mad_term.specs.Draws.{Draws};
-ghost use Rattle.mad_fit.specs.Areas.{IsWithinLimits};
+ghost use Rattle.mad_measure.specs.Areas.{IsWithinLimits};
 ghost use Rattle.mad_layout.specs.ShownBeside.{ShowsDrawableBeside, ShowsLayoutBeside, beside_bytes};
 ghost use Rattle.mad_layout.specs.ShownLayouts.{ShowsDrawable, ShowsLayout, ShowsRowsFrom};
 ghost use Rattle.mad_layout.specs.Shown.{area_bytes, text_bar};
@@ -10,8 +10,8 @@ ghost use Rattle.mad_layout.specs.RowSkins.{row_skin};
 
 use crate::fmt_text::FmtText;
 use mad_draw::{Rows, RowsBeside, ScrollBar, columns_beside, draw_rows, draw_rows_beside};
-use mad_fit::Area;
 use mad_format::FmtLine;
+use mad_measure::Area;
 use mad_rows::{RowSkin, TextRows};
 use mad_term::{Error, Out};
 use std::alloc::Global;

@@ -11,9 +11,9 @@ ghost use Rattle.mad_layout.specs.RowSkins.{row_skin};
 
 use crate::skin::MadSkin;
 use mad_blocks::{lay_front, lay_source, lay_text};
-use mad_fit::Area;
 use mad_format::FmtLine;
 use mad_md::Text;
+use mad_measure::Area;
 use mad_rows::PlacedLines;
 use std::alloc::{AllocError, Global};
 use std::fmt::{self, Display};

@@ -19,7 +19,7 @@ pub use mad_blocks::laws::{
     other_tables_are_refused, passes_are_parts, rules_elsewhere_are_refused, worked_tables,
     wrong_layouts,
 };
-use mad_fit::Area;
+use mad_measure::Area;
 use mad_screen::{CutOut, Screen};
 use mad_term::Error;
 use std::alloc::Global;

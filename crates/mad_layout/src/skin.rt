@@ -138,7 +138,7 @@ fn default_quote_mark() -> StyledChar
 
 impl MadSkin {
     ghost use Rattle.mad_md.specs.Flagged.{flagged_text};
-    ghost use Rattle.mad_fit.specs.TextColumns.{width_of};
+    ghost use Rattle.mad_measure.specs.TextColumns.{width_of};
     ghost use Rattle.mad_format.specs.Indents.{indent};
     ghost use Rattle.mad_layout.specs.Skins.{no_style_skin};
     ghost use Rattle.mad_rows.specs.RowStyles.{line_style, ordered_item_style};

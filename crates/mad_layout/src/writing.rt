@@ -3,7 +3,7 @@
 ghost use Rattle.std.specs.Prelude.{◌≡◌, ◌≤◌, IsErrOf, OnOk};
 ghost use Rattle.mad_term.specs.Draws.{Draws, AndFlushes};
 ghost use Rattle.mad_term.specs.declared.errors.Error.TheVariants.{Memory};
-ghost use Rattle.mad_fit.specs.Areas.{IsWithinLimits};
+ghost use Rattle.mad_measure.specs.Areas.{IsWithinLimits};
 ghost use Rattle.mad_layout.specs.Headline.{ShowsHeadline};
 ghost use Rattle.mad_layout.specs.InArea.{WritesInArea, ShowsText};
 ghost use Rattle.mad_layout.specs.Inlines.{WritesInline};
@@ -13,8 +13,8 @@ ghost use Rattle.mad_layout.specs.RowSkins.{row_skin};
 
 use crate::drawing::draw_text;
 use crate::skin::MadSkin;
-use mad_fit::Area;
 use mad_md::Composite;
+use mad_measure::Area;
 use mad_rows::FreeComposite;
 use mad_style::CompositeKind;
 use mad_term::{Error, Out, put_displayed};

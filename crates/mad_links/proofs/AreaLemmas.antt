@@ -21,8 +21,8 @@ use Rattle.mad_screen.proofs.RowLoops.{drawing-append}
 use Rattle.mad_draw.specs.Parts.{parts_bytes}
 use Rattle.mad_links.specs.Pieces.{piece_of}
 use Rattle.mad_links.specs.declared.rows.LinkPiece.{LinkPiece}
-use Rattle.mad_fit.specs.Areas.{IsWithinLimits}
-use Rattle.mad_fit.specs.declared.area.Area.{Area}
+use Rattle.mad_measure.specs.Areas.{IsWithinLimits}
+use Rattle.mad_measure.specs.declared.area.Area.{Area}
 use Rattle.mad_draw.specs.DrawnRows.{rows_bytes, rows_from, IsOnScreen, FillArea}
 use Rattle.mad_draw.specs.Pieces.{RowPiece, AreKnown, AreShownPieces, FillsRow, PennedChar, penned_chars, pieces_bytes, spaces}
 use Rattle.mad_draw.proofs.CharLemmas.{penned_both}

@@ -6,7 +6,7 @@ use Rattle.std.proofs.lemmas.Bool.Decides.{nat_tests}
 use Rattle.std.proofs.lemmas.Fmt.{decimal_by_steps}
 use Rattle.std.proofs.lemmas.List.Sums.{sum_by-cons}
 use Rattle.unicode_width.specs.Width.{char_width}
-use Rattle.mad_columns.specs.Columns.{char_columns}
+use Rattle.mad_characters.specs.Columns.{char_columns}
 use Rattle.mad_term.specs.Commands.{command_bytes, numbers_bytes, move_to_bytes}
 use Rattle.mad_screen.specs.Grid.{Grid, painted, glyphs}
 use Rattle.mad_screen.specs.Terminal.{Outside, Escape, Reading, feed, feed_all, Leads, resting, numbers, put, put_wide, join_at, head_before, perform, with_digit, end_number, is_digit, row_start}

@@ -3,7 +3,7 @@ use Rattle.std.proofs.Common.{◌≡◌, ◌⊎◌, ⊎_elim, ℕ, suc, ◌+◌,
 use Rattle.std.specs.Prelude.{unwrap_or}
 use Rattle.std.specs.List.{AllByRecursion}
 use Rattle.unicode_width.specs.Width.{char_width}
-use Rattle.mad_columns.specs.Columns.{char_columns}
+use Rattle.mad_characters.specs.Columns.{char_columns}
 use Rattle.mad_term.specs.Commands.{move_to_bytes}
 use Rattle.mad_screen.specs.Grid.{Grid, painted, glyphs}
 use Rattle.mad_screen.specs.Terminal.{put, put_wide, perform, erased, erase_screen, erase_row, row_start, row_end, screen_end}

@@ -6,8 +6,8 @@ use Rattle.mad_screen.specs.Grid.{Grid, IsGrid, plain_pen}
 use Rattle.mad_screen.specs.Terminal.{after_bytes}
 use Rattle.mad_screen.specs.Drawing.{ShowsRows}
 use Rattle.mad_draw.specs.PennedCells.{penned_cells}
-use Rattle.mad_fit.specs.declared.area.Area.{Area}
-use Rattle.mad_fit.specs.Areas.{IsWithinLimits}
+use Rattle.mad_measure.specs.declared.area.Area.{Area}
+use Rattle.mad_measure.specs.Areas.{IsWithinLimits}
 use Rattle.mad_draw.specs.DrawnRows.{rows_bytes, FillArea, IsOnScreen}
 use Rattle.mad_draw.specs.Pieces.{RowPiece, AreKnown, penned_chars, pieces_bytes}
 use Rattle.mad_format.specs.declared.composite.FmtComposite.{FmtComposite}

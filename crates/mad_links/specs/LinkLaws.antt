@@ -3,7 +3,7 @@ use Rattle.std.specs.Prelude.{◌≡◌, ◌≢◌, ◌⊎◌, true, false, ℕ,
 use Rattle.std.specs.List.{AllByRecursion}
 use Rattle.std.specs.Str.{chars, IsUtf8}
 use Rattle.unicode_width.specs.Width.{char_width}
-use Rattle.mad_columns.specs.Columns.{char_columns}
+use Rattle.mad_characters.specs.Columns.{char_columns}
 use Rattle.mad_term.specs.Commands.{command_bytes}
 use Rattle.mad_screen.specs.Grid.{Grid, painted, glyphs}
 use Rattle.mad_screen.specs.Terminal.{after_bytes, perform, erased, put}

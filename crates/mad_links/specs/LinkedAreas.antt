@@ -4,7 +4,7 @@ use Rattle.mad_term.specs.Commands.{move_to_bytes}
 use Rattle.std.specs.Borrow.{Bor}
 use Rattle.mad_screen.specs.Drawing.{drawing}
 use Rattle.mad_screen.specs.Grid.{plain_pen}
-use Rattle.mad_fit.specs.declared.area.Area.{Area}
+use Rattle.mad_measure.specs.declared.area.Area.{Area}
 use Rattle.mad_draw.specs.DrawnRows.{IsOnScreen}
 use Rattle.mad_draw.specs.Pieces.{RowPiece}
 use Rattle.mad_links.specs.Pieces.{piece_of}

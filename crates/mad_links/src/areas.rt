@@ -3,7 +3,7 @@
 ghost use Rattle.std.specs.Prelude.{◌≡◌, ℕ, List, Option, ◌++◌, ◌+◌, ◌^◌, ◌<◌, OnOk, map, slice_get, string_bytes};
 ghost use Rattle.mad_term.specs.Draws.{Draws};
 ghost use Rattle.mad_term.specs.Trace.{TookWith};
-ghost use Rattle.mad_fit.specs.Areas.{IsWithinLimits};
+ghost use Rattle.mad_measure.specs.Areas.{IsWithinLimits};
 ghost use Rattle.mad_draw.specs.DrawnRows.{FillArea};
 ghost use Rattle.mad_draw.specs.Pieces.{AreKnown};
 ghost use Rattle.mad_links.specs.Pieces.{piece_of};
@@ -14,7 +14,7 @@ ghost use Rattle.mad_links.specs.LinkedAreas.{AreLinkedRowsShown, given_pieces, 
 use crate::addresses::LinkAddress;
 use crate::rows::{LinkPiece, know_addresses, know_style, push_linked};
 use mad_draw::{Parts, put_parts};
-use mad_fit::Area;
+use mad_measure::Area;
 use mad_term::{Error, Out, push_move};
 use std::alloc::{AllocError, Global};
 

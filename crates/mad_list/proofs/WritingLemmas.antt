@@ -9,7 +9,7 @@ use Rattle.mad_term.specs.declared.errors.Error.{Error}
 use Rattle.mad_term.specs.declared.errors.Error.TheVariants.{IO}
 use Rattle.mad_term.proofs.Exits.{flushing_refused}
 use Rattle.mad_term.proofs.Traces.{flush_failed, took_with}
-use Rattle.mad_fit.specs.Areas.{IsWithinLimits}
+use Rattle.mad_measure.specs.Areas.{IsWithinLimits}
 use Rattle.mad_list_columns.specs.Drawing.{DrawnRow}
 use Rattle.mad_list_columns.specs.Shown.{IsKnownLook, IsListShown}
 use Rattle.mad_list_columns.specs.Writing.{HasList}

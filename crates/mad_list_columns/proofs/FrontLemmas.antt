@@ -8,8 +8,8 @@ use Rattle.std.proofs.StrCases.{chars_of_empty}
 use Rattle.std.proofs.lemmas.Bool.Decides.{nat_tests}
 use Rattle.std.proofs.lemmas.List.{length-drop, take_at}
 use Rattle.std.proofs.lemmas.Str.{IsCharBoundary-from_drop, IsUtf8-past_char, chars_past_char, drop_past_char, length-encode}
-use Rattle.mad_columns.specs.Columns.{char_columns}
-use Rattle.mad_fit.specs.TextColumns.{columns}
+use Rattle.mad_characters.specs.Columns.{char_columns}
+use Rattle.mad_measure.specs.TextColumns.{columns}
 use Rattle.mad_list_columns.specs.Places.{front_within}
 
 -- The first bytes of the text are characters that there was room for; there is `room` left for `rest`, which comes after them.

@@ -8,14 +8,14 @@ use Rattle.std.proofs.lemmas.Bool.Decides.{nat_tests}
 use Rattle.std.proofs.lemmas.List.{length-replicate, take_all}
 use Rattle.std.proofs.lemmas.List.Sums.{sum_by-cons}
 use Rattle.std.proofs.lemmas.Str.{chars-append, chars-encodes, chars-IsAscii, encodes-chars, IsUtf8-append, IsUtf8-encode, IsUtf8-from_ascii, IsUtf8-nil, scalars-chars}
-use Rattle.mad_columns.specs.Columns.{char_columns}
+use Rattle.mad_characters.specs.Columns.{char_columns}
 use Rattle.mad_md.specs.declared.alignment.Alignment.{Alignment}
 use Rattle.mad_md.specs.declared.alignment.Alignment.TheVariants as aligns
 use Rattle.mad_screen.specs.Painting.{IsPrinted, IsWhole, IsShown}
 use Rattle.mad_screen.proofs.Paints.{shown_both}
-use Rattle.mad_fit.specs.Completions.{Completes, left_completion}
-use Rattle.mad_fit.specs.TextColumns.{columns}
-use Rattle.mad_fit.specs.declared.spacing.Spacing.{Spacing}
+use Rattle.mad_measure.specs.Completions.{Completes, left_completion}
+use Rattle.mad_measure.specs.TextColumns.{columns}
+use Rattle.mad_measure.specs.declared.spacing.Spacing.{Spacing}
 use Rattle.mad_draw.proofs.BorderLemmas.{space_column}
 use Rattle.mad_draw.proofs.ColumnChars.{printed_char}
 use Rattle.mad_draw.proofs.PieceLemmas.{ascii_spaces}

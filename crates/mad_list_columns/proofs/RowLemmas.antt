@@ -12,8 +12,8 @@ use Rattle.mad_term.specs.Styles.{IsStyle, piece_bytes}
 use Rattle.mad_screen.specs.Drawing.{drawing}
 use Rattle.mad_screen.proofs.RowLoops.{drawing-append}
 use Rattle.mad_style.specs.declared.compound_styles.CompoundStyle.{CompoundStyle}
-use Rattle.mad_fit.specs.declared.area.Area.{Area}
-use Rattle.mad_fit.proofs.AllLemmas.{all_push}
+use Rattle.mad_measure.specs.declared.area.Area.{Area}
+use Rattle.mad_measure.proofs.AllLemmas.{all_push}
 use Rattle.mad_draw.specs.declared.scroll_bars.ScrollBar.{ScrollBar}
 use Rattle.mad_list_rows.specs.declared.list_rows.ListRow.{ListRow}
 use Rattle.mad_list_rows.specs.Selecting.{first_from}

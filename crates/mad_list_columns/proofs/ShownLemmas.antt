@@ -12,7 +12,7 @@ use Rattle.std.proofs.lemmas.List.Sums.{sum_by-cons}
 use Rattle.std.proofs.lemmas.Option.{slice_get_within}
 use Rattle.unicode_width.specs.Width.{char_width}
 use Rattle.unicode_width.proofs.Computing.{unicode_width}
-use Rattle.mad_columns.specs.Columns.{char_columns}
+use Rattle.mad_characters.specs.Columns.{char_columns}
 use Rattle.mad_md.specs.declared.alignment.Alignment.TheVariants.{Center}
 use Rattle.mad_term.specs.Commands.{move_to_bytes}
 use Rattle.mad_term.specs.Styles.{IsStyle}
@@ -25,8 +25,8 @@ use Rattle.mad_style.specs.Repeats.{styled_char_bytes}
 use Rattle.mad_style.specs.StyledChars.{char_alone, char_style, styled_char}
 use Rattle.mad_style.specs.declared.compound_styles.CompoundStyle.{CompoundStyle}
 use Rattle.mad_style.specs.declared.styled_chars.StyledChar.{StyledChar}
-use Rattle.mad_fit.specs.Areas.{IsWithinLimits}
-use Rattle.mad_fit.specs.declared.area.Area.{Area}
+use Rattle.mad_measure.specs.Areas.{IsWithinLimits}
+use Rattle.mad_measure.specs.declared.area.Area.{Area}
 use Rattle.mad_draw.specs.BesideBar.{bar_char, char_cell, IsBarShown}
 use Rattle.mad_draw.specs.Pieces.{IsColumnChar, IsColumnPiece, char_piece}
 use Rattle.mad_draw.specs.declared.scroll_bars.ScrollBar.{ScrollBar}

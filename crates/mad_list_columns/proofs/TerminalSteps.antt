@@ -18,8 +18,8 @@ use Rattle.mad_screen.proofs.Paints.{read_leads}
 use Rattle.mad_screen.proofs.PutList.{length-put_list}
 use Rattle.mad_screen.proofs.Reading.{letter_row, nothing_leads}
 use Rattle.mad_screen.proofs.ReadingBack.{read_in_turn}
-use Rattle.mad_fit.specs.Areas.{IsWithinLimits}
-use Rattle.mad_fit.specs.declared.area.Area.{Area}
+use Rattle.mad_measure.specs.Areas.{IsWithinLimits}
+use Rattle.mad_measure.specs.declared.area.Area.{Area}
 use Rattle.mad_draw.specs.DrawnRows.{IsOnScreen}
 use Rattle.mad_list_columns.specs.Shown.{from_column}
 

@@ -7,7 +7,7 @@ use Rattle.mad_screen.specs.Glyph.{Glyph, Look}
 use Rattle.mad_screen.specs.Painting.{cells_of, piece_cells, Paints, look_of_style}
 use Rattle.mad_screen.proofs.PaintingLemmas.{length-cells_of}
 use Rattle.mad_screen.proofs.Paints.{paints_nothing, paints_both, paints_piece}
-use Rattle.mad_fit.specs.TextColumns.{columns}
+use Rattle.mad_measure.specs.TextColumns.{columns}
 use Rattle.mad_list_columns.specs.Drawing.{separated}
 use Rattle.mad_list_columns.proofs.PlaceLemmas.{ShowsWithin, columns_sum}
 

@@ -1,10 +1,10 @@
 -- Texts in the place that a column has for them.
 use Rattle.std.specs.Prelude.{◌≡◌, ℕ, ◌-◌, List, [], ◌∷◌, ◌++◌, length, nat_le, chars, encode_utf8_all, replicate, if◌then◌else◌}
 use Rattle.std.specs.Str.{IsUtf8}
-use Rattle.mad_columns.specs.Columns.{char_columns}
-use Rattle.mad_fit.specs.Completions.{left_completion}
-use Rattle.mad_fit.specs.TextColumns.{columns}
-use Rattle.mad_fit.specs.declared.spacing.Spacing.{Spacing}
+use Rattle.mad_characters.specs.Columns.{char_columns}
+use Rattle.mad_measure.specs.Completions.{left_completion}
+use Rattle.mad_measure.specs.TextColumns.{columns}
+use Rattle.mad_measure.specs.declared.spacing.Spacing.{Spacing}
 use Rattle.mad_draw.specs.SpacedTexts.{spaced_text}
 use Rattle.mad_list_columns.specs.declared.columns.CellMeasure.{CellMeasure}
 use Rattle.mad_list_columns.specs.declared.columns.CellMeasure.TheVariants.{Characters, Columns}

@@ -4,7 +4,7 @@ use Rattle.std.specs.List.{AllByRecursion, flat_map, sum_by}
 use Rattle.std.specs.Option.{option_or}
 use Rattle.std.specs.Str.{chars, IsUtf8}
 use Rattle.std.specs.declared.alloc.AllocError.{AllocError}
-use Rattle.mad_columns.specs.Columns.{char_columns}
+use Rattle.mad_characters.specs.Columns.{char_columns}
 use Rattle.mad_term.specs.Styles.{IsStyle}
 use Rattle.mad_screen.specs.Drawing.{IsOutside}
 use Rattle.mad_screen.specs.Glyph.{Glyph}
@@ -13,8 +13,8 @@ use Rattle.mad_screen.specs.Painting.{IsShown, piece_cells}
 use Rattle.mad_screen.specs.Terminal.{after_bytes}
 use Rattle.mad_style.specs.StyledChars.{char_style, styled_char}
 use Rattle.mad_style.specs.declared.compound_styles.CompoundStyle.{CompoundStyle}
-use Rattle.mad_fit.specs.Areas.{IsWithinLimits}
-use Rattle.mad_fit.specs.declared.area.Area.{Area}
+use Rattle.mad_measure.specs.Areas.{IsWithinLimits}
+use Rattle.mad_measure.specs.declared.area.Area.{Area}
 use Rattle.mad_draw.specs.BesideBar.{IsBarShown, bar_char, char_cell}
 use Rattle.mad_draw.specs.DrawnRows.{IsOnScreen}
 use Rattle.mad_draw.specs.declared.scroll_bars.ScrollBar.{ScrollBar}

@@ -4,7 +4,7 @@ use Rattle.std.specs.List.{range_with_len}
 use Rattle.std.specs.declared.alloc.AllocError.{AllocError}
 use Rattle.mad_screen.specs.Drawing.{drawing}
 use Rattle.mad_style.specs.declared.compound_styles.CompoundStyle.{CompoundStyle}
-use Rattle.mad_fit.specs.declared.area.Area.{Area}
+use Rattle.mad_measure.specs.declared.area.Area.{Area}
 use Rattle.mad_list_rows.specs.States.{ListState}
 use Rattle.mad_list_rows.specs.declared.list_rows.ListRow.{ListRow}
 use Rattle.mad_list_columns.specs.Cells.{AreCells, DrawnCell, IsMadeCell, ShownCell}

@@ -1,10 +1,10 @@
 //! The front of a text that some columns have room for.
 
 ghost use Rattle.std.specs.Prelude.{◌≡◌, chars, encode_utf8_all};
-ghost use Rattle.mad_fit.specs.TextColumns.{columns};
+ghost use Rattle.mad_measure.specs.TextColumns.{columns};
 ghost use Rattle.mad_list_columns.specs.Places.{front_within};
 
-use mad_columns::char_columns;
+use mad_characters::char_columns;
 
 /// The characters at the front of a text for which `most` columns have room, and how many columns they take. One pass over them.
 pub(crate) fn first_columns(text: &str, most: usize) -> (&str, usize)

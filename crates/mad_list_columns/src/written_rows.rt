@@ -2,7 +2,7 @@
 
 ghost use Rattle.std.specs.Prelude.{◌≡◌, ◌++◌, ◌+◌, ◌<◌, IfOk, OnOk, drop, slice_get, string_bytes};
 ghost use Rattle.mad_term.specs.Styles.{IsStyle};
-ghost use Rattle.mad_fit.specs.Areas.{IsWithinLimits};
+ghost use Rattle.mad_measure.specs.Areas.{IsWithinLimits};
 ghost use Rattle.mad_list_columns.specs.Drawing.{bar_bytes, between_cells, cell_style, shown_from};
 ghost use Rattle.mad_list_columns.specs.Writing.{HasCell, HasCells, HasRow};
 
@@ -10,8 +10,8 @@ use crate::cells::CellExtract;
 use crate::columns::ListViewColumn;
 use crate::spaced_texts::push_spaced;
 use mad_draw::ScrollBar;
-use mad_fit::Area;
 use mad_list_rows::{ListRows, RowFilter, RowOrder};
+use mad_measure::Area;
 use mad_style::{CompoundStyle, gray};
 use mad_term::{ClearType, push_background, push_clear, push_move};
 use std::alloc::{AllocError, Global};

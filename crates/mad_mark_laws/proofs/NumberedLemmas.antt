@@ -5,7 +5,7 @@ use Rattle.std.specs.List.{flat_map}
 use Rattle.mad_md.specs.Flagged.{Flags}
 use Rattle.mad_md.specs.Lines.{LineContent}
 use Rattle.mad_style.specs.declared.kinds.CompositeKind.{CompositeKind}
-use Rattle.mad_fit.specs.declared.spacing.Spacing.{Spacing}
+use Rattle.mad_measure.specs.declared.spacing.Spacing.{Spacing}
 use Rattle.mad_format.specs.CompositeWraps.{IsCompositeWrap}
 use Rattle.mad_format.specs.LineRules.{LineRules}
 use Rattle.mad_format.specs.declared.composite.FmtComposite.{FmtComposite}

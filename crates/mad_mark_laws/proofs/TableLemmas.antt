@@ -3,7 +3,7 @@ use Rattle.std.proofs.Common.{◌≡◌, ℕ, suc, ◌+◌, ◌≤◌, Bool, Lis
 use Rattle.std.specs.List.{AllByRecursion, flat_map}
 use Rattle.mad_md.specs.Flagged.{Flags, flagged_text}
 use Rattle.mad_style.specs.declared.kinds.CompositeKind.{CompositeKind}
-use Rattle.mad_fit.specs.declared.spacing.Spacing.{Spacing}
+use Rattle.mad_measure.specs.declared.spacing.Spacing.{Spacing}
 use Rattle.mad_wrap.proofs.WrapModes.{by_keeps}
 use Rattle.mad_format.specs.CompositeWraps.{IsCompositeWrap, line_compounds, HaveKinds}
 use Rattle.mad_format.specs.Indents.{follow_up, room_of}

@@ -1,7 +1,7 @@
 -- A text with marks, all of which is counted that isn't blank: its parts of one mark each, as pieces.
 use Rattle.std.specs.Prelude.{◌≡◌, ℕ, suc, ◌+◌, ◌≤◌, ◌==◌, ◌||◌, Bool, List, [], ◌∷◌, ◌++◌, map, encode_utf8_all, if◌then◌else◌}
 use Rattle.std.specs.Char.{is_whitespace}
-use Rattle.mad_columns.specs.Columns.{char_columns}
+use Rattle.mad_characters.specs.Columns.{char_columns}
 use Rattle.mad_term.specs.declared.styles.ContentStyle.{ContentStyle}
 use Rattle.mad_draw.specs.Pieces.{RowPiece}
 use Rattle.mad_mark_runs.specs.Marks.{value_at, blank_value}

@@ -7,9 +7,9 @@ ghost use Rattle.mad_style.specs.StyledChars.{styled_char};
 ghost use Rattle.mad_wrap.specs.WrapLines.{capped};
 
 use mad_draw::{SingleSpaces, Spaces};
-use mad_fit::Spacing;
 use mad_format::{FmtComposite, indent_of};
 use mad_md::Alignment;
+use mad_measure::Spacing;
 use mad_rows::{RowPlace, RowSkin};
 use mad_style::{CompositeKind, LineStyle, StyledChar};
 use mad_term::StyledNumber;

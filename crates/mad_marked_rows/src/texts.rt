@@ -9,7 +9,7 @@ ghost use Rattle.mad_marked_rows.specs.Paints.{paint_by};
 use crate::cursors::MarkCursor;
 use crate::links::mark_link;
 use crate::paints::Paint;
-use mad_columns::char_columns;
+use mad_characters::char_columns;
 use mad_links::{LinkAddress, push_change};
 use mad_term::{ContentStyle, closing_text};
 use std::alloc::AllocError;

@@ -10,7 +10,7 @@ use Rattle.mad_style.specs.declared.kinds.CompositeKind.{CompositeKind}
 use Rattle.mad_style.specs.declared.kinds.CompositeKind.TheVariants.{Paragraph, Header, ListItem, ListItemFollowUp, OrderedListItem, OrderedListItemFollowUp, Code, Quote}
 use Rattle.mad_style.specs.declared.line_styles.LineStyle.{LineStyle}
 use Rattle.mad_style.specs.OrderedItems.{ordered_indent}
-use Rattle.mad_fit.specs.TextColumns.{columns}
+use Rattle.mad_measure.specs.TextColumns.{columns}
 use Rattle.mad_draw.specs.Pieces.{RowPiece, IsShownPiece, AreShownPieces, pieces_columns, single_spaces}
 use Rattle.mad_format.specs.Indents.{later_indent}
 use Rattle.mad_format.specs.declared.composite.FmtComposite.{FmtComposite}

@@ -9,16 +9,16 @@ use Rattle.std.proofs.lemmas.Str.Ascii.{IsAscii-cons, IsAscii-nil}
 use Rattle.std.proofs.Math.Utf8.{encode}
 use Rattle.unicode_width.specs.Width.{char_width}
 use Rattle.unicode_width.proofs.Computing.{unicode_width}
-use Rattle.mad_columns.specs.Columns.{char_columns}
-use Rattle.mad_columns.proofs.CharColumns.{char_columns-ascii}
+use Rattle.mad_characters.specs.Columns.{char_columns}
+use Rattle.mad_characters.proofs.CharColumns.{char_columns-ascii}
 use Rattle.mad_screen.specs.Painting.{IsShown}
 use Rattle.std.proofs.lemmas.List.Concat.{flat_map-append}
 use Rattle.mad_screen.specs.Glyph.{Glyph}
 use Rattle.mad_screen.specs.Painting.{piece_cells}
 use Rattle.mad_style.specs.StyledChars.{char_style, char_alone, styled_char}
 use Rattle.mad_style.specs.declared.compound_styles.CompoundStyle.{CompoundStyle}
-use Rattle.mad_fit.specs.TextColumns.{columns}
-use Rattle.mad_fit.proofs.AllLemmas.{all_joined}
+use Rattle.mad_measure.specs.TextColumns.{columns}
+use Rattle.mad_measure.proofs.AllLemmas.{all_joined}
 use Rattle.mad_draw.specs.Pieces.{RowPiece, IsColumnChar, IsColumnPiece, IsShownPiece, AreShownPieces, FillsRow, pieces_columns, penned_chars, char_piece, spaces}
 use Rattle.mad_draw.specs.PennedCells.{penned_cells}
 use Rattle.mad_draw.proofs.CellLemmas.{cells_of_pieces}

@@ -2,7 +2,7 @@
 use Rattle.std.proofs.Common.{◌≡◌, ℕ, zero, suc, ◌+◌, ◌-◌, ◌^◌, ◌<◌, ◌≤◌, Bool, true, List, [], ◌∷◌, length, take, Some, sym, subst, arith}
 use Rattle.std.proofs.Math.Seq.{take-length}
 use Rattle.std.specs.List.{AllByRecursion}
-use Rattle.mad_fit.proofs.AllLemmas.{all_joined, all_front, all_back}
+use Rattle.mad_measure.proofs.AllLemmas.{all_joined, all_front, all_back}
 use Rattle.mad_md.specs.Lines.{LineContent}
 use Rattle.mad_format.specs.declared.line.FmtLine.{FmtLine}
 use Rattle.mad_draw.specs.Pieces.{FillsRow}

@@ -11,18 +11,18 @@ use Rattle.mad_term.specs.declared.errors.Error.{Error}
 use Rattle.mad_term.specs.declared.errors.Error.TheVariants.{IO}
 use Rattle.mad_hits.proofs.TookLemmas.{known, took_so}
 use Rattle.mad_term.proofs.Traces.{took_both, cut_in_first, cut_in_second, flush_failed}
-use Rattle.mad_fit.specs.Areas.{IsWithinLimits}
-use Rattle.mad_fit.specs.declared.area.Area.{Area}
+use Rattle.mad_measure.specs.Areas.{IsWithinLimits}
+use Rattle.mad_measure.specs.declared.area.Area.{Area}
 use Rattle.mad_draw.specs.BarsApart.{AreShownBeside}
 use Rattle.mad_draw.specs.BesideBar.{columns_beside}
-use Rattle.mad_columns.specs.Columns.{char_columns}
-use Rattle.mad_fit.proofs.AllLemmas.{all_each}
-use Rattle.mad_lines.specs.TextLines.{is_newline}
+use Rattle.mad_characters.specs.Columns.{char_columns}
+use Rattle.mad_measure.proofs.AllLemmas.{all_each}
+use Rattle.mad_edit_lines.specs.TextLines.{is_newline}
 use Rattle.mad_field.specs.Shown.{IsShowable}
 use Rattle.mad_draw.specs.DrawnRows.{AreRowsShown, FillArea}
 use Rattle.mad_draw.specs.Pieces.{IsColumnChar}
 use Rattle.mad_draw.proofs.CharLemmas.{single_columns, single_shown}
-use Rattle.mad_columns.proofs.CharColumns.{char_columns-ascii}
+use Rattle.mad_characters.proofs.CharColumns.{char_columns-ascii}
 use Rattle.mad_style.specs.CompoundStyles.{unstyled}
 use Rattle.mad_style.specs.StyledChars.{styled_char}
 use Rattle.mad_draw.specs.Panes.{Pane, AreApart, ArePanesShown}

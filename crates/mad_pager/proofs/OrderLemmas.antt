@@ -5,7 +5,7 @@ use Rattle.std.proofs.lemmas.List.{take-append-drop}
 use Rattle.std.proofs.lemmas.Bool.{cases_eq}
 use Rattle.std.proofs.lemmas.Bool.Decides.{nat_tests}
 use Rattle.mad_md.specs.Lines.{LineContent}
-use Rattle.mad_columns.specs.Columns.{char_columns}
+use Rattle.mad_characters.specs.Columns.{char_columns}
 use Rattle.mad_term.specs.declared.events.Event.{Event}
 use Rattle.mad_term.specs.declared.events.Event.TheVariants.{Key, Mouse, Resize, FocusGained, FocusLost}
 use Rattle.mad_term.specs.declared.keys.KeyCode.{KeyCode}
@@ -15,9 +15,9 @@ use Rattle.mad_term.specs.declared.mouse.MouseEventKind.{MouseEventKind}
 use Rattle.mad_term.specs.declared.mouse.MouseButton.TheVariants as button
 use Rattle.mad_term.specs.declared.mouse.MouseEventKind.TheVariants as mouse
 use Rattle.mad_term.specs.Events.{modifier_bits}
-use Rattle.mad_fit.specs.declared.area.Area.{Area}
-use Rattle.mad_fit.proofs.AllLemmas.{all_front, all_back, all_joined}
-use Rattle.mad_lines.specs.TextLines.{is_accepted, accepted, lines}
+use Rattle.mad_measure.specs.declared.area.Area.{Area}
+use Rattle.mad_measure.proofs.AllLemmas.{all_front, all_back, all_joined}
+use Rattle.mad_edit_lines.specs.TextLines.{is_accepted, accepted, lines}
 use Rattle.mad_edit.specs.Editor.{Editor, cursor_line, replaced, without}
 use Rattle.mad_field.specs.Fields.{Field}
 use Rattle.mad_field.specs.Edits.{Outcome, edited, edited_if, is_wide, moved_down, moved_to_line, moved_up}

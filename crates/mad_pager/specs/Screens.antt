@@ -5,7 +5,7 @@ use Rattle.std.specs.Str.{chars}
 use Rattle.mad_md.specs.Flagged.{flagged, flagged_of, unflagged}
 use Rattle.mad_md.specs.Lines.{LineContent}
 use Rattle.mad_md.specs.declared.alignment.Alignment.TheVariants.{Left}
-use Rattle.mad_fit.specs.TextColumns.{width_of}
+use Rattle.mad_measure.specs.TextColumns.{width_of}
 use Rattle.mad_style.specs.CompoundStyles.{attribute_added, unstyled}
 use Rattle.mad_style.specs.StyledChars.{styled_char}
 use Rattle.mad_style.specs.declared.kinds.CompositeKind.TheVariants.{Paragraph}
@@ -24,7 +24,7 @@ use Rattle.mad_term.specs.Trace.{Trace, after, flushed, CutShort}
 use Rattle.mad_term.specs.declared.attribute.Attribute.TheVariants.{Reverse}
 use Rattle.mad_term.specs.declared.errors.Error.{Error}
 use Rattle.mad_term.specs.declared.errors.Error.TheVariants.{IO, InsufficientWidth, Memory}
-use Rattle.mad_fit.specs.declared.area.Area.{Area}
+use Rattle.mad_measure.specs.declared.area.Area.{Area}
 use Rattle.mad_format.specs.declared.line.FmtLine.{FmtLine}
 use Rattle.mad_draw.specs.BarsApart.{AreShownBeside}
 use Rattle.mad_draw.specs.BesideBar.{bar_beside, columns_beside, IsBarShown}
@@ -40,7 +40,7 @@ use Rattle.mad_layout.specs.Shown.{area_row, text_row}
 use Rattle.mad_layout.specs.declared.skin.MadSkin.{MadSkin}
 use Rattle.mad_rows.specs.declared.row_skin.RowSkin.{RowSkin}
 use Rattle.std.specs.List.{AllByRecursion}
-use Rattle.mad_columns.specs.Columns.{char_columns}
+use Rattle.mad_characters.specs.Columns.{char_columns}
 use Rattle.mad_pager.specs.Sessions.{State, IsLaidFor, field_row, last_row, layout_width, prompt_cell, text_area}
 
 -- a screen that shows nothing: it has under five columns or under two rows

@@ -3,7 +3,7 @@
 ghost use Rattle.std.specs.Prelude.{◌≡◌};
 ghost use Rattle.mad_pager.specs.Sessions.{field_row, last_row, layout_width, prompt_cell, text_area};
 
-use mad_fit::Area;
+use mad_measure::Area;
 
 /// The area of a text on a screen: all rows but the last.
 pub(crate) fn text_area(columns: u16, rows: u16) -> Area

@@ -2,17 +2,17 @@
 
 ghost use Rattle.std.specs.Prelude.{◌≡◌, ◌++◌, IfOk, OnOk, string_bytes};
 ghost use Rattle.mad_term.specs.Trace.{TookWith};
-ghost use Rattle.mad_fit.specs.Areas.{IsWithinLimits};
+ghost use Rattle.mad_measure.specs.Areas.{IsWithinLimits};
 ghost use Rattle.mad_layout.specs.RowSkins.{row_skin};
 ghost use Rattle.mad_pager.specs.Sessions.{state_of};
 ghost use Rattle.mad_pager.specs.Screens.{reversed_skin, sought_words, status_words, IsLineIn, IsStatus, IsStatusLine};
 
 use crate::places::last_row;
 use crate::session::Session;
-use mad_fit::{Area, Spacing};
 use mad_format::{Fitter, FmtComposite, FmtLine};
 use mad_layout::{FmtText, MadSkin, draw_text};
 use mad_md::{Alignment, Compound};
+use mad_measure::{Area, Spacing};
 use mad_term::{Attribute, Error, Out};
 use std::alloc::{AllocError, Global};
 

@@ -1,13 +1,13 @@
 //! What is typed to be sought.
 
 ghost use Rattle.std.specs.Prelude.{◌≡◌, ◌==◌, true, if◌then◌else◌, IfOk, OnOk, string_bytes, encode_utf8_all};
-ghost use Rattle.mad_columns.specs.Columns.{char_columns};
+ghost use Rattle.mad_characters.specs.Columns.{char_columns};
 ghost use Rattle.mad_field.specs.Fields.{new_field};
 ghost use Rattle.mad_pager.specs.Sessions.{field_row, state_of, typed, HasSameText, IsSought, IsTypeStep};
 
 use crate::places::field_row;
 use crate::session::Session;
-use mad_columns::char_columns;
+use mad_characters::char_columns;
 use mad_field::InputField;
 use mad_term::{KeyCode, KeyEvent, KeyModifiers};
 use std::alloc::{AllocError, Global};

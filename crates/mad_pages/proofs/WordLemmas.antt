@@ -2,16 +2,16 @@
 use Rattle.std.proofs.Common.{◌≡◌, inl, inr, ⊎_elim, ℕ, zero, suc, ◌==◌, ◌+◌, ◌≤◌, max, nat_le, Bool, true, false, List, [], ◌∷◌, ◌++◌, length, take, drop, map, refl, ap, sym, ◌∙◌, subst, arith, if◌then◌else◌}
 use Rattle.std.specs.List.{AllByRecursion, flat_map}
 use Rattle.std.proofs.lemmas.Bool.Decides.{nat_tests}
-use Rattle.mad_columns.specs.Columns.{char_columns}
+use Rattle.mad_characters.specs.Columns.{char_columns}
 use Rattle.mad_md.specs.Flagged.{FlaggedChar, is_blank, flagged_text}
 use Rattle.mad_md.specs.Lines.{StyledRuns, LineContent, normal, table_row, table_rule, horizontal_rule}
 use Rattle.mad_md.specs.declared.alignment.Alignment.{Alignment}
 use Rattle.mad_md.specs.declared.compound.Compound.{Compound}
-use Rattle.mad_fit.specs.TextColumns.{width_of}
-use Rattle.mad_fit.specs.Tokens.{AreTokensOf, flagged_token, tokens_text}
-use Rattle.mad_fit.specs.declared.tokens.Token.{Token}
-use Rattle.mad_fit.proofs.TokenTexts.{IsHonest, text_of_all, all_honest}
-use Rattle.mad_fit.specs.declared.spacing.Spacing.{Spacing}
+use Rattle.mad_measure.specs.TextColumns.{width_of}
+use Rattle.mad_measure.specs.Tokens.{AreTokensOf, flagged_token, tokens_text}
+use Rattle.mad_measure.specs.declared.tokens.Token.{Token}
+use Rattle.mad_measure.proofs.TokenTexts.{IsHonest, text_of_all, all_honest}
+use Rattle.mad_measure.specs.declared.spacing.Spacing.{Spacing}
 use Rattle.mad_style.specs.Kinds.{kind_of}
 use Rattle.mad_style.specs.declared.kinds.CompositeKind.{CompositeKind}
 use Rattle.mad_style.specs.declared.kinds.CompositeKind.TheVariants.{Paragraph}

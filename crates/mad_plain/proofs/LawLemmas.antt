@@ -6,9 +6,9 @@ use Rattle.std.specs.Char.{is_control}
 use Rattle.std.proofs.lemmas.Bool.Decides.{nat_tests}
 use Rattle.std.proofs.lemmas.Bool.{and_from, eqb-true, false≢true}
 use Rattle.std.proofs.lemmas.List.{map-append, take-append-drop}
-use Rattle.mad_columns.specs.Columns.{char_columns}
-use Rattle.mad_printable.specs.Pictures.{is_printable_char, picture}
-use Rattle.mad_printable.proofs.PictureLemmas.{picture_is}
+use Rattle.mad_characters.specs.Columns.{char_columns}
+use Rattle.mad_characters.specs.Pictures.{is_printable_char, picture}
+use Rattle.mad_characters.proofs.PictureLemmas.{picture_is}
 use Rattle.mad_plain.specs.declared.pens.Pen.{Pen}
 use Rattle.mad_plain.specs.declared.places.Place.{Place}
 use Rattle.mad_plain.specs.declared.places.Strikes.{Strikes}

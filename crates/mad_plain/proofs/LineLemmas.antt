@@ -5,7 +5,7 @@ use Rattle.std.specs.List.{repeat}
 use Rattle.std.specs.Char.{is_control}
 use Rattle.std.proofs.lemmas.Bool.Decides.{nat_tests}
 use Rattle.std.proofs.lemmas.List.{append-nil}
-use Rattle.mad_printable.specs.Pictures.{is_printable_char, picture}
+use Rattle.mad_characters.specs.Pictures.{is_printable_char, picture}
 use Rattle.mad_plain.specs.declared.pens.Pen.{Pen}
 use Rattle.mad_plain.specs.declared.places.Place.{Place}
 use Rattle.mad_plain.specs.declared.places.Strikes.{Strikes}

@@ -5,8 +5,8 @@ use Rattle.std.specs.List.{repeat, flat_map, AllByRecursion}
 use Rattle.std.proofs.Math.Seq.{take-append_seam}
 use Rattle.std.proofs.lemmas.Bool.Decides.{nat_tests}
 use Rattle.std.proofs.lemmas.List.{append-nil, map-append, take-append-drop, take_all}
-use Rattle.mad_columns.specs.Columns.{char_columns}
-use Rattle.mad_columns.proofs.CharColumns.{char_columns-ascii}
+use Rattle.mad_characters.specs.Columns.{char_columns}
+use Rattle.mad_characters.proofs.CharColumns.{char_columns-ascii}
 use Rattle.mad_plain.specs.declared.pens.Pen.{Pen}
 use Rattle.mad_plain.specs.Runs.{StyledChar, styled, said}
 use Rattle.mad_plain.specs.Rows.{columns_of, ends_from, rows_by, wrapped, is_inside, part_shown, window, sign_if, one_if, goes_left, goes_right, cut_row}

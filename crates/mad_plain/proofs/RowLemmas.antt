@@ -5,7 +5,7 @@ use Rattle.std.specs.List.{repeat}
 use Rattle.std.proofs.Math.Seq.{drop-nil, take-nil}
 use Rattle.std.proofs.lemmas.Bool.Decides.{nat_tests}
 use Rattle.std.proofs.lemmas.List.{append-nil}
-use Rattle.mad_columns.specs.Columns.{char_columns}
+use Rattle.mad_characters.specs.Columns.{char_columns}
 use Rattle.mad_plain.specs.Runs.{StyledChar, styled, said}
 use Rattle.mad_plain.specs.Rows.{columns_of, is_inside, window, sign_if, one_if, goes_left, goes_right, cut_row}
 

@@ -3,8 +3,8 @@ use Rattle.std.specs.Prelude.{◌≡◌, ◌||◌, ◌⊎◌, ℕ, ◌+◌, ◌%
 use Rattle.std.specs.List.{repeat, list_all, flat_map, AllByRecursion}
 use Rattle.std.specs.Char.{is_control}
 use Rattle.std.specs.Str.Lines.{strip_carriage_return}
-use Rattle.mad_columns.specs.Columns.{char_columns}
-use Rattle.mad_printable.specs.Pictures.{picture}
+use Rattle.mad_characters.specs.Columns.{char_columns}
+use Rattle.mad_characters.specs.Pictures.{picture}
 use Rattle.mad_md.specs.Parts.{AreParts, without_last_empty}
 use Rattle.mad_plain.specs.Commands.{is_parameter, is_intermediate, is_final, opens_string, ends_escape, command_len}
 use Rattle.mad_plain.specs.Pens.{plain_pen}

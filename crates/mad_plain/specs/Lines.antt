@@ -2,8 +2,8 @@
 use Rattle.std.specs.Prelude.{ℕ, zero, suc, ◌+◌, ◌-◌, ◌%◌, ◌==◌, ◌&&◌, ◌||◌, not, Bool, true, false, if◌then◌else◌, List, [], ◌∷◌, ◌++◌, slice_index}
 use Rattle.std.specs.List.{repeat, list_all}
 use Rattle.std.specs.Char.{is_control}
-use Rattle.mad_columns.specs.Columns.{char_columns}
-use Rattle.mad_printable.specs.Pictures.{is_printable_char, picture}
+use Rattle.mad_characters.specs.Columns.{char_columns}
+use Rattle.mad_characters.specs.Pictures.{is_printable_char, picture}
 use Rattle.mad_plain.specs.declared.pens.Pen.{Pen}
 use Rattle.mad_plain.specs.declared.places.Strikes.{Strikes}
 use Rattle.mad_plain.specs.declared.places.Place.{Place}

@@ -1,7 +1,7 @@
 -- Rows of a line: wrapped at a width, or cut at the edges of so many columns.
 use Rattle.std.specs.Prelude.{ℕ, ◌+◌, ◌-◌, ◌==◌, ◌&&◌, ◌||◌, nat_le, nat_lt, min, max, Bool, true, if◌then◌else◌, List, [], ◌∷◌, ◌++◌, take, drop}
 use Rattle.std.specs.List.{repeat}
-use Rattle.mad_columns.specs.Columns.{char_columns}
+use Rattle.mad_characters.specs.Columns.{char_columns}
 use Rattle.mad_plain.specs.declared.pens.Pen.{Pen}
 use Rattle.mad_plain.specs.Pens.{plain_pen}
 use Rattle.mad_plain.specs.Runs.{StyledChar, styled, said}

@@ -11,7 +11,7 @@ use crate::places::{
     Place, command_at, is_struck, line_start, passed, strikes_after, style_at, tab_len,
 };
 use crate::shown::{PlainLine, ShownLine};
-use mad_printable::{is_printable_char, picture};
+use mad_characters::{is_printable_char, picture};
 use std::alloc::{AllocError, Global};
 use std::borrow::CowStr;
 

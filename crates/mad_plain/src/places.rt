@@ -6,8 +6,7 @@ ghost use Rattle.mad_plain.specs.Lines.{no_strikes, strikes_any, is_struck, low_
 use crate::commands::command_len;
 use crate::fronts::{first, second};
 use crate::pens::{Pen, plain_pen};
-use mad_columns::char_columns;
-use mad_printable::picture;
+use mad_characters::{char_columns, picture};
 
 /// What overstrikes say of a character.
 #[derive(Clone, Copy, Debug)]

@@ -1,7 +1,7 @@
 //! Rows of a line: wrapped at a width, or cut at the edges of so many columns.
 
 ghost use Rattle.std.specs.Prelude.{◌≡◌, ◌++◌, ◌+◌, ◌-◌, ◌<◌, ◌^◌, ◌==◌, ◌∷◌, [], nat_lt, min, take, drop, chars, IfOk, OnOk};
-ghost use Rattle.mad_columns.specs.Columns.{char_columns};
+ghost use Rattle.mad_characters.specs.Columns.{char_columns};
 ghost use Rattle.mad_plain.specs.Runs.{said, styled};
 ghost use Rattle.mad_plain.specs.Rows.{columns_of, row_ends, is_inside, part_shown, window, sign_style, sign_if, one_if, goes_left, goes_right, cut_row};
 ghost use Rattle.mad_plain.specs.Shown.{rest_of, shown_of, shown_so_far};
@@ -10,7 +10,7 @@ use crate::fronts::cut_first;
 use crate::pens::{Pen, plain_pen};
 use crate::shown::{PlainLine, ShownLine};
 use crate::styled::StyledChars;
-use mad_columns::char_columns;
+use mad_characters::char_columns;
 use std::alloc::{AllocError, Global};
 
 /// At how many characters each row of a text ends that is wrapped at a width. A row has as many characters as fit, one at least.

@@ -7,7 +7,7 @@ use Rattle.std.specs.List.{AllByRecursion, flat_map}
 use Rattle.std.specs.Str.{bytes_eq}
 use Rattle.mad_md.specs.Flagged.{Run, run_of}
 use Rattle.mad_md.specs.declared.compound.Compound.{Compound}
-use Rattle.mad_fit.proofs.AllLemmas.{all_push}
+use Rattle.mad_measure.proofs.AllLemmas.{all_push}
 use Rattle.mad_term.specs.declared.color.Color.{Color}
 use Rattle.mad_term.specs.Color.{IsColorOrNone}
 use Rattle.mad_term.specs.Styles.{IsStyle}

@@ -16,11 +16,11 @@ use Rattle.mad_style.specs.declared.compound_styles.CompoundStyle.{CompoundStyle
 use Rattle.mad_style.specs.declared.kinds.CompositeKind.{CompositeKind}
 use Rattle.mad_style.specs.declared.kinds.CompositeKind.TheVariants.{Paragraph, Header, ListItem, ListItemFollowUp, OrderedListItem, OrderedListItemFollowUp, Code, Quote}
 use Rattle.mad_style.specs.declared.line_styles.LineStyle.{LineStyle}
-use Rattle.mad_fit.specs.Completions.{left_completion}
-use Rattle.mad_fit.specs.TextColumns.{width_of}
-use Rattle.mad_fit.specs.TokenPositions.{bytes_of}
-use Rattle.mad_fit.specs.Tokens.{AreTokensFrom, AreTokensOf, token_run, token_text}
-use Rattle.mad_fit.specs.declared.tokens.Token.{Token}
+use Rattle.mad_measure.specs.Completions.{left_completion}
+use Rattle.mad_measure.specs.TextColumns.{width_of}
+use Rattle.mad_measure.specs.TokenPositions.{bytes_of}
+use Rattle.mad_measure.specs.Tokens.{AreTokensFrom, AreTokensOf, token_run, token_text}
+use Rattle.mad_measure.specs.declared.tokens.Token.{Token}
 use Rattle.mad_wrap.specs.Breaks.{LineAndGap, lines_and_gaps, total_width}
 use Rattle.mad_wrap.specs.CleanCut.{clean_cut, is_cut_clean}
 use Rattle.mad_wrap.specs.LeastWords.{IsWrapBy}

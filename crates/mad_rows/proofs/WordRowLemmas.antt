@@ -10,12 +10,12 @@ use Rattle.std.proofs.lemmas.List.Concat.{flat_map-append}
 use Rattle.std.proofs.lemmas.Str.{chars-append, chars_past_char, encode_ascii, IsCharBoundary-before_ascii, IsUtf8-take, IsUtf8-drop}
 use Rattle.mad_md.specs.Flagged.{FlaggedChar, flagged, flags_of, is_blank, run_of}
 use Rattle.mad_md.specs.declared.compound.Compound.{Compound}
-use Rattle.mad_fit.specs.Chunks.{is_space_at}
-use Rattle.mad_fit.specs.Tokens.{IsTokenAt, IsInCompound, AreTokensFrom, AreTokensOf, token_text, flagged_token}
-use Rattle.mad_fit.specs.declared.tokens.Token.{Token}
-use Rattle.mad_fit.proofs.AllLemmas.{all_push, all_back, all_joined}
-use Rattle.mad_fit.proofs.ExistLemmas.{tokens_there}
-use Rattle.mad_fit.proofs.TokenTexts.{length-token_text}
+use Rattle.mad_measure.specs.Chunks.{is_space_at}
+use Rattle.mad_measure.specs.Tokens.{IsTokenAt, IsInCompound, AreTokensFrom, AreTokensOf, token_text, flagged_token}
+use Rattle.mad_measure.specs.declared.tokens.Token.{Token}
+use Rattle.mad_measure.proofs.AllLemmas.{all_push, all_back, all_joined}
+use Rattle.mad_measure.proofs.ExistLemmas.{tokens_there}
+use Rattle.mad_measure.proofs.TokenTexts.{length-token_text}
 use Rattle.mad_wrap.specs.Breaks.{LineAndGap, lines_and_gaps, total_width}
 use Rattle.mad_wrap.specs.FirstFit.{Puts, at_first}
 use Rattle.mad_wrap.specs.Placings.{IsFirstFit}

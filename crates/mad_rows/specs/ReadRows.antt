@@ -7,8 +7,8 @@ use Rattle.mad_md.specs.declared.compound.Compound.{Compound}
 use Rattle.mad_style.specs.declared.line_styles.LineStyle.{LineStyle}
 use Rattle.mad_style.specs.StyledChars.{char_style}
 use Rattle.mad_term.specs.Styles.{IsUnstyled, piece_bytes}
-use Rattle.mad_fit.specs.Tokens.{token_run, AreTokensOf}
-use Rattle.mad_fit.specs.declared.tokens.Token.{Token}
+use Rattle.mad_measure.specs.Tokens.{token_run, AreTokensOf}
+use Rattle.mad_measure.specs.declared.tokens.Token.{Token}
 use Rattle.mad_wrap.specs.Rooms.{token_limit}
 use Rattle.mad_wrap.specs.Writings.{AreRows}
 use Rattle.mad_wrap.specs.declared.room.Room.{Room}

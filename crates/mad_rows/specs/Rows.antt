@@ -13,8 +13,8 @@ use Rattle.mad_style.specs.declared.line_styles.LineStyle.{LineStyle}
 use Rattle.mad_style.specs.declared.borders.TableBorderChars.{TableBorderChars}
 use Rattle.mad_style.specs.Kinds.{kind_of}
 use Rattle.mad_style.specs.LineStyles.{margins_at}
-use Rattle.mad_fit.specs.declared.spacing.Spacing.{Spacing}
-use Rattle.mad_fit.specs.Completions.{left_completion}
+use Rattle.mad_measure.specs.declared.spacing.Spacing.{Spacing}
+use Rattle.mad_measure.specs.Completions.{left_completion}
 use Rattle.mad_rows.specs.declared.row_skin.RowSkin.{RowSkin}
 use Rattle.mad_format.specs.declared.composite.FmtComposite.{FmtComposite}
 use Rattle.mad_format.specs.declared.line.FmtLine.{FmtLine}

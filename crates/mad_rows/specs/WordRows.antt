@@ -2,9 +2,9 @@
 use Rattle.std.specs.Prelude.{◌≡◌, ℕ, ◌-◌, ◌≤◌, ◌<◌, ◌⊎◌, false, true, List, [], ◌∷◌, ◌++◌, length}
 use Rattle.std.specs.List.{flat_map, AllByRecursion}
 use Rattle.mad_md.specs.declared.compound.Compound.{Compound}
-use Rattle.mad_fit.specs.Chunks.{is_space_at}
-use Rattle.mad_fit.specs.Tokens.{AreTokensFrom, AreTokensOf}
-use Rattle.mad_fit.specs.declared.tokens.Token.{Token}
+use Rattle.mad_measure.specs.Chunks.{is_space_at}
+use Rattle.mad_measure.specs.Tokens.{AreTokensFrom, AreTokensOf}
+use Rattle.mad_measure.specs.declared.tokens.Token.{Token}
 use Rattle.mad_wrap.specs.FirstFit.{Puts, at_first}
 use Rattle.mad_wrap.specs.Rooms.{token_limit}
 use Rattle.mad_wrap.specs.Words.{Piece, as_token, piece_tokens, pieces_of}

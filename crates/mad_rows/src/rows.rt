@@ -10,9 +10,9 @@ ghost use Rattle.mad_wrap.specs.WrapLines.{capped};
 
 use crate::row_skin::RowSkin;
 use mad_draw::RuleChars;
-use mad_fit::Spacing;
 use mad_format::{FmtComposite, FmtLine, RelativePosition, rule_columns};
 use mad_md::Alignment;
+use mad_measure::Spacing;
 use mad_style::{LineStyle, OrderedItemStyle, TableBorderChars};
 
 /// Where a composite is in a row, in columns.

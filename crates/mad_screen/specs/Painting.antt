@@ -9,7 +9,7 @@ use Rattle.mad_term.specs.declared.attribute.Attribute.TheVariants as attributes
 use Rattle.mad_term.specs.declared.styles.ContentStyle.{ContentStyle}
 use Rattle.mad_term.specs.Attributes.{attribute_bits, has_attribute}
 use Rattle.mad_term.specs.Color.{color_number}
-use Rattle.mad_columns.specs.Columns.{char_columns}
+use Rattle.mad_characters.specs.Columns.{char_columns}
 use Rattle.mad_screen.specs.Glyph.{Glyph, Look}
 use Rattle.mad_screen.specs.Grid.{Grid, IsGrid, plain_pen, painted, glyphs}
 use Rattle.mad_screen.specs.Terminal.{Leads, resting}

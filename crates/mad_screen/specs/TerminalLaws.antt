@@ -6,7 +6,7 @@ use Rattle.mad_term.specs.declared.color.Color.{Color}
 use Rattle.mad_term.specs.declared.commands.ClearType.TheVariants.{All, FromCursorDown, FromCursorUp, CurrentLine, UntilNewLine}
 use Rattle.mad_term.specs.declared.styles.ContentStyle.{ContentStyle}
 use Rattle.mad_term.specs.Color.{IsColor}
-use Rattle.mad_columns.specs.Columns.{char_columns}
+use Rattle.mad_characters.specs.Columns.{char_columns}
 use Rattle.mad_term.specs.Commands.{move_to_bytes, clear_bytes, sgr_bytes}
 use Rattle.mad_term.specs.Styles.{foreground_bytes, background_bytes, piece_bytes, IsStyle}
 use Rattle.mad_screen.specs.Glyph.{Glyph, Look}

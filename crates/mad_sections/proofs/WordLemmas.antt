@@ -1,7 +1,7 @@
 -- The longest word of a text, character by character.
 use Rattle.std.proofs.Common.{◌≡◌, ℕ, ◌+◌, max, inl, inr, true, false, List, [], ◌∷◌, ◌++◌, chars, sym, ap, ◌∙◌, arith}
 use Rattle.std.proofs.lemmas.Bool.{cases_Bool, cond-true, cond-false}
-use Rattle.mad_columns.specs.Columns.{char_columns}
+use Rattle.mad_characters.specs.Columns.{char_columns}
 use Rattle.mad_md.specs.Flagged.{FlaggedChar, flagged, flags_of, is_blank}
 use Rattle.mad_md.specs.declared.compound.Compound.{Compound}
 use Rattle.mad_sections.specs.CellWords.{capped, longest_from, longest_after}

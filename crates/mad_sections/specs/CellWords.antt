@@ -1,6 +1,6 @@
 -- The longest words of cells. A word is characters in a row that aren't blank, of one compound or of several.
 use Rattle.std.specs.Prelude.{ℕ, ◌+◌, ◌-◌, ◌^◌, min, max, if◌then◌else◌, List, [], ◌∷◌}
-use Rattle.mad_columns.specs.Columns.{char_columns}
+use Rattle.mad_characters.specs.Columns.{char_columns}
 use Rattle.mad_md.specs.Flagged.{FlaggedChar, is_blank}
 use Rattle.mad_sections.specs.declared.cell_words.Words.{Words}
 

@@ -4,7 +4,7 @@ ghost use Rattle.std.specs.Prelude.{◌≡◌, ◌++◌, ◌∷◌, List};
 ghost use Rattle.mad_md.specs.Flagged.{FlaggedChar, flags_of, flagged_of, flagged_text};
 ghost use Rattle.mad_sections.specs.CellWords.{capped, longest_after, longest_word};
 
-use mad_columns::char_columns;
+use mad_characters::char_columns;
 use mad_md::Compound;
 
 /// The words of a text's beginning, in columns.

@@ -7,7 +7,7 @@ ghost use Rattle.mad_sections.specs.Items.{are_short, cell_lines, item_lines, la
 ghost use Rattle.mad_sections.specs.Shown.{rows_said, says_heads_of};
 ghost use Rattle.mad_sections.specs.TableTexts.{rows_in};
 
-use mad_columns::char_columns;
+use mad_characters::char_columns;
 use mad_md::{Composite, CompositeStyle, Compound, Line, TableRow};
 use std::alloc::{AllocError, Global};
 

@@ -6,7 +6,7 @@ use Rattle.unicode_width.specs.Width.{char_width}
 use Rattle.unicode_width.proofs.Computing.{unicode_width}
 use Rattle.mad_steady.specs.declared.kinds.Kind.{Kind}
 use Rattle.mad_steady.specs.declared.kinds.Kind.TheVariants.{Dropped, Selector, Sign, Indicator, Lead, OpenSyllable, Vowel, Tail, Jamo, Opening, Widthless, Narrow, Wide}
-use Rattle.mad_columns.specs.Columns.{char_columns}
+use Rattle.mad_characters.specs.Columns.{char_columns}
 use Rattle.mad_steady.specs.Kinds.{kind, other_kind, columns_kind, syllable_kind, jamo_kind, is_dropped, is_selector, is_syllable, is_jamo, is_opening, is_mark, ascii_kind}
 use Rattle.mad_steady.specs.Steady.{with_vowel, with_tail, letter}
 

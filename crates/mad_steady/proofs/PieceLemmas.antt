@@ -4,7 +4,7 @@ use Rattle.std.specs.Char.{is_control, is_whitespace}
 use Rattle.std.specs.List.{list_all}
 use Rattle.std.proofs.lemmas.Bool.{and_parts, and_from}
 use Rattle.std.proofs.lemmas.Bool.Decides.{nat_tests}
-use Rattle.mad_columns.specs.Columns.{char_columns}
+use Rattle.mad_characters.specs.Columns.{char_columns}
 use Rattle.mad_steady.specs.Kinds.{is_mark, is_opening}
 use Rattle.mad_steady.specs.Steady.{are_steady}
 use Rattle.mad_steady.specs.Widths.{is_widthless, bears, are_borne, AreJoinedChars, ends_opened, PiecesAreJoined}

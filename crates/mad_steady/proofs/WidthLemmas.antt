@@ -18,7 +18,7 @@ use Rattle.mad_steady.specs.declared.kinds.Kind.{Kind}
 use Rattle.mad_steady.specs.declared.kinds.Kind.TheVariants.{Dropped, Selector, Sign, Indicator, Lead, OpenSyllable, Vowel, Tail, Jamo, Opening, Widthless, Narrow, Wide}
 use Rattle.mad_steady.specs.declared.places.Place.{Place}
 use Rattle.mad_steady.specs.declared.places.Place.TheVariants.{Opened, AfterNarrow, AfterWide, HoldsLead, HoldsSyllable, HoldsIndicator}
-use Rattle.mad_columns.specs.Columns.{char_columns}
+use Rattle.mad_characters.specs.Columns.{char_columns}
 use Rattle.mad_steady.specs.Kinds.{kind, other_kind, columns_kind, syllable_kind, jamo_kind, is_dropped, is_selector, is_syllable, is_jamo, is_opening}
 use Rattle.mad_steady.specs.Steady.{next_place, stays, are_steady_from, are_steady}
 use Rattle.mad_steady.specs.Widths.{is_widthless, bears, are_borne}

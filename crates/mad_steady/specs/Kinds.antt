@@ -2,7 +2,7 @@
 use Rattle.std.specs.Prelude.{ℕ, ◌-◌, ◌%◌, Bool, ◌||◌, ◌==◌, if◌then◌else◌}
 use Rattle.std.specs.Char.{is_control, is_whitespace}
 use Rattle.std.specs.Int.{is_in_range}
-use Rattle.mad_columns.specs.Columns.{char_columns}
+use Rattle.mad_characters.specs.Columns.{char_columns}
 use Rattle.mad_steady.specs.declared.kinds.Kind.{Kind}
 use Rattle.mad_steady.specs.declared.kinds.Kind.TheVariants.{Dropped, Selector, Sign, Indicator, Lead, OpenSyllable, Vowel, Tail, Jamo, Opening, Widthless, Narrow, Wide}
 

@@ -3,7 +3,7 @@
 ghost use Rattle.std.specs.Prelude.{◌≡◌};
 ghost use Rattle.mad_steady.specs.Kinds.{kind, other_kind, is_opening, syllable_kind, jamo_kind, ascii_kind, columns_kind};
 
-use mad_columns::char_columns;
+use mad_characters::char_columns;
 
 /// What a character is to a steady text.
 #[derive(Clone, Copy, PartialEq, Eq, Debug)]

@@ -6,7 +6,7 @@ ghost use Rattle.mad_steady.specs.Kinds.{kind};
 ghost use Rattle.mad_steady.specs.Steady.{held, sign, alone, joined, written, steady_from, steady_text, steady_growing, place_behind, are_steady};
 ghost use Rattle.mad_steady.specs.Widths.{are_borne, PiecesAreJoined};
 ghost use Rattle.std.specs.List.{list_all};
-ghost use Rattle.mad_printable.specs.Pictures.{is_printable_char};
+ghost use Rattle.mad_characters.specs.Pictures.{is_printable_char};
 ghost use Rattle.mad_steady.specs.Kept.{PassesWhatIsMade};
 
 use crate::kinds::{Kind, kind_of};

@@ -4,8 +4,8 @@ use Rattle.std.specs.Char.{IsScalar}
 use Rattle.std.specs.Prelude.{IfOk, IsUtf8}
 use Rattle.std.proofs.lemmas.List.{append-nil}
 use Rattle.std.proofs.lemmas.Str.{chars-append, chars_past_char, chars-nil, encodes-append, IsUtf8-append, IsUtf8-encode}
-use Rattle.mad_fit.specs.Printable.{printable_text, shown_as, shown_from, tab_spaces, return_shown}
-use Rattle.mad_printable.specs.Pictures.{picture}
+use Rattle.mad_measure.specs.Printable.{printable_text, shown_as, shown_from, tab_spaces, return_shown}
+use Rattle.mad_characters.specs.Pictures.{picture}
 use Rattle.mad_md.proofs.PartsLemmas.{true_test}
 use Rattle.mad_blocks.proofs.LayoutJoins.{by_bool}
 use Rattle.mad_stream.proofs.TextFrontLemmas.{rest_of}

@@ -2,7 +2,7 @@
 use Rattle.std.proofs.Common.{◌≡◌, ℕ, true, List, [], ◌++◌, chars, refl, sym, ap, ◌∙◌, encode_utf8_all}
 use Rattle.std.specs.Prelude.{IsUtf8}
 use Rattle.std.proofs.lemmas.Str.{chars-append, chars-nil, chars_from_encodes, encodes-append}
-use Rattle.mad_fit.specs.Printable.{printable_text}
+use Rattle.mad_measure.specs.Printable.{printable_text}
 use Rattle.mad_steady.specs.Steady.{held, steady_from, steady_text, steady_growing, place_behind}
 use Rattle.mad_steady.specs.declared.places.Place.{Place as SteadyPlace}
 use Rattle.mad_steady.specs.declared.places.Place.TheVariants.{Opened}

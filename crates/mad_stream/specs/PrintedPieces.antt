@@ -1,6 +1,6 @@
 -- Texts that are made printable piece by piece.
 use Rattle.std.specs.Prelude.{ℕ, ◌==◌, Bool, true, false, List, [], ◌∷◌, ◌++◌, if◌then◌else◌}
-use Rattle.mad_fit.specs.Printable.{shown_as}
+use Rattle.mad_measure.specs.Printable.{shown_as}
 use Rattle.mad_stream.specs.declared.printed.Place.{Place}
 use Rattle.mad_stream.specs.declared.printed.Place.TheVariants.{LineStart, InLine, AfterReturn}
 

@@ -1,6 +1,6 @@
 -- Texts that are made printable and steady piece by piece.
 use Rattle.std.specs.Prelude.{ℕ, true, List, chars, encode_utf8_all}
-use Rattle.mad_fit.specs.Printable.{printable_text}
+use Rattle.mad_measure.specs.Printable.{printable_text}
 use Rattle.mad_steady.specs.Steady.{steady_from, steady_text, steady_growing, place_behind}
 use Rattle.mad_steady.specs.declared.places.Place.TheVariants.{Opened}
 use Rattle.mad_stream.specs.PrintedPieces.{shown_growing, piece_shown, place_after, end_shown}

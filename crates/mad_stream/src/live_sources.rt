@@ -19,7 +19,7 @@ use std::alloc::Global;
 /// Reads a source to its end, and shows its Markdown text as it comes, in a skin, at a width, in columns, if there is one, and on a screen
 /// that has `height` rows.
 ///
-/// The text is made printable first, as [`printable`](mad_fit::printable) does, and then [`steady`](mad_steady::steady). It reads blocks of at most
+/// The text is made printable first, as [`printable`](mad_measure::printable) does, and then [`steady`](mad_steady::steady). It reads blocks of at most
 /// 16 KiB, as much of each as the source gives at once. After each block the rows of the text so far are shown, as [`LiveText`] does, and flushed. At
 /// the end come all rows, and a flush. A source is taken to end after 2^64 - 1 blocks.
 ///

@@ -3,7 +3,7 @@
 ghost use Rattle.std.specs.Prelude.{◌≡◌, ◌++◌, ℕ, List, chars, encode_utf8, encode_utf8_all, length, IfOk, IsUtf8, MatchOption, string_bytes};
 ghost use Rattle.mad_stream.specs.PrintedPieces.{piece_shown, place_after, place_of, place_char, place_shown, end_shown};
 
-use mad_fit::printable;
+use mad_measure::printable;
 use std::alloc::{AllocError, Global};
 
 /// Where the next piece of a text comes.

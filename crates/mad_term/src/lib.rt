@@ -33,7 +33,7 @@ pub use devices::{Out, Source, put_all, put_counted};
 pub use errors::{Error, InsufficientWidthError};
 pub use events::{Event, TimedEvent};
 pub use keys::{KeyCode, KeyCombination, KeyEvent, KeyModifiers};
-pub use mad_columns::char_columns;
+pub use mad_characters::char_columns;
 pub use mouse::{MouseButton, MouseEvent, MouseEventKind};
 pub use queue::{
     put_displayed, put_text, queue_bg, queue_clear, queue_fg, queue_move, queue_repeated,

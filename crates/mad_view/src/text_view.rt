@@ -2,8 +2,8 @@
 
 ghost use Rattle.std.specs.Prelude.{◌≡◌, ◌≢◌, ◌↔◌, ◌-◌, ◌≤◌, true, OnOk, None, IsTrue, length, if◌then◌else◌};
 ghost use Rattle.mad_term.specs.Draws.{Draws, DrawsAndFlushes};
-ghost use Rattle.mad_fit.specs.Areas.{IsWithinLimits};
-ghost use Rattle.mad_fit.specs.Thumbs.{scrollbar_at};
+ghost use Rattle.mad_measure.specs.Areas.{IsWithinLimits};
+ghost use Rattle.mad_measure.specs.Thumbs.{scrollbar_at};
 ghost use Rattle.mad_layout.specs.Shown.{area_bytes};
 ghost use Rattle.mad_layout.specs.ShownLayouts.{ShowsDrawable, ShowsLayout, ShowsRowsFrom};
 ghost use Rattle.mad_view.specs.Scrolls.{pages_in_lines, scroll_within, scrolled_by, scrolled_down};
@@ -11,8 +11,8 @@ ghost use Rattle.mad_view.specs.ViewKeys.{scrolled_by_key};
 ghost use Rattle.mad_view.specs.Views.{view_area, view_bar, view_lines, view_skin};
 
 use crate::scrolls::{pages_in_lines, scroll_within, scrolled_by, scrolled_down};
-use mad_fit::Area;
 use mad_layout::{FmtText, draw_text};
+use mad_measure::Area;
 use mad_term::{Error, KeyCode, KeyCombination, KeyEvent, KeyModifiers, Out};
 use std::alloc::Global;
 

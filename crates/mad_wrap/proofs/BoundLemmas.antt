@@ -7,7 +7,7 @@ use Rattle.std.proofs.lemmas.List.{length-drop, take_more, get_or-drop, at_drop_
 use Rattle.std.proofs.lemmas.List.Folds.{drop_split}
 use Rattle.std.specs.List.{AllByRecursion}
 use Rattle.mad_wrap.specs.Bounds.{is_blank_token, are_starts_from, are_starts}
-use Rattle.mad_fit.specs.declared.tokens.Token.{Token}
+use Rattle.mad_measure.specs.declared.tokens.Token.{Token}
 use Rattle.mad_wrap.specs.declared.room.Room.{Room}
 use Rattle.mad_wrap.specs.Breaks.{LineAndGap, lines_and_gaps, total_width, FitsFrom, FittingBreak, EndsWithLine}
 

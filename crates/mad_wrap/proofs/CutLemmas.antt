@@ -6,11 +6,11 @@ use Rattle.std.specs.List.{AllByRecursion, list_all}
 use Rattle.std.specs.Char.{is_whitespace}
 use Rattle.mad_md.specs.Flagged.{Flags, FlaggedChar, Run, flagged, flags_of, flagged_of, flagged_text, run_of}
 use Rattle.mad_md.specs.declared.compound.Compound.{Compound}
-use Rattle.mad_fit.specs.TextColumns.{width_of}
-use Rattle.mad_fit.specs.Tokens.{tokens_text, token_run}
-use Rattle.mad_fit.specs.declared.tokens.Token.{Token}
-use Rattle.mad_fit.proofs.ExistLemmas.{tokens_of_all}
-use Rattle.mad_fit.proofs.TokenTexts.{text_from, some_compound}
+use Rattle.mad_measure.specs.TextColumns.{width_of}
+use Rattle.mad_measure.specs.Tokens.{tokens_text, token_run}
+use Rattle.mad_measure.specs.declared.tokens.Token.{Token}
+use Rattle.mad_measure.proofs.ExistLemmas.{tokens_of_all}
+use Rattle.mad_measure.proofs.TokenTexts.{text_from, some_compound}
 use Rattle.mad_wrap.specs.CleanCut.{fits_after, both_fit, is_white, clean_cut, is_cut_clean, drops_middle, AreTexts}
 use Rattle.mad_wrap.specs.Keeps.{AllWhite, Keeps}
 use Rattle.mad_wrap.specs.LeastWrap.{AreTokensIn, AreTokenized, IsWrap}

@@ -3,9 +3,9 @@ use Rattle.std.proofs.Common.{◌≡◌, ℕ, ◌<◌, ◌+◌, ◌⊎◌, inl, 
 use Rattle.std.proofs.lemmas.List.{length-append}
 use Rattle.mad_md.specs.Flagged.{FlaggedChar, flagged, flags_of}
 use Rattle.mad_md.specs.declared.compound.Compound.{Compound}
-use Rattle.mad_fit.specs.Tokens.{IsAlike, StopsBefore, IsTokenAt, AreTokensFrom, AreTokensOf, flagged_token}
-use Rattle.mad_fit.specs.declared.tokens.Token.{Token}
-use Rattle.mad_fit.proofs.TokenTexts.{text_at, some_flagged}
+use Rattle.mad_measure.specs.Tokens.{IsAlike, StopsBefore, IsTokenAt, AreTokensFrom, AreTokensOf, flagged_token}
+use Rattle.mad_measure.specs.declared.tokens.Token.{Token}
+use Rattle.mad_measure.proofs.TokenTexts.{text_at, some_flagged}
 use Rattle.mad_wrap.specs.Words.{alone, together, word_pieces, pieces_after}
 use Rattle.mad_wrap.specs.Breaks.{total_width}
 use Rattle.mad_wrap.proofs.WordLemmas.{wide_pieces, after_blank, after_solid, wide_blank, wide_solid, after_wide}

@@ -5,10 +5,10 @@ use Rattle.std.specs.Char.{is_whitespace}
 use Rattle.std.specs.Prelude.{codes, ◌==◌}
 use Rattle.mad_md.specs.Flagged.{FlaggedChar, Run, unflagged, flagged, flagged_text, run_of}
 use Rattle.mad_md.specs.declared.compound.Compound.{Compound}
-use Rattle.mad_fit.specs.TextColumns.{width_of}
-use Rattle.mad_fit.specs.Tokens.{token_run}
-use Rattle.mad_fit.specs.declared.tokens.Token.{Token}
-use Rattle.mad_fit.proofs.TokenTexts.{all_honest}
+use Rattle.mad_measure.specs.TextColumns.{width_of}
+use Rattle.mad_measure.specs.Tokens.{token_run}
+use Rattle.mad_measure.specs.declared.tokens.Token.{Token}
+use Rattle.mad_measure.proofs.TokenTexts.{all_honest}
 use Rattle.mad_wrap.specs.Bounds.{are_starts}
 use Rattle.mad_wrap.specs.Breaks.{LineAndGap, TrimmingBreak, FittingBreak}
 use Rattle.mad_wrap.specs.Examples.{lines_of, IsWord, IsSpace}

@@ -5,15 +5,15 @@ use Rattle.std.proofs.lemmas.List.{map-append, length-append}
 use Rattle.std.proofs.lemmas.List.Elements.{Contains-append_right}
 use Rattle.std.specs.List.{AllByRecursion}
 use Rattle.std.specs.Char.{is_whitespace}
-use Rattle.mad_columns.specs.Columns.{char_columns}
+use Rattle.mad_characters.specs.Columns.{char_columns}
 use Rattle.mad_md.specs.Flagged.{FlaggedChar, Run, flagged, flagged_text, run_of, is_blank}
 use Rattle.mad_md.specs.declared.compound.Compound.{Compound}
-use Rattle.mad_fit.specs.TextColumns.{width_of}
-use Rattle.mad_fit.specs.Tokens.{IsAlike, flagged_token, tokens_text, token_run}
-use Rattle.mad_fit.specs.declared.tokens.Token.{Token}
-use Rattle.mad_fit.proofs.AllLemmas.{all_joined, all_front, all_back, all_each}
-use Rattle.mad_fit.proofs.FlaggedLemmas.{width_of-append}
-use Rattle.mad_fit.proofs.TokenTexts.{IsHonest, tokens_text-append, some_flagged, length-token_text}
+use Rattle.mad_measure.specs.TextColumns.{width_of}
+use Rattle.mad_measure.specs.Tokens.{IsAlike, flagged_token, tokens_text, token_run}
+use Rattle.mad_measure.specs.declared.tokens.Token.{Token}
+use Rattle.mad_measure.proofs.AllLemmas.{all_joined, all_front, all_back, all_each}
+use Rattle.mad_measure.proofs.FlaggedLemmas.{width_of-append}
+use Rattle.mad_measure.proofs.TokenTexts.{IsHonest, tokens_text-append, some_flagged, length-token_text}
 use Rattle.mad_wrap.specs.Breaks.{LineAndGap, lines_and_gaps, total_width, AllBlank, FitsFrom}
 use Rattle.mad_wrap.specs.Keeps.{AllWhite, Keeps}
 use Rattle.mad_wrap.specs.TokenLines.{HoldBreak}

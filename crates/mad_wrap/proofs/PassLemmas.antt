@@ -3,7 +3,7 @@ use Rattle.std.proofs.Common.{◌≡◌, ℕ, zero, suc, ◌≤◌, ◌<◌, ◌
 use Rattle.std.specs.List.{AllByRecursion}
 use Rattle.std.proofs.lemmas.Bool.Decides.{nat_tests}
 use Rattle.std.proofs.lemmas.List.{length-append}
-use Rattle.mad_fit.specs.declared.tokens.Token.{Token}
+use Rattle.mad_measure.specs.declared.tokens.Token.{Token}
 use Rattle.mad_wrap.specs.Bounds.{are_starts, are_starts_from}
 use Rattle.mad_wrap.specs.Breaks.{LineAndGap, lines_and_gaps, total_width}
 use Rattle.mad_wrap.specs.LineStarts.{starts_from, dropped_after, dropped_from, from_first, starts_of}

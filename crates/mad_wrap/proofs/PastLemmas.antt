@@ -5,7 +5,7 @@ use Rattle.std.proofs.Math.Seq.{take-append_seam, take-length}
 use Rattle.std.proofs.lemmas.List.{length-append, take-append-le}
 use Rattle.std.specs.Option.{option_or}
 use Rattle.std.specs.Prelude.{MatchOption}
-use Rattle.mad_fit.specs.declared.tokens.Token.{Token}
+use Rattle.mad_measure.specs.declared.tokens.Token.{Token}
 use Rattle.mad_wrap.specs.Breaks.{total_width}
 use Rattle.mad_wrap.specs.LeastBound.{IsFirstPast}
 use Rattle.mad_wrap.specs.LineRoom.{left_of, left_after, past_here}

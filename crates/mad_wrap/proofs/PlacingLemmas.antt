@@ -5,9 +5,9 @@ use Rattle.std.proofs.lemmas.Bool.Decides.{nat_tests}
 use Rattle.std.proofs.lemmas.List.{map-append, length-append}
 use Rattle.mad_md.specs.Flagged.{Flags, run_of, flags_of}
 use Rattle.mad_md.specs.declared.compound.Compound.{Compound}
-use Rattle.mad_fit.specs.declared.tokens.Token.{Token}
-use Rattle.mad_fit.specs.Tokens.{token_run, token_text}
-use Rattle.mad_fit.proofs.AllLemmas.{all_push}
+use Rattle.mad_measure.specs.declared.tokens.Token.{Token}
+use Rattle.mad_measure.specs.Tokens.{token_run, token_text}
+use Rattle.mad_measure.proofs.AllLemmas.{all_push}
 use Rattle.mad_wrap.specs.Breaks.{LineAndGap, lines_and_gaps, total_width, AllBlank}
 use Rattle.mad_wrap.specs.LineRoom.{left_of, fits_in, taken}
 use Rattle.mad_wrap.specs.TokenLines.{HoldsTokens, HoldBreak, ArePlacedLines}

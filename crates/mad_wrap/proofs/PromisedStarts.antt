@@ -6,12 +6,12 @@ use Rattle.std.specs.List.{AllByRecursion, list_all}
 use Rattle.std.specs.Char.{is_whitespace}
 use Rattle.mad_md.specs.Flagged.{Flags, FlaggedChar, flagged, flags_of, flagged_of, flagged_text, is_blank}
 use Rattle.mad_md.specs.declared.compound.Compound.{Compound}
-use Rattle.mad_fit.specs.TextColumns.{width_of}
-use Rattle.mad_fit.specs.Tokens.{AreTokensFrom, flagged_token, tokens_text}
-use Rattle.mad_fit.specs.declared.tokens.Token.{Token}
-use Rattle.mad_fit.proofs.AllLemmas.{all_each, all_front, all_back}
-use Rattle.mad_fit.proofs.TokenTexts.{IsHonest, tokens_honest, text_from, some_flagged}
-use Rattle.mad_fit.proofs.UniqueLemmas.{all_unique}
+use Rattle.mad_measure.specs.TextColumns.{width_of}
+use Rattle.mad_measure.specs.Tokens.{AreTokensFrom, flagged_token, tokens_text}
+use Rattle.mad_measure.specs.declared.tokens.Token.{Token}
+use Rattle.mad_measure.proofs.AllLemmas.{all_each, all_front, all_back}
+use Rattle.mad_measure.proofs.TokenTexts.{IsHonest, tokens_honest, text_from, some_flagged}
+use Rattle.mad_measure.proofs.UniqueLemmas.{all_unique}
 use Rattle.mad_wrap.specs.Bounds.{is_blank_token, are_starts_from, are_starts}
 use Rattle.mad_wrap.specs.Breaks.{LineAndGap, lines_and_gaps, total_width, AllBlank, FittingBreak}
 use Rattle.mad_wrap.specs.CleanCut.{fits_after, both_fit, is_white, clean_cut, is_cut_clean}

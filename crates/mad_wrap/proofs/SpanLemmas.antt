@@ -4,12 +4,12 @@ use Rattle.std.proofs.lemmas.Bool.{cases_lt, false≢true}
 use Rattle.std.proofs.lemmas.Bool.Decides.{nat_tests}
 use Rattle.std.specs.Str.{IsUtf8, IsCharBoundary}
 use Rattle.mad_md.specs.declared.compound.Compound.{Compound}
-use Rattle.mad_fit.specs.Chunks.{ArePlain, AreSteady, IsBorder, IsChunk, is_space_at}
-use Rattle.mad_fit.specs.Tokens.{IsTokenAt, AreTokensFrom}
-use Rattle.mad_fit.specs.declared.tokens.Token.{Token}
-use Rattle.mad_fit.proofs.ChunkLemmas.{ends_by, width_by, blank_by, wider, cut_at}
-use Rattle.mad_fit.proofs.ExistLemmas.{token_there}
-use Rattle.mad_fit.proofs.TokenLemmas.{ends_at_border}
+use Rattle.mad_measure.specs.Chunks.{ArePlain, AreSteady, IsBorder, IsChunk, is_space_at}
+use Rattle.mad_measure.specs.Tokens.{IsTokenAt, AreTokensFrom}
+use Rattle.mad_measure.specs.declared.tokens.Token.{Token}
+use Rattle.mad_measure.proofs.ChunkLemmas.{ends_by, width_by, blank_by, wider, cut_at}
+use Rattle.mad_measure.proofs.ExistLemmas.{token_there}
+use Rattle.mad_measure.proofs.TokenLemmas.{ends_at_border}
 use Rattle.mad_wrap.specs.Breaks.{total_width}
 use Rattle.mad_wrap.specs.FirstFit.{Puts, IsFullFor}
 use Rattle.mad_wrap.specs.LineRoom.{left_of, fits_in, taken}

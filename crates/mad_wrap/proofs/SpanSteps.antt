@@ -1,7 +1,7 @@
 -- First fit, span by span: what holds of the lines so far.
 use Rattle.std.proofs.lemmas.Bool.{false≢true}
 use Rattle.std.proofs.Common.{◌≡◌, ◌+◌, true, false, List, [], ◌∷◌, ◌++◌, refl, sym, ap, ◌∙◌, subst, append-nil, append_assoc}
-use Rattle.mad_fit.specs.declared.tokens.Token.{Token}
+use Rattle.mad_measure.specs.declared.tokens.Token.{Token}
 use Rattle.mad_wrap.specs.Breaks.{LineAndGap}
 use Rattle.mad_wrap.specs.FirstFit.{Puts, at_first}
 use Rattle.mad_wrap.specs.LineRoom.{left_of, taken}

@@ -2,9 +2,9 @@
 use Rattle.std.proofs.Common.{◌≡◌, ◌++◌, ◌≤◌, ◌+◌, ◌⊎◌, ℕ, Bool, List, length, drop, sym, ◌∙◌, arith, subst}
 use Rattle.std.specs.Char.{encode_utf8, len_utf8}
 use Rattle.std.proofs.lemmas.Str.{drop_past_char, length-encode}
-use Rattle.mad_columns.specs.Columns.{char_columns}
+use Rattle.mad_characters.specs.Columns.{char_columns}
 use Rattle.mad_md.specs.Flagged.{Flags, is_blank}
-use Rattle.mad_fit.proofs.TokenLemmas.{IsFront, front_more}
+use Rattle.mad_measure.proofs.TokenLemmas.{IsFront, front_more}
 
 -- what is behind a front
 pub record HasFront (max : ℕ) (f : Flags) (bs rest : List ℕ) (end : ℕ) (blank : Bool) (width : ℕ) : Type 0 where

@@ -3,8 +3,8 @@ use Rattle.std.proofs.Common.{◌≡◌, List, [], ◌∷◌, ◌++◌, map, len
 use Rattle.std.proofs.lemmas.List.{length-map}
 use Rattle.mad_md.specs.Flagged.{Run}
 use Rattle.mad_md.specs.declared.compound.Compound.{Compound}
-use Rattle.mad_fit.specs.Tokens.{token_run}
-use Rattle.mad_fit.specs.declared.tokens.Token.{Token}
+use Rattle.mad_measure.specs.Tokens.{token_run}
+use Rattle.mad_measure.specs.declared.tokens.Token.{Token}
 use Rattle.mad_wrap.specs.Breaks.{LineAndGap, lines_and_gaps}
 use Rattle.mad_wrap.specs.LeastWords.{ArePieceFit, IsWordWrap}
 use Rattle.mad_wrap.specs.Words.{Piece, as_token, token_break, piece_break}

@@ -3,8 +3,8 @@ use Rattle.std.proofs.Common.{◌≡◌, ℕ, zero, suc, ◌<◌, ◌+◌, ◌^�
 use Rattle.std.proofs.lemmas.Grind.{flat_map-append}
 use Rattle.std.proofs.lemmas.List.{map-append, take_more}
 use Rattle.mad_md.specs.Flagged.{run_of}
-use Rattle.mad_fit.specs.Tokens.{IsInCompound, token_run}
-use Rattle.mad_fit.specs.declared.tokens.Token.{Token}
+use Rattle.mad_measure.specs.Tokens.{IsInCompound, token_run}
+use Rattle.mad_measure.specs.declared.tokens.Token.{Token}
 use Rattle.mad_wrap.specs.Breaks.{LineAndGap, lines_and_gaps, total_width}
 use Rattle.mad_wrap.specs.FirstFit.{Puts}
 use Rattle.mad_wrap.specs.LineRoom.{left_of, fits_in, taken}

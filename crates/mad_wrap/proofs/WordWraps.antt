@@ -3,11 +3,11 @@ use Rattle.std.proofs.Common.{◌≡◌, ℕ, ◌<◌, ◌+◌, List, [], ◌∷
 use Rattle.std.specs.List.{AllByRecursion}
 use Rattle.mad_md.specs.Flagged.{flagged_text}
 use Rattle.mad_md.specs.declared.compound.Compound.{Compound}
-use Rattle.mad_fit.specs.TextColumns.{width_of}
-use Rattle.mad_fit.specs.Tokens.{tokens_text}
-use Rattle.mad_fit.specs.declared.tokens.Token.{Token}
-use Rattle.mad_fit.proofs.TokenTexts.{IsHonest, text_of_all, all_honest}
-use Rattle.mad_fit.proofs.UniqueLemmas.{all_unique}
+use Rattle.mad_measure.specs.TextColumns.{width_of}
+use Rattle.mad_measure.specs.Tokens.{tokens_text}
+use Rattle.mad_measure.specs.declared.tokens.Token.{Token}
+use Rattle.mad_measure.proofs.TokenTexts.{IsHonest, text_of_all, all_honest}
+use Rattle.mad_measure.proofs.UniqueLemmas.{all_unique}
 use Rattle.mad_wrap.specs.Breaks.{LineAndGap, lines_and_gaps, TrimmingBreak}
 use Rattle.mad_wrap.specs.Keeps.{Keeps}
 use Rattle.mad_wrap.specs.LeastWords.{IsLeastWordBreak, IsWordWrap}

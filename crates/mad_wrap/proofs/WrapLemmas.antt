@@ -1,14 +1,14 @@
 -- Placed tokens are a wrap of their compounds.
 use Rattle.std.proofs.Common.{◌≡◌, ◌≤◌, ◌<◌, ◌+◌, List, [], ◌∷◌, map, length, None, refl, sym, ap, ◌∙◌, arith, subst}
 use Rattle.std.specs.List.{AllByRecursion}
-use Rattle.mad_columns.specs.Columns.{char_columns}
+use Rattle.mad_characters.specs.Columns.{char_columns}
 use Rattle.mad_md.specs.Flagged.{flagged_text}
 use Rattle.mad_md.specs.declared.compound.Compound.{Compound}
-use Rattle.mad_fit.specs.TextColumns.{width_of}
-use Rattle.mad_fit.specs.Tokens.{tokens_text}
-use Rattle.mad_fit.specs.declared.tokens.Token.{Token}
-use Rattle.mad_fit.proofs.TokenTexts.{IsHonest, text_of_all, all_honest}
-use Rattle.mad_fit.proofs.UniqueLemmas.{all_unique}
+use Rattle.mad_measure.specs.TextColumns.{width_of}
+use Rattle.mad_measure.specs.Tokens.{tokens_text}
+use Rattle.mad_measure.specs.declared.tokens.Token.{Token}
+use Rattle.mad_measure.proofs.TokenTexts.{IsHonest, text_of_all, all_honest}
+use Rattle.mad_measure.proofs.UniqueLemmas.{all_unique}
 use Rattle.mad_wrap.specs.Breaks.{lines_and_gaps, total_width}
 use Rattle.mad_wrap.specs.CleanCut.{clean_cut}
 use Rattle.mad_wrap.specs.Keeps.{Keeps}

@@ -3,7 +3,7 @@ use Rattle.std.proofs.Common.{Bool, true, false, List, map}
 use Rattle.std.specs.List.{AllByRecursion}
 use Rattle.mad_md.specs.Flagged.{flagged_text}
 use Rattle.mad_md.specs.declared.compound.Compound.{Compound}
-use Rattle.mad_fit.specs.declared.tokens.Token.{Token}
+use Rattle.mad_measure.specs.declared.tokens.Token.{Token}
 use Rattle.mad_wrap.specs.Keeps.{Keeps}
 use Rattle.mad_wrap.specs.LeastWords.{IsWrapBy}
 use Rattle.mad_wrap.specs.LeastWrap.{AreTokensIn}

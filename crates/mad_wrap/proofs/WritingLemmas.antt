@@ -5,9 +5,9 @@ use Rattle.std.specs.Str.{IsUtf8}
 use Rattle.std.proofs.lemmas.List.Concat.{flat_map-append}
 use Rattle.std.proofs.lemmas.List.{take-append-drop, drop-drop, length-append, length-drop, take-append-le, take_all}
 use Rattle.mad_md.specs.declared.compound.Compound.{Compound}
-use Rattle.mad_fit.specs.Tokens.{IsTokenAt, AreTokensFrom, AreTokensOf, token_text}
-use Rattle.mad_fit.specs.declared.tokens.Token.{Token}
-use Rattle.mad_fit.proofs.ExistLemmas.{tokens_there}
+use Rattle.mad_measure.specs.Tokens.{IsTokenAt, AreTokensFrom, AreTokensOf, token_text}
+use Rattle.mad_measure.specs.declared.tokens.Token.{Token}
+use Rattle.mad_measure.proofs.ExistLemmas.{tokens_there}
 use Rattle.mad_wrap.specs.Breaks.{LineAndGap}
 use Rattle.mad_wrap.specs.FirstFit.{Puts, at_first}
 use Rattle.mad_wrap.specs.Placings.{IsFirstFit}

@@ -1,7 +1,7 @@
 -- Breaking a list of tokens into lines: a list of lines, each with the gap that is dropped after it.
 use Rattle.std.specs.Prelude.{◌≡◌, ℕ, ◌+◌, ◌<◌, ◌≤◌, true, List, [], ◌∷◌, ◌++◌, length}
 use Rattle.std.specs.List.{AllByRecursion}
-use Rattle.mad_fit.specs.declared.tokens.Token.{Token}
+use Rattle.mad_measure.specs.declared.tokens.Token.{Token}
 use Rattle.mad_wrap.specs.declared.room.Room.{Room}
 
 -- a line, and what is dropped after it

@@ -5,7 +5,7 @@ use Rattle.std.specs.Str.{IsUtf8}
 use Rattle.std.specs.Char.{is_whitespace}
 use Rattle.mad_md.specs.Flagged.{flagged_of}
 use Rattle.mad_md.specs.declared.compound.Compound.{Compound}
-use Rattle.mad_fit.specs.TextColumns.{width_of}
+use Rattle.mad_measure.specs.TextColumns.{width_of}
 use Rattle.mad_wrap.specs.declared.room.Room.{Room}
 
 -- the compound fits after an indent

@@ -2,8 +2,8 @@
 use Rattle.std.specs.Prelude.{◌≡◌, ℕ, true, false, List, [], ◌∷◌, ◌++◌, map, length, codes}
 use Rattle.mad_md.specs.Flagged.{unflagged, flagged, flagged_text}
 use Rattle.mad_md.specs.declared.compound.Compound.{Compound}
-use Rattle.mad_fit.specs.TextColumns.{width_of}
-use Rattle.mad_fit.specs.declared.tokens.Token.{Token}
+use Rattle.mad_measure.specs.TextColumns.{width_of}
+use Rattle.mad_measure.specs.declared.tokens.Token.{Token}
 use Rattle.mad_wrap.specs.Bounds.{are_starts}
 use Rattle.mad_wrap.specs.LeastBound.{AreStartsOf}
 use Rattle.mad_wrap.specs.LeastWrap.{AreTokensIn, IsWrap}

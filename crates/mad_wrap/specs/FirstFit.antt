@@ -1,6 +1,6 @@
 -- First fit: where a token goes after those that are placed.
 use Rattle.std.specs.Prelude.{◌≡◌, ◌+◌, ◌⊎◌, true, false}
-use Rattle.mad_fit.specs.declared.tokens.Token.{Token}
+use Rattle.mad_measure.specs.declared.tokens.Token.{Token}
 use Rattle.mad_wrap.specs.LineRoom.{left_of, fits_in, taken}
 use Rattle.mad_wrap.specs.declared.first_fit.FirstFit.{FirstFit}
 use Rattle.mad_wrap.specs.declared.first_fit.Put.{Put}

@@ -2,8 +2,8 @@
 use Rattle.std.specs.Prelude.{◌≡◌, ℕ, ◌+◌, ◌≤◌, ◌<◌, ◌⊎◌, ◌&&◌, Bool, true, false, List, [], ◌∷◌, length, take}
 use Rattle.mad_md.specs.Flagged.{flagged_text}
 use Rattle.mad_md.specs.declared.compound.Compound.{Compound}
-use Rattle.mad_fit.specs.declared.tokens.Token.{Token}
-use Rattle.mad_fit.specs.TextColumns.{width_of}
+use Rattle.mad_measure.specs.declared.tokens.Token.{Token}
+use Rattle.mad_measure.specs.TextColumns.{width_of}
 use Rattle.mad_wrap.specs.Bounds.{are_starts}
 use Rattle.mad_wrap.specs.Breaks.{LineAndGap, FittingBreak, total_width}
 use Rattle.mad_wrap.specs.CleanCut.{is_cut_clean}

@@ -1,6 +1,6 @@
 -- The tokens that begin the lines of a break, by their numbers.
 use Rattle.std.specs.Prelude.{ℕ, zero, suc, ◌+◌, ◌==◌, if◌then◌else◌, List, [], ◌∷◌, ◌++◌, length}
-use Rattle.mad_fit.specs.declared.tokens.Token.{Token}
+use Rattle.mad_measure.specs.declared.tokens.Token.{Token}
 use Rattle.mad_wrap.specs.Breaks.{LineAndGap}
 
 -- the numbers of the tokens that begin the lines of a break, the first of which begins at the n-th token

@@ -1,8 +1,8 @@
 -- Placing tokens on lines one after the other.
 use Rattle.std.specs.Prelude.{◌≡◌, ℕ, ◌+◌, ◌<◌, ◌≤◌, false, List, [], ◌∷◌, map, length}
 use Rattle.mad_md.specs.Flagged.{FlaggedChar, Run}
-use Rattle.mad_fit.specs.Tokens.{token_run, tokens_text}
-use Rattle.mad_fit.specs.declared.tokens.Token.{Token}
+use Rattle.mad_measure.specs.Tokens.{token_run, tokens_text}
+use Rattle.mad_measure.specs.declared.tokens.Token.{Token}
 use Rattle.mad_wrap.specs.Breaks.{LineAndGap, lines_and_gaps, total_width, AllBlank}
 use Rattle.mad_wrap.specs.declared.room.Room.{Room}
 

@@ -2,9 +2,9 @@
 use Rattle.std.specs.Prelude.{◌≡◌, ℕ, ◌+◌, ◌<◌, ◌⊎◌, true, false, Some, List, [], ◌∷◌, ◌++◌, length}
 use Rattle.std.specs.Str.{IsCharBoundary}
 use Rattle.mad_md.specs.declared.compound.Compound.{Compound}
-use Rattle.mad_fit.specs.Chunks.{AreSteady}
-use Rattle.mad_fit.specs.Tokens.{AreTokensFrom}
-use Rattle.mad_fit.specs.declared.tokens.Token.{Token}
+use Rattle.mad_measure.specs.Chunks.{AreSteady}
+use Rattle.mad_measure.specs.Tokens.{AreTokensFrom}
+use Rattle.mad_measure.specs.declared.tokens.Token.{Token}
 use Rattle.mad_wrap.specs.FirstFit.{Puts}
 use Rattle.mad_wrap.specs.LineRoom.{fits_in}
 use Rattle.mad_wrap.specs.declared.first_fit.FirstFit.{FirstFit}

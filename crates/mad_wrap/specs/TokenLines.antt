@@ -3,9 +3,9 @@ use Rattle.std.specs.Prelude.{◌≡◌, ℕ, List, [], ◌∷◌, map}
 use Rattle.std.specs.Str.{IsUtf8}
 use Rattle.mad_md.specs.Flagged.{Run, run_of, flagged_of}
 use Rattle.mad_md.specs.declared.compound.Compound.{Compound}
-use Rattle.mad_fit.specs.declared.tokens.Token.{Token}
-use Rattle.mad_fit.specs.TextColumns.{width_of}
-use Rattle.mad_fit.specs.Tokens.{token_run}
+use Rattle.mad_measure.specs.declared.tokens.Token.{Token}
+use Rattle.mad_measure.specs.TextColumns.{width_of}
+use Rattle.mad_measure.specs.Tokens.{token_run}
 use Rattle.mad_wrap.specs.declared.room.Room.{Room}
 use Rattle.mad_wrap.specs.declared.wrapped_line.WrappedLine.{WrappedLine}
 use Rattle.mad_wrap.specs.Breaks.{LineAndGap, total_width}

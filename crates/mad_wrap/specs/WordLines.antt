@@ -1,8 +1,8 @@
 -- Lines that pieces are put on, for the private calls that make them.
 use Rattle.std.specs.Prelude.{◌≡◌, ◌+◌, List, [], ◌∷◌, ◌++◌, map}
 use Rattle.std.specs.List.{AllByRecursion}
-use Rattle.mad_fit.specs.Tokens.{IsInCompound, token_run}
-use Rattle.mad_fit.specs.declared.tokens.Token.{Token}
+use Rattle.mad_measure.specs.Tokens.{IsInCompound, token_run}
+use Rattle.mad_measure.specs.declared.tokens.Token.{Token}
 use Rattle.mad_wrap.specs.Breaks.{LineAndGap, lines_and_gaps, total_width}
 use Rattle.mad_wrap.specs.FirstFit.{Puts, at_first}
 use Rattle.mad_wrap.specs.Placings.{IsFirstFit}

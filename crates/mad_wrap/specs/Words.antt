@@ -1,7 +1,7 @@
 -- Pieces of tokens, for a wrap that keeps words whole. A word is tokens in a row that aren't blank, of one compound or of several.
 use Rattle.std.specs.Prelude.{ℕ, List, [], ◌∷◌, ◌++◌, map, nat_le, if◌then◌else◌}
 use Rattle.std.specs.List.{flat_map}
-use Rattle.mad_fit.specs.declared.tokens.Token.{Token}
+use Rattle.mad_measure.specs.declared.tokens.Token.{Token}
 use Rattle.mad_wrap.specs.Breaks.{LineAndGap, total_width}
 
 -- a token, and those that stay on its line

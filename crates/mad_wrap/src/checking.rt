@@ -1,8 +1,8 @@
 //! Checking where the lines of a wrap start.
 
 ghost use Rattle.std.specs.Prelude.{◌≡◌, ◌≢◌, ℕ, ◌<◌, ◌≤◌, ◌^◌, ◌⊎◌, ◌==◌, ◌&&◌, List, ◌∷◌, length, IsTrue, IfSome, IfNone};
-ghost use Rattle.mad_fit.specs.declared.tokens.Token.{Token};
-ghost use Rattle.mad_fit.specs.TokensLeft.{AreTokensLeft};
+ghost use Rattle.mad_measure.specs.declared.tokens.Token.{Token};
+ghost use Rattle.mad_measure.specs.TokensLeft.{AreTokensLeft};
 ghost use Rattle.mad_wrap.specs.Bounds.{are_starts, are_starts_from};
 ghost use Rattle.mad_wrap.specs.LeastBound.{IsBound};
 ghost use Rattle.mad_wrap.specs.LineRoom.{is_right};
@@ -11,8 +11,8 @@ ghost use Rattle.mad_wrap.specs.LeastWrap.{AreTokensIn, AreTokenized};
 
 use crate::first_fit::{left_after, left_of, left_of_next};
 use crate::room::Room;
-use mad_fit::{Tokens, token_iter};
 use mad_md::Compound;
+use mad_measure::{Tokens, token_iter};
 
 /// Whether these starts show that each fitting break of the compounds has at least as many lines. Other starts may be right
 /// too, and are not shown to be by this check.

@@ -5,8 +5,8 @@ ghost use Rattle.std.specs.Str.{IsUtf8};
 ghost use Rattle.mad_wrap.specs.CleanCut.{clean_cut, fits_after, is_white, both_fit, AreTexts};
 
 use crate::room::Room;
-use mad_fit::columns_within;
 use mad_md::Compound;
+use mad_measure::columns_within;
 
 /// The two compounds that a clean cut puts on a line each, where one is made.
 ///

@@ -4,7 +4,7 @@ ghost use Rattle.std.specs.Prelude.{◌≡◌, ◌+◌, ◌⊎◌, false, true, 
 ghost use Rattle.mad_wrap.specs.LineRoom.{left_of, left_after, fits_in, taken};
 
 use crate::room::Room;
-use mad_fit::Token;
+use mad_measure::Token;
 
 /// Where first fit puts a token.
 #[derive(Clone, Copy)]

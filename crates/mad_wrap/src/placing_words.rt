@@ -1,8 +1,8 @@
 //! Placing tokens on lines, words whole.
 
 ghost use Rattle.std.specs.Prelude.{◌≡◌, ◌≢◌, ◌++◌, ◌∷◌, [], List, IfOk, OnOk, false, length, map, if◌then◌else◌};
-ghost use Rattle.mad_fit.specs.Tokens.{IsInCompound};
-ghost use Rattle.mad_fit.specs.declared.tokens.Token.{Token};
+ghost use Rattle.mad_measure.specs.Tokens.{IsInCompound};
+ghost use Rattle.mad_measure.specs.declared.tokens.Token.{Token};
 ghost use Rattle.mad_wrap.specs.Breaks.{total_width};
 ghost use Rattle.mad_wrap.specs.LeastWrap.{AreTokensIn};
 ghost use Rattle.mad_wrap.specs.WordLines.{AreInCompounds, AreWordLines, TakesTokens};
@@ -10,8 +10,8 @@ ghost use Rattle.mad_wrap.specs.WordLines.{AreInCompounds, AreWordLines, TakesTo
 use crate::first_fit::{FirstFit, Put};
 use crate::room::Room;
 use crate::wrapped_line::WrappedLine;
-use mad_fit::{Token, token_iter};
 use mad_md::Compound;
+use mad_measure::{Token, token_iter};
 use std::alloc::{AllocError, Global};
 use std::mem;
 

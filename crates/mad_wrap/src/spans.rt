@@ -2,14 +2,14 @@
 
 ghost use Rattle.std.specs.Prelude.{◌≡◌, ◌≢◌, ℕ, ◌≤◌, ◌<◌, ◌+◌, ◌-◌, Some, false, true, length, IsTrue, ◌⊎◌, IfSome, MatchOption};
 ghost use Rattle.std.specs.Str.{IsCharBoundary};
-ghost use Rattle.mad_fit.specs.Chunks.{ArePlain, is_space_at};
+ghost use Rattle.mad_measure.specs.Chunks.{ArePlain, is_space_at};
 ghost use Rattle.mad_wrap.specs.Spans.{IsSpan, IsFullAt, IsFullHere};
 ghost use Rattle.mad_wrap.specs.declared.first_fit.Put.TheVariants.{OnLine, OnNext, InGap};
 
 use crate::first_fit::{FirstFit, Put, left_of};
 use crate::wide_tokens::quick_token_at;
-use mad_fit::chunk_end;
 use mad_md::Compound;
+use mad_measure::chunk_end;
 
 /// Tokens of a compound in a row that first fit puts alike.
 #[derive(Clone, Copy)]

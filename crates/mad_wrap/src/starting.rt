@@ -3,8 +3,8 @@
 ghost use Rattle.std.specs.Prelude.{◌≡◌, ◌≤◌, ◌<◌, ◌+◌, ◌∷◌, ◌++◌, [], OnOk, List, length, IfOk, MatchOption};
 ghost use Rattle.mad_wrap.specs.Breaks.{total_width};
 ghost use Rattle.mad_md.specs.Flagged.{flagged_text};
-ghost use Rattle.mad_fit.specs.TokensLeft.{AreTokensLeft};
-ghost use Rattle.mad_fit.specs.declared.tokens.Token.{Token};
+ghost use Rattle.mad_measure.specs.TokensLeft.{AreTokensLeft};
+ghost use Rattle.mad_measure.specs.declared.tokens.Token.{Token};
 ghost use Rattle.mad_wrap.specs.LeastWrap.{AreTokenized};
 ghost use Rattle.mad_wrap.specs.LeastBound.{IsBound, AreChecked, AreStartsOf, AreFewest, AreCutStarts, IsFirstPast};
 ghost use Rattle.mad_wrap.specs.LineRoom.{past_here};
@@ -14,8 +14,8 @@ ghost use Rattle.mad_wrap.specs.WrapLines.{HasRoom};
 use crate::clean_cut::clean_cut;
 use crate::first_fit::{FirstFit, Put, left_after, left_of};
 use crate::room::Room;
-use mad_fit::{Tokens, token_iter};
 use mad_md::Compound;
+use mad_measure::{Tokens, token_iter};
 use std::alloc::{AllocError, Global};
 
 /// Starts that show how many lines each fitting break of the compounds has at least.

@@ -3,13 +3,13 @@
 ghost use Rattle.std.specs.Prelude.{◌≡◌, ◌≢◌, ◌≤◌, ◌<◌, ◌+◌, ◌^◌, ◌⊎◌, IsTrue, false, length};
 ghost use Rattle.std.specs.Char.{len_utf8};
 ghost use Rattle.std.specs.Str.{IsCharBoundary};
-ghost use Rattle.mad_columns.specs.Columns.{char_columns};
+ghost use Rattle.mad_characters.specs.Columns.{char_columns};
 ghost use Rattle.mad_md.specs.Flagged.{flags_of, is_blank};
-ghost use Rattle.mad_fit.specs.Tokens.{IsTokenAt};
+ghost use Rattle.mad_measure.specs.Tokens.{IsTokenAt};
 
-use mad_columns::{char_columns, is_known_wide};
-use mad_fit::{Token, token_at};
+use mad_characters::{char_columns, is_known_wide};
 use mad_md::Compound;
+use mad_measure::{Token, token_at};
 
 // The least first byte of a character that is known to be wide.
 const LEAST_WIDE: u8 = 0xe3;

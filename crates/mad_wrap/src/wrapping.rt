@@ -2,7 +2,7 @@
 
 ghost use Rattle.std.specs.Prelude.{◌≡◌, ◌<◌, ◌+◌, IfOk};
 ghost use Rattle.mad_md.specs.Flagged.{flagged_text};
-ghost use Rattle.mad_fit.specs.TextColumns.{width_of};
+ghost use Rattle.mad_measure.specs.TextColumns.{width_of};
 ghost use Rattle.mad_wrap.specs.CleanCut.{is_cut_clean};
 ghost use Rattle.mad_wrap.specs.LeastWords.{IsWrapOf};
 ghost use Rattle.mad_wrap.specs.WrapLines.{compounds_of, AreCounted};
@@ -13,8 +13,8 @@ use crate::placing::place;
 use crate::placing_words::place_words;
 use crate::room::Room;
 use crate::wrapped_line::WrappedLine;
-use mad_fit::{columns, token_iter};
 use mad_md::Compound;
+use mad_measure::{columns, token_iter};
 use std::alloc::{AllocError, Global};
 
 /// Breaks compounds that are wider than the first line into the fewest lines.

@@ -17,7 +17,7 @@ use Rattle.markdown_pieces.specs.declared.pieces.Kind.TheVariants.{Plain, Shown 
 use Rattle.markdown_pieces.specs.declared.pieces.Piece.{Piece}
 use Rattle.markdown_inlines.specs.declared.looks.Look.{Look}
 use Rattle.markdown_inlines.specs.declared.links.Over.{Over}
-use Rattle.mad_printable.specs.Pictures.{is_printable_char, picture}
+use Rattle.mad_characters.specs.Pictures.{is_printable_char, picture}
 use Rattle.markdown_inlines.specs.Printable.{is_printable, shown_char, is_shown}
 use Rattle.markdown_inlines.specs.Parts.{sign_char, part, alternative_text, html_shown, opening_shown, closing_shown, kind_characters}
 use Rattle.markdown_inlines.specs.Styled.{Shown, shown_with}

@@ -3,7 +3,7 @@
 ghost use Rattle.std.specs.Prelude.{◌≡◌, true};
 ghost use Rattle.markdown_inlines.specs.Printable.{is_printable, shown_char};
 
-use mad_printable::picture;
+use mad_characters::picture;
 
 /// What is shown of a character: a space for a tab and a newline, and else what [`picture`] says.
 ///

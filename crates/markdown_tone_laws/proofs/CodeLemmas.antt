@@ -17,7 +17,7 @@ use Rattle.bstr.proofs.lemmas.SoundLemmas.{SpellsChar-decoded}
 use Rattle.mad_md.specs.Flagged.{FlaggedChar, flagged, unflagged}
 use Rattle.mad_md.specs.Lines.{normal}
 use Rattle.mad_md.specs.declared.composite.CompositeStyle.TheVariants as styles
-use Rattle.mad_printable.specs.Pictures.{picture}
+use Rattle.mad_characters.specs.Pictures.{picture}
 use Rattle.mad_style.specs.declared.kinds.CompositeKind.TheVariants.{Code}
 use Rattle.code_tones.specs.Tones.{is_counted, shown}
 use Rattle.mad_marks.specs.LineMarks.{content_counted, has_mark}

@@ -19,7 +19,7 @@ pub use Rattle.mad_term.specs.Attribute
 pub use Rattle.mad_term.specs.AttributeNames
 pub use Rattle.mad_term.specs.Attributes
 pub use Rattle.mad_term.specs.Color
-pub use Rattle.mad_columns.specs.Columns
+pub use Rattle.mad_characters.specs.Columns
 pub use Rattle.mad_term.specs.Commands
 pub use Rattle.mad_screen.specs.Drawing
 pub use Rattle.mad_term.specs.Draws
@@ -60,27 +60,27 @@ pub use Rattle.mad_widths.specs.SeenCells
 pub use Rattle.mad_widths.specs.TableFits
 pub use Rattle.mad_widths.specs.Turns
 pub use Rattle.mad_widths.specs.WorkedWidths
-pub use Rattle.mad_fit.specs.Areas
-pub use Rattle.mad_fit.specs.RunningWidths
-pub use Rattle.mad_fit.specs.Thumbs
-pub use Rattle.mad_fit.specs.TextColumns
-pub use Rattle.mad_fit.specs.Completions
-pub use Rattle.mad_printable.specs.Pictures as ShownCharacters
-pub use Rattle.mad_fit.specs.Printable
+pub use Rattle.mad_measure.specs.Areas
+pub use Rattle.mad_measure.specs.RunningWidths
+pub use Rattle.mad_measure.specs.Thumbs
+pub use Rattle.mad_measure.specs.TextColumns
+pub use Rattle.mad_measure.specs.Completions
+pub use Rattle.mad_characters.specs.Pictures as ShownCharacters
+pub use Rattle.mad_measure.specs.Printable
 pub use Rattle.mad_steady.specs.Kept as SteadyKeeps
 pub use Rattle.mad_steady.specs.Kinds as SteadyKinds
 pub use Rattle.mad_steady.specs.Steady
 pub use Rattle.mad_steady.specs.Widths as SteadyWidths
-pub use Rattle.mad_fit.specs.TokenPositions
-pub use Rattle.mad_fit.specs.Tokens
-pub use Rattle.mad_fit.specs.TokensLeft
-pub use Rattle.mad_ellipsis.specs.CenteredCuts
-pub use Rattle.mad_ellipsis.specs.Cuts as RunCuts
-pub use Rattle.mad_ellipsis.specs.Ellipses
-pub use Rattle.mad_ellipsis.specs.Filled as FilledTexts
-pub use Rattle.mad_ellipsis.specs.Fitted
-pub use Rattle.mad_ellipsis.specs.Fronts as TextFronts
-pub use Rattle.mad_ellipsis.specs.Zones
+pub use Rattle.mad_measure.specs.TokenPositions
+pub use Rattle.mad_measure.specs.Tokens
+pub use Rattle.mad_measure.specs.TokensLeft
+pub use Rattle.mad_fitting.specs.CenteredCuts
+pub use Rattle.mad_fitting.specs.Cuts as RunCuts
+pub use Rattle.mad_fitting.specs.Ellipses
+pub use Rattle.mad_fitting.specs.Filled as FilledTexts
+pub use Rattle.mad_fitting.specs.Fitted
+pub use Rattle.mad_fitting.specs.Fronts as TextFronts
+pub use Rattle.mad_fitting.specs.Zones
 pub use Rattle.mad_draw.specs.BesideBar
 pub use Rattle.mad_draw.specs.Crops
 pub use Rattle.mad_draw.specs.DrawnRows
@@ -163,10 +163,10 @@ pub use Rattle.mad_json.specs.ReadsBack as SkinsReadBack
 pub use Rattle.mad_json.specs.ScrollBars
 pub use Rattle.mad_json.specs.Texts as SkinTexts
 pub use Rattle.mad_json.specs.Written as SkinWritten
-pub use Rattle.mad_lines.specs.TextLines
-pub use Rattle.mad_lines.specs.LineColumns
-pub use Rattle.mad_lines.specs.CharClasses
-pub use Rattle.mad_lines.specs.PositionOrder
+pub use Rattle.mad_edit_lines.specs.TextLines
+pub use Rattle.mad_edit_lines.specs.LineColumns
+pub use Rattle.mad_edit_lines.specs.CharClasses
+pub use Rattle.mad_edit_lines.specs.PositionOrder
 pub use Rattle.mad_edit.specs.Editor
 pub use Rattle.mad_edit.specs.Undo
 pub use Rattle.mad_edit.specs.Words as EditedWords

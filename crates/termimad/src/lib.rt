@@ -6,7 +6,7 @@
 
 /// What a terminal takes, and what it shows.
 pub mod term {
-    pub use mad_columns::char_columns;
+    pub use mad_characters::char_columns;
     pub use mad_screen::{Cell, CutOut, Looks, NotPlain, Pen, Screen, ScriptSource, laws};
     pub use mad_term::{
         Attribute, Attributes, Clear, ClearType, Color, ContentStyle, Error, Event,
@@ -110,23 +110,10 @@ pub use mad_edit::Chars;
 pub use mad_edit::InputFieldContent;
 pub use mad_edit::Pos;
 pub use mad_edit::Range;
-pub use mad_ellipsis::ELLIPSIS;
-pub use mad_ellipsis::Run;
-pub use mad_ellipsis::Zones;
 pub use mad_field::InputField;
-pub use mad_fit::Area;
-pub use mad_fit::DEFAULT_TAB_REPLACEMENT;
-pub use mad_fit::Spacing;
-pub use mad_fit::StrFit;
-pub use mad_fit::TAB_REPLACEMENT;
-pub use mad_fit::Token;
-pub use mad_fit::Tokens;
-pub use mad_fit::compute_scrollbar;
-pub use mad_fit::first_chars;
-pub use mad_fit::is_printable;
-pub use mad_fit::printable;
-pub use mad_fit::token_iter;
-pub use mad_fit::tokenize;
+pub use mad_fitting::ELLIPSIS;
+pub use mad_fitting::Run;
+pub use mad_fitting::Zones;
 pub use mad_format::Fitter;
 pub use mad_format::wrap_text;
 pub use mad_frames as frames;
@@ -188,6 +175,19 @@ pub use mad_md::TableRule;
 pub use mad_md::Text;
 pub use mad_md::parse_text;
 pub use mad_md::parse_text_with;
+pub use mad_measure::Area;
+pub use mad_measure::DEFAULT_TAB_REPLACEMENT;
+pub use mad_measure::Spacing;
+pub use mad_measure::StrFit;
+pub use mad_measure::TAB_REPLACEMENT;
+pub use mad_measure::Token;
+pub use mad_measure::Tokens;
+pub use mad_measure::compute_scrollbar;
+pub use mad_measure::first_chars;
+pub use mad_measure::is_printable;
+pub use mad_measure::printable;
+pub use mad_measure::token_iter;
+pub use mad_measure::tokenize;
 pub use mad_screen::CutOut;
 pub use mad_screen::ScriptSource;
 pub use mad_steady::is_steady;

@@ -3,8 +3,8 @@
 use crate::call::{Place, parse_call};
 use crate::failing::Refusal;
 use crate::skins::skin_for;
-use mad_fit::printable;
 use mad_layout::MadSkin;
+use mad_measure::printable;
 use mad_steady::steady;
 use mad_term::{Error, Out, Stream};
 use markdown_layout::write_markdown_on;

@@ -3,7 +3,7 @@ use Rattle.std.specs.Prelude.{◌≡◌, ◌⊎◌, ℕ, ◌-◌, ◌^◌, ◌<�
 use Rattle.mad_term.specs.Trace.{Trace, ahead_all, failed, IsAtItsEnd}
 use Rattle.mad_term.specs.declared.errors.Error.{Error}
 use Rattle.mad_term.specs.declared.errors.Error.TheVariants.{IO, InsufficientWidth, Memory}
-use Rattle.mad_fit.specs.Printable.{printable_text}
+use Rattle.mad_measure.specs.Printable.{printable_text}
 use Rattle.mad_steady.specs.Steady.{steady_text}
 use Rattle.mad_md.specs.Reading.{unread_text}
 use Rattle.mad_md.specs.Scan.{lines_of}

@@ -7,9 +7,9 @@ ghost use Rattle.mad_outline.specs.Sources.{text_said};
 ghost use Rattle.termimad_page_run.specs.Runs.{moment, name_row, row_char, sheet_said, IsBrokenOff, IsBrokenRun, IsFaultyTurn, IsLastTurn, IsPaged, IsTurn, IsTurned};
 
 use crate::blocks::apply_block;
-use mad_fit::printable;
 use mad_keys::Keys;
 use mad_layout::MadSkin;
+use mad_measure::printable;
 use mad_pager::{End, Files, Pager, Turn};
 use mad_search::PagedText;
 use mad_steady::steady;

@@ -1,14 +1,14 @@
 //! What the arguments ask for.
 
 ghost use Rattle.std.specs.Prelude.{◌≡◌, ℕ, List, Option, MatchOption, MatchResult, map, option_map, string_bytes};
-ghost use Rattle.mad_fit.specs.declared.Area.{Area as SomeArea};
+ghost use Rattle.mad_measure.specs.declared.Area.{Area as SomeArea};
 ghost use Rattle.termimad_run.specs.Calls.{Asks, IsWhole, command_of_pieces, IsNoCall, IsAreaOf, IsSkinWord, AsksArea, AsksWidth, AsksSize, IsCall, RefusesWords};
 
 use crate::failure::Failure;
 use crate::number::parse_number;
 use crate::skin::skin_of;
-use mad_fit::Area;
 use mad_layout::MadSkin;
+use mad_measure::Area;
 use std::alloc::Global;
 
 // The least width of an area, in columns. Its text is laid out one column narrower, and at less than three nothing is wrapped.

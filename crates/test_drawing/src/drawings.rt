@@ -8,8 +8,8 @@ use mad_draw::{
     BORDER_STYLE_MIDDLE_SQUARE_LINE, Filling, ProgressBar, Rect, RectBorderStyle, WriteSpaced,
     fill_bg, queue_spaces,
 };
-use mad_fit::{Area, Spacing};
 use mad_md::Alignment;
+use mad_measure::{Area, Spacing};
 use mad_parse::parse_compound_style;
 use mad_screen::CutOut;
 use mad_style::CompoundStyle;

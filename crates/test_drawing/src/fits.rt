@@ -1,12 +1,12 @@
 //! Fitting to a width, wider places, and cuts of runs that are kept.
 
 ghost use Rattle.std.specs.Prelude.{OnOk};
-ghost use Rattle.mad_ellipsis.specs.Zones.{AreZones, runs_of};
+ghost use Rattle.mad_fitting.specs.Zones.{AreZones, runs_of};
 
 use crate::pictures::{push_cell, push_compounds};
 use crate::skins::unstyled_skin;
 use crate::words::{align, number, numbers, style};
-use mad_ellipsis::Zones;
+use mad_fitting::Zones;
 use mad_format::{FmtComposite, LineSkin};
 use mad_md::{Alignment, Composite, CompositeStyle, Compound};
 use mad_term::Error;

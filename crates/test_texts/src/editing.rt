@@ -1,7 +1,7 @@
 //! An editor after some calls. A picture of it shows the cursor as a bar in the text, and then what is selected.
 
 use mad_edit::InputFieldContent;
-use mad_lines::Pos;
+use mad_edit_lines::Pos;
 use std::alloc::{AllocError, Global};
 use std::fmt::Write;
 

@@ -3,8 +3,8 @@
 //! Each line of a text is a compound. It is bold where it begins with two stars, and code where it begins with a backquote.
 
 use crate::pictures::{draw_compound, draw_compounds, draw_numbers};
-use mad_fit::{Spacing, StrFit, Token, columns, tokenize};
 use mad_md::{Alignment, Compound};
+use mad_measure::{Spacing, StrFit, Token, columns, tokenize};
 use mad_wrap::{Room, WrappedLine, check_starts, fit_columns, wrap_compounds, wrap_starts};
 use std::alloc::{AllocError, Global};
 use std::borrow::CowStr;

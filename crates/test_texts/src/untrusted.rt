@@ -1,8 +1,8 @@
 //! Texts that one doesn't trust, and tables made from data.
 
 use crate::pictures::draw_lines;
-use mad_fit::{is_printable, printable};
 use mad_md::{Alignment, Line, TableRow, Text};
+use mad_measure::{is_printable, printable};
 use mad_steady::steady;
 use std::alloc::{AllocError, Global};
 use std::borrow::CowStr;

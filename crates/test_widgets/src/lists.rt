@@ -1,13 +1,13 @@
 //! Lists that are drawn: a script changes them, and some of its commands tell what they are.
 
-ghost use Rattle.mad_fit.specs.Areas.{IsWithinLimits};
+ghost use Rattle.mad_measure.specs.Areas.{IsWithinLimits};
 
 use crate::items::{ByNumber, Item, Part, Without, item_of};
 use crate::refusal::Refusal;
-use mad_fit::Area;
 use mad_layout::MadSkin;
 use mad_list::{CellMeasure, ListView, ListViewColumn};
 use mad_md::Alignment;
+use mad_measure::Area;
 use mad_screen::{CutOut, Screen};
 use mad_style::{CompoundStyle, rgb};
 use mad_term::Error;

@@ -1,7 +1,7 @@
 //! The words of a row: keys, events and numbers.
 
 use mad_edit::Pos;
-use mad_fit::Area;
+use mad_measure::Area;
 use mad_term::{
     Event, KeyCode, KeyCombination, KeyEvent, KeyModifiers, MouseButton, MouseEvent, MouseEventKind,
 };

@@ -1,12 +1,12 @@
 //! Reading the text: its lines and its characters.
 
 ghost use Rattle.std.specs.Prelude.{◌≡◌, ◌<◌, ◌≤◌, ◌-◌, ◌↔◌, [], length, chars, min, IsTrue, MatchOption};
-ghost use Rattle.mad_lines.specs.LineColumns.{char_width};
-ghost use Rattle.mad_lines.specs.TextLines.{lines, lines_of, line_at};
+ghost use Rattle.mad_edit_lines.specs.LineColumns.{char_width};
+ghost use Rattle.mad_edit_lines.specs.TextLines.{lines, lines_of, line_at};
 ghost use Rattle.mad_edit.specs.Editor.{cursor_line, selected};
 
 use crate::content::InputFieldContent;
-use mad_lines::{Chars, Line, Pos, char_width, end_position, line_at, line_count};
+use mad_edit_lines::{Chars, Line, Pos, char_width, end_position, line_at, line_count};
 
 impl InputFieldContent {
     /// A line, if there is one with this number, counted from 0.

@@ -3,11 +3,11 @@
 ghost use Rattle.std.specs.Prelude.{◌≡◌, ◌<◌, ◌-◌, ◌+◌, ◌↔◌, ◌≢◌, [], None, length, chars, IfOk, OnOk, OnErr, IsTrue};
 ghost use Rattle.std.specs.Bool.{OnTrue, OnFalse};
 ghost use Rattle.std.specs.List.{swap};
-ghost use Rattle.mad_lines.specs.TextLines.{lines, text_of, accepted};
+ghost use Rattle.mad_edit_lines.specs.TextLines.{lines, text_of, accepted};
 ghost use Rattle.mad_edit.specs.Editor.{clamp_in, clamp_tail, offset_at, cursor_line, cursor_index};
 
 use crate::content::{InputFieldContent, clamp_tail};
-use mad_lines::{Pos, clear_lines, line_count, swap_lines, valid_pos};
+use mad_edit_lines::{Pos, clear_lines, line_count, swap_lines, valid_pos};
 use std::alloc::{AllocError, Global};
 
 impl InputFieldContent {

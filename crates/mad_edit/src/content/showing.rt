@@ -5,7 +5,7 @@ ghost use Rattle.std.specs.Iterator.{YieldsFirst};
 ghost use Rattle.std.specs.Iterator.Runs.{YieldsInOrder};
 
 use crate::content::InputFieldContent;
-use mad_lines::Chars;
+use mad_edit_lines::Chars;
 use std::fmt;
 
 impl fmt::Display for InputFieldContent {

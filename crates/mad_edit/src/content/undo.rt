@@ -1,11 +1,11 @@
 //! Undoing cuts.
 
 ghost use Rattle.std.specs.Prelude.{◌≡◌, ℕ, List, All, map, OnOk, OnErr};
-ghost use Rattle.mad_lines.specs.TextLines.{IsAcceptedChar};
+ghost use Rattle.mad_edit_lines.specs.TextLines.{IsAcceptedChar};
 ghost use Rattle.mad_edit.specs.Undo.{LeadsTo, all_undone, cut_of};
 
 use crate::content::InputFieldContent;
-use mad_lines::Pos;
+use mad_edit_lines::Pos;
 use std::alloc::AllocError;
 
 impl InputFieldContent {

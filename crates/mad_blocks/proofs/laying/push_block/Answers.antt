@@ -3,7 +3,7 @@ use Rattle.std.specs.List.{AllByRecursion}
 use Rattle.std.specs.Vec.Iter.{into_iter_items}
 use Rattle.std.proofs.lemmas.Grind.{common_steps}
 use Rattle.mad_blocks.specs.LayoutParts.{block_width, placed_code, justified, code_room, IsLineAt, AreLinesAt}
-use Rattle.mad_fit.specs.declared.spacing.Spacing.{Spacing}
+use Rattle.mad_measure.specs.declared.spacing.Spacing.{Spacing}
 use Rattle.mad_format.specs.CompositeWraps.{IsCompositeWrap}
 use Rattle.mad_format.specs.Wraps.{IsMeasured}
 use Rattle.mad_format.specs.declared.line.FmtLine.{FmtLine}

@@ -1,7 +1,7 @@
 use Rattle.std.proofs.Common.{ap, refl, arith}
 use Rattle.std.proofs.lemmas.List.{drop_all}
 use Rattle.mad_md.specs.Flagged.{flagged_text}
-use Rattle.mad_fit.specs.TextColumns.{width_of}
+use Rattle.mad_measure.specs.TextColumns.{width_of}
 use Rattle.mad_format.proofs.MeasureLemmas.{length_more}
 use Rattle.mad_format.proofs.indents.composite_columns.Goals as goal
 

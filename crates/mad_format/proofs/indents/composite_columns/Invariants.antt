@@ -1,6 +1,6 @@
 use Rattle.std.proofs.Common.{◌≡◌, ◌<◌, ◌^◌, ◌+◌, drop}
 use Rattle.mad_md.specs.Flagged.{flagged_text}
-use Rattle.mad_fit.specs.TextColumns.{width_of}
+use Rattle.mad_measure.specs.TextColumns.{width_of}
 use Rattle.mad_format.specs.Indents.{indent}
 use Rattle.mad_wrap.specs.WrapLines.{capped}
 use Rattle.mad_format.proofs.indents.composite_columns.Given as goal

@@ -1,6 +1,6 @@
 use Rattle.std.proofs.Common.{◌<◌, ◌+◌, map, ap, ◌∙◌, arith, subst}
 use Rattle.mad_md.specs.Flagged.{run_of, flagged_text}
-use Rattle.mad_fit.specs.TextColumns.{width_of}
+use Rattle.mad_measure.specs.TextColumns.{width_of}
 use Rattle.mad_wrap.specs.LeastWords.{IsWrapOf}
 use Rattle.mad_wrap.specs.WrapLines.{compounds_of}
 use Rattle.mad_format.specs.Indents.{room_of}

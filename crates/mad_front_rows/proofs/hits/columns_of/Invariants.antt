@@ -1,5 +1,5 @@
 use Rattle.std.proofs.Common.{◌≡◌, map, take}
-use Rattle.mad_fit.specs.TextColumns.{columns}
+use Rattle.mad_measure.specs.TextColumns.{columns}
 use Rattle.mad_style.specs.StyledChars.{char_alone}
 use Rattle.mad_wrap.specs.WrapLines.{capped}
 use Rattle.mad_front_rows.proofs.hits.columns_of.Given as goal

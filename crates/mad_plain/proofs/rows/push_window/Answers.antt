@@ -1,6 +1,6 @@
 use Rattle.std.proofs.Common.{◌++◌, ◌∙◌, ap, sym, arith}
 use Rattle.std.proofs.lemmas.List.{append-nil}
-use Rattle.mad_columns.proofs.CharColumns.{char_columns-three}
+use Rattle.mad_characters.proofs.CharColumns.{char_columns-three}
 use Rattle.mad_plain.specs.Shown.{shown_so_far, rest_of}
 use Rattle.mad_plain.proofs.RowLemmas.{window_past}
 use Rattle.mad_plain.proofs.rows.push_window.Goals as goal

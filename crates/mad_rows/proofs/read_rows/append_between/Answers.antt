@@ -2,7 +2,7 @@ use Rattle.std.proofs.Common.{◌++◌, string_bytes, ap, ◌∙◌, rules}
 use Rattle.std.specs.Str.{IsUtf8}
 use Rattle.std.proofs.lemmas.Str.{IsCharBoundary-start}
 use Rattle.mad_md.specs.Flagged.{Run, flags_of}
-use Rattle.mad_fit.proofs.TokenLemmas.{ends_at_border}
+use Rattle.mad_measure.proofs.TokenLemmas.{ends_at_border}
 use Rattle.mad_wrap.specs.Writings.{put_bytes}
 use Rattle.mad_wrap.proofs.PlacingLemmas.{run_is_of}
 use Rattle.mad_wrap.proofs.WritingLemmas.{up_to_start, token_more}

@@ -1,7 +1,7 @@
 use Rattle.std.proofs.Common.{◌≤◌, ◌-◌, List, ℕ, length, string_bytes}
 use Rattle.std.specs.Str.{IsCharBoundary}
-use Rattle.mad_fit.specs.Chunks.{ArePlain}
-use Rattle.mad_fit.specs.declared.tokens.Token.{Token}
+use Rattle.mad_measure.specs.Chunks.{ArePlain}
+use Rattle.mad_measure.specs.declared.tokens.Token.{Token}
 use Rattle.mad_wrap.specs.Writings.{IsWrittenBare}
 use Rattle.mad_rows.specs.WordRows.{WritesSome}
 use Rattle.mad_rows.proofs.read_rows.append_front_words.Given as goal

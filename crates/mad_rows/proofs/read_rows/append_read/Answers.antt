@@ -1,11 +1,11 @@
 use Rattle.std.proofs.Common.{List, ◌<◌, ◌+◌, ◌^◌, ◌++◌, ◌∷◌, [], map, string_bytes, ap, sym, ◌∙◌, subst, arith}
 use Rattle.mad_md.specs.Flagged.{flagged_text}
 use Rattle.mad_md.specs.declared.compound.Compound.{Compound}
-use Rattle.mad_fit.specs.TextColumns.{width_of}
+use Rattle.mad_measure.specs.TextColumns.{width_of}
 use Rattle.mad_draw.specs.Pieces.{pieces_bytes}
 use Rattle.mad_format.specs.Indents.{room_of}
 use Rattle.mad_rows.specs.Rows.{compound_piece}
-use Rattle.mad_fit.specs.TokenPositions.{bytes_of}
+use Rattle.mad_measure.specs.TokenPositions.{bytes_of}
 use Rattle.mad_wrap.specs.CleanCut.{is_cut_clean}
 use Rattle.mad_rows.specs.ReadRows.{WritesWrap}
 use Rattle.mad_rows.specs.WordRows.{WritesWordWrap}

@@ -1,7 +1,7 @@
 use Rattle.std.proofs.Common.{ℕ, ◌++◌, List, string_bytes, ap, ◌∙◌, subst, arith, rules}
 use Rattle.std.specs.Str.{IsUtf8}
 use Rattle.std.proofs.lemmas.Str.{IsCharBoundary-start}
-use Rattle.mad_fit.specs.Chunks.{ArePlain}
+use Rattle.mad_measure.specs.Chunks.{ArePlain}
 use Rattle.mad_wrap.specs.Writings.{put_bytes}
 use Rattle.mad_wrap.proofs.WritingLemmas.{up_to_start, span_more}
 use Rattle.mad_rows.proofs.read_rows.append_spans.Goals as goal

@@ -1,7 +1,7 @@
 use Rattle.std.proofs.Common.{ℕ, ◌≤◌, ◌-◌, List, length, string_bytes}
 use Rattle.std.specs.Str.{IsCharBoundary}
-use Rattle.mad_fit.specs.Chunks.{ArePlain}
-use Rattle.mad_fit.specs.declared.tokens.Token.{Token}
+use Rattle.mad_measure.specs.Chunks.{ArePlain}
+use Rattle.mad_measure.specs.declared.tokens.Token.{Token}
 use Rattle.mad_wrap.specs.Writings.{IsWrittenBare, WritesUpTo}
 use Rattle.mad_rows.proofs.read_rows.append_spans.Given as goal
 

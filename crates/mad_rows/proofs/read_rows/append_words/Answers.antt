@@ -1,8 +1,8 @@
 use Rattle.std.proofs.Common.{rules, ℕ, ◌≡◌, ◌+◌, ◌<◌, List, false, true, if◌then◌else◌, inl, inr, map, drop, slice_index_or, string_bytes, refl, sym, ap, ◌∙◌, arith, subst}
 use Rattle.std.specs.Str.{IsUtf8}
 use Rattle.std.proofs.lemmas.Str.{IsCharBoundary-start}
-use Rattle.mad_fit.specs.declared.tokens.Token.{Token}
-use Rattle.mad_fit.proofs.TokenLemmas.{ends_at_border}
+use Rattle.mad_measure.specs.declared.tokens.Token.{Token}
+use Rattle.mad_measure.proofs.TokenLemmas.{ends_at_border}
 use Rattle.mad_wrap.specs.Words.{alone, together}
 use Rattle.mad_wrap.proofs.WordSteps.{none_of}
 use Rattle.mad_rows.specs.ReadRows.{token_bytes}

@@ -1,6 +1,6 @@
 use Rattle.std.proofs.Common.{◌+◌, ◌-◌, drop, length, string_bytes}
 use Rattle.std.specs.Str.{IsCharBoundary}
-use Rattle.mad_fit.specs.Tokens.{AreTokensOf}
+use Rattle.mad_measure.specs.Tokens.{AreTokensOf}
 use Rattle.mad_rows.specs.ReadRows.{token_bytes}
 use Rattle.mad_rows.proofs.WordRowLemmas.{WordsTo, AreLeft}
 use Rattle.mad_rows.proofs.read_rows.append_words.Given as goal

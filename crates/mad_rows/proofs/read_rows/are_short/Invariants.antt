@@ -1,5 +1,5 @@
 use Rattle.std.proofs.Common.{◌≡◌, ◌+◌, drop}
-use Rattle.mad_fit.specs.TokenPositions.{bytes_of}
+use Rattle.mad_measure.specs.TokenPositions.{bytes_of}
 use Rattle.mad_wrap.specs.WrapLines.{capped}
 use Rattle.mad_rows.proofs.read_rows.are_short.Given as goal
 

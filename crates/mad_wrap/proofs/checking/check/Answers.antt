@@ -1,6 +1,6 @@
 use Rattle.std.proofs.Common.{sym, ◌∙◌, arith, subst}
-use Rattle.mad_fit.specs.TokensLeft.{AreTokensLeft}
-use Rattle.mad_fit.proofs.CursorLemmas.{all_read}
+use Rattle.mad_measure.specs.TokensLeft.{AreTokensLeft}
+use Rattle.mad_measure.proofs.CursorLemmas.{all_read}
 use Rattle.mad_wrap.proofs.CheckLemmas.{check_begins, check_misses, check_meets, check_ends}
 use Rattle.mad_wrap.proofs.checking.check.Goals as goal
 

@@ -1,6 +1,6 @@
 use Rattle.std.proofs.Common.{◌≡◌, true, rules, sym, ap, ◌∙◌, subst}
-use Rattle.mad_fit.specs.Tokens.{AreTokensOf}
-use Rattle.mad_fit.proofs.UniqueLemmas.{all_unique}
+use Rattle.mad_measure.specs.Tokens.{AreTokensOf}
+use Rattle.mad_measure.proofs.UniqueLemmas.{all_unique}
 use Rattle.mad_wrap.specs.Bounds.{are_starts}
 use Rattle.mad_wrap.specs.LeastWrap.{AreTokensIn}
 use Rattle.mad_wrap.proofs.BoundLemmas.{bound}

@@ -2,7 +2,7 @@ use Rattle.std.proofs.Common.{◌≡◌, ℕ, ◌≤◌, ◌<◌, nat_le, Option
 use Rattle.std.specs.Prelude.{MatchOption}
 use Rattle.std.proofs.lemmas.Bool.Decides.{nat_tests}
 use Rattle.mad_md.specs.Flagged.{flags_of}
-use Rattle.mad_fit.proofs.FlaggedLemmas.{width_of-flagged}
+use Rattle.mad_measure.proofs.FlaggedLemmas.{width_of-flagged}
 use Rattle.mad_wrap.proofs.clean_cut.fits_after.Goals as goal
 
 -- a text that is measured up to a limit fits where it has an answer

@@ -1,6 +1,6 @@
 use Rattle.std.proofs.Common.{◌+◌, ◌++◌, ◌∷◌, [], refl, sym, ap, ◌∙◌, subst}
-use Rattle.mad_fit.specs.TokensLeft.{AreTokensLeft}
-use Rattle.mad_fit.proofs.CursorLemmas.{all_read}
+use Rattle.mad_measure.specs.TokensLeft.{AreTokensLeft}
+use Rattle.mad_measure.proofs.CursorLemmas.{all_read}
 use Rattle.mad_wrap.specs.WrapLines.{capped}
 use Rattle.mad_wrap.specs.declared.wrapped_line.WrappedLine.{WrappedLine}
 use Rattle.mad_wrap.proofs.FitLemmas.{LinesSoFar, line_takes, line_ends, line_begins}

@@ -1,8 +1,8 @@
 use Rattle.std.proofs.Common.{rules, ◌≡◌, false, true, if◌then◌else◌, inl, inr, map, refl, sym, ap, ◌∙◌, arith, subst}
 use Rattle.std.proofs.lemmas.Result.{IfOk-weaker}
-use Rattle.mad_fit.specs.Tokens.{AreTokensOf}
-use Rattle.mad_fit.specs.TokensLeft.{AreTokensLeft}
-use Rattle.mad_fit.proofs.CursorLemmas.{all_read}
+use Rattle.mad_measure.specs.Tokens.{AreTokensOf}
+use Rattle.mad_measure.specs.TokensLeft.{AreTokensLeft}
+use Rattle.mad_measure.proofs.CursorLemmas.{all_read}
 use Rattle.mad_wrap.specs.WordLines.{PutsPieces}
 use Rattle.mad_wrap.specs.Words.{alone, together}
 use Rattle.mad_wrap.proofs.WordSteps.{StopsWord, IsPut, words_begin, word_takes, word_puts, none_of, none_put, words_end}

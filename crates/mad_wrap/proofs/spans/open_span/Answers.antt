@@ -1,6 +1,6 @@
 use Rattle.std.proofs.Common.{◌≡◌, ℕ, ◌<◌, ◌+◌, ◌-◌, List, Some, sym, ap, ◌∙◌, arith, rules, subst}
 use Rattle.std.specs.Str.{IsUtf8}
-use Rattle.mad_fit.specs.Chunks.{AreSteady, IsChunk}
+use Rattle.mad_measure.specs.Chunks.{AreSteady, IsChunk}
 use Rattle.mad_wrap.proofs.SpanLemmas.{Chunk, chunk, cut_chunk, on_line}
 use Rattle.mad_wrap.proofs.spans.open_span.Goals as goal
 

@@ -1,5 +1,5 @@
 use Rattle.std.proofs.Common.{◌≡◌, ℕ, ◌≤◌, ◌<◌, ◌+◌, ◌⊎◌, List, length, false, refl, rules, subst}
-use Rattle.mad_fit.specs.Chunks.{is_space_at}
+use Rattle.mad_measure.specs.Chunks.{is_space_at}
 use Rattle.mad_wrap.proofs.SpanLemmas.{lone_space}
 use Rattle.mad_wrap.proofs.spans.space_in_gap.Goals as goal
 

@@ -1,6 +1,6 @@
 use Rattle.std.proofs.Common.{◌≡◌, ℕ, ◌≤◌, ◌<◌, ◌+◌, ◌-◌, ◌⊎◌, List, length, Some, false, refl, sym, ap, ◌∙◌, arith, rules, subst}
 use Rattle.std.specs.Str.{IsUtf8}
-use Rattle.mad_fit.specs.Chunks.{AreSteady, IsChunk}
+use Rattle.mad_measure.specs.Chunks.{AreSteady, IsChunk}
 use Rattle.mad_wrap.proofs.SpanLemmas.{chunk, cut_chunk, cut_width, left_is, on_next_at, word_full, cut_full, solid_word}
 use Rattle.mad_wrap.proofs.spans.word_on_next.Goals as goal
 

@@ -1,7 +1,7 @@
 use Rattle.std.proofs.Common.{subst, arith, ap, ◌∙◌}
 use Rattle.std.specs.Option.{option_or}
-use Rattle.mad_fit.specs.TokensLeft.{AreTokensLeft}
-use Rattle.mad_fit.proofs.CursorLemmas.{all_read}
+use Rattle.mad_measure.specs.TokensLeft.{AreTokensLeft}
+use Rattle.mad_measure.proofs.CursorLemmas.{all_read}
 use Rattle.mad_wrap.proofs.PastLemmas.{past_begins, past_more}
 use Rattle.mad_wrap.proofs.starting.first_past.Goals as goal
 

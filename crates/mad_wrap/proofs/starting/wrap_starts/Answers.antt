@@ -1,9 +1,9 @@
 use Rattle.std.proofs.Common.{◌≡◌, ℕ, List, is_some, sym, ap, ◌∙◌, subst}
 use Rattle.std.proofs.lemmas.Result.{IfOk-weaker}
-use Rattle.mad_fit.specs.Tokens.{AreTokensOf}
-use Rattle.mad_fit.specs.TokensLeft.{AreTokensLeft}
-use Rattle.mad_fit.specs.declared.tokens.Token.{Token}
-use Rattle.mad_fit.specs.declared.token_cursor.Tokens.{Tokens}
+use Rattle.mad_measure.specs.Tokens.{AreTokensOf}
+use Rattle.mad_measure.specs.TokensLeft.{AreTokensLeft}
+use Rattle.mad_measure.specs.declared.tokens.Token.{Token}
+use Rattle.mad_measure.specs.declared.token_cursor.Tokens.{Tokens}
 use Rattle.mad_md.specs.declared.compound.Compound.{Compound}
 use Rattle.mad_wrap.specs.LeastWrap.{AreTokensIn}
 use Rattle.mad_wrap.specs.Rooms.{token_limit}

@@ -4,9 +4,9 @@ use Rattle.std.specs.Str.Iter.{char_indices_offset, char_indices_rest}
 use Rattle.std.proofs.lemmas.Str.{IsUtf8-drop, length-encode}
 use Rattle.std.proofs.lemmas.List.{length-append, length-drop}
 use Rattle.std.proofs.StrCases.{chars_of_empty}
-use Rattle.mad_columns.specs.Columns.{char_columns}
+use Rattle.mad_characters.specs.Columns.{char_columns}
 use Rattle.mad_md.specs.Flagged.{flags_of, is_blank}
-use Rattle.mad_fit.proofs.TokenLemmas.{front_start, token_is, stops_at}
+use Rattle.mad_measure.proofs.TokenLemmas.{front_start, token_is, stops_at}
 use Rattle.mad_wrap.proofs.WideLemmas.{one_more}
 use Rattle.mad_wrap.proofs.wide_tokens.wide_token_at.Goals as goal
 

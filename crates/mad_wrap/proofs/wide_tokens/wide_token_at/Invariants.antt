@@ -1,7 +1,7 @@
 use Rattle.std.proofs.Common.{◌≡◌, drop}
 use Rattle.std.specs.Str.Iter.{char_indices_offset, char_indices_rest}
 use Rattle.mad_md.specs.Flagged.{flags_of}
-use Rattle.mad_fit.proofs.TokenLemmas.{IsFront}
+use Rattle.mad_measure.proofs.TokenLemmas.{IsFront}
 use Rattle.mad_wrap.proofs.wide_tokens.wide_token_at.Given as goal
 
 abbrev pub invariant-loop-index : goal.invariant-loop-index

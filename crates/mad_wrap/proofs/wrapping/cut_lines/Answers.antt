@@ -1,6 +1,6 @@
 use Rattle.std.proofs.Common.{[], ◌∷◌, ◌++◌, chars, ap, ◌∙◌, arith, rules}
 use Rattle.mad_md.specs.Flagged.{flags_of}
-use Rattle.mad_fit.proofs.FlaggedLemmas.{width_of-flagged}
+use Rattle.mad_measure.proofs.FlaggedLemmas.{width_of-flagged}
 use Rattle.mad_wrap.specs.WrapLines.{runs_of}
 use Rattle.mad_wrap.proofs.wrapping.cut_lines.Goals as goal
 

@@ -1,8 +1,8 @@
 use Rattle.std.proofs.Common.{List, sym, ◌∙◌, subst}
 use Rattle.std.proofs.lemmas.Result.{IfOk-weaker}
-use Rattle.mad_fit.specs.Tokens.{AreTokensOf}
-use Rattle.mad_fit.specs.TokensLeft.{AreTokensLeft}
-use Rattle.mad_fit.specs.declared.tokens.Token.{Token}
+use Rattle.mad_measure.specs.Tokens.{AreTokensOf}
+use Rattle.mad_measure.specs.TokensLeft.{AreTokensLeft}
+use Rattle.mad_measure.specs.declared.tokens.Token.{Token}
 use Rattle.mad_wrap.specs.LeastWords.{IsWrapBy}
 use Rattle.mad_wrap.specs.WrapLines.{compounds_of}
 use Rattle.mad_wrap.proofs.CutLemmas.{cut_wrap, cut_counted}

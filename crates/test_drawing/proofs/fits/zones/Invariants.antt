@@ -1,4 +1,4 @@
-use Rattle.mad_ellipsis.specs.Zones.{AreZones, runs_of}
+use Rattle.mad_fitting.specs.Zones.{AreZones, runs_of}
 use Rattle.test_drawing.proofs.fits.zones.Given as goal
 
 abbrev pub invariant-loop-cut : goal.invariant-loop-cut

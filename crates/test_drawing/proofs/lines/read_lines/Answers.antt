@@ -1,5 +1,5 @@
 use Rattle.std.proofs.Common.{sym, subst}
-use Rattle.mad_fit.proofs.AllLemmas.{all_push}
+use Rattle.mad_measure.proofs.AllLemmas.{all_push}
 use Rattle.mad_format.specs.WrappedLines.{AllMeasured, IsLineMeasured}
 use Rattle.mad_format.proofs.ReadLemmas.{line_measured}
 use Rattle.test_drawing.proofs.lines.read_lines.Goals as goal

@@ -3,7 +3,7 @@ use Rattle.std.specs.Vec.Iter.{into_iter_items}
 use Rattle.std.proofs.lemmas.Grind.{common_steps}
 use Rattle.mad_md.specs.Lines.{content_of}
 use Rattle.mad_md.specs.declared.line.Line.{Line}
-use Rattle.mad_fit.specs.declared.spacing.Spacing.{Spacing}
+use Rattle.mad_measure.specs.declared.spacing.Spacing.{Spacing}
 use Rattle.mad_format.specs.CompositeWraps.{IsCompositeWrap}
 use Rattle.mad_format.proofs.ReadLemmas.{line_measured}
 use Rattle.mad_blocks.specs.Tables.{columns_from, IsTableLineBy}

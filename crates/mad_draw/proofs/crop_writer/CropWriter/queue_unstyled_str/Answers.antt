@@ -2,7 +2,7 @@ use Rattle.std.proofs.Common.{ap, refl, sym, ◌∙◌, arith}
 use Rattle.std.specs.Prelude.{chars}
 use Rattle.mad_draw.specs.Crops.{Text, left_after, unstyled_bytes}
 use Rattle.mad_draw.proofs.CropLemmas.{crops_nothing, crops_memory, crops_some, none_left, some_left, text_full, text_kept, width_within}
-use Rattle.mad_fit.specs.RunningWidths.{running_width, tabs_replaced}
+use Rattle.mad_measure.specs.RunningWidths.{running_width, tabs_replaced}
 use Rattle.mad_draw.proofs.crop_writer.CropWriter.queue_unstyled_str.Goals as goal
 
 pub returns-then-is_full-clause-crops : goal.returns-then-is_full-clause-crops

@@ -1,6 +1,6 @@
 use Rattle.std.proofs.Common.{ℕ, List, ap, ◌∙◌}
 use Rattle.std.specs.Prelude.{option_map}
-use Rattle.mad_lines.specs.TextLines.{clamp}
+use Rattle.mad_edit_lines.specs.TextLines.{clamp}
 use Rattle.mad_edit.proofs.content.InputFieldContent.clear.Goals as goal
 
 pub returns-clause-tail : goal.returns-clause-tail

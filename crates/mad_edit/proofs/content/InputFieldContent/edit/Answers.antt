@@ -1,7 +1,7 @@
 use Rattle.mad_edit.proofs.SplitLemmas.{lines-text_of}
 use Rattle.std.proofs.Common.{ℕ, List, ap, sym, ◌∙◌, arith, rules}
 use Rattle.std.specs.Prelude.{option_map}
-use Rattle.mad_lines.specs.TextLines.{lines_of, clamp}
+use Rattle.mad_edit_lines.specs.TextLines.{lines_of, clamp}
 use Rattle.mad_edit.proofs.EditorLemmas.{lines_seen}
 use Rattle.mad_edit.proofs.LineLemmas.{lines_in_order}
 use Rattle.mad_edit.proofs.content.InputFieldContent.edit.Goals as goal

@@ -1,5 +1,5 @@
 use Rattle.std.proofs.Common.{◌≡◌, arith}
-use Rattle.mad_lines.specs.TextLines.{IsPosition, lines_of, offset_of}
+use Rattle.mad_edit_lines.specs.TextLines.{IsPosition, lines_of, offset_of}
 use Rattle.mad_edit.specs.Editor.{selection_start, selection_last}
 use Rattle.mad_edit.proofs.EditorLemmas.{lines_seen}
 use Rattle.mad_edit.proofs.content.InputFieldContent.has_wide_selection.Goals as goal

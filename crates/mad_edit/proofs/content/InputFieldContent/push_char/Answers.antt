@@ -1,6 +1,6 @@
 use Rattle.std.proofs.Common.{◌++◌, ap, sym, ◌∙◌, subst, ℕ, List}
 use Rattle.std.specs.Str.{chars}
-use Rattle.mad_lines.specs.TextLines.{accepted}
+use Rattle.mad_edit_lines.specs.TextLines.{accepted}
 use Rattle.mad_edit.specs.Editor.{Editor, IsPositionIn, offset_at, clamp_tail}
 use Rattle.mad_edit.proofs.PushLemmas.{position_kept, tail_kept, replaced_at_end}
 use Rattle.mad_edit.proofs.TextLemmas.{one_char}

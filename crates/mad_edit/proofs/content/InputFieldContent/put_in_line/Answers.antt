@@ -1,6 +1,6 @@
 use Rattle.std.proofs.Common.{◌≡◌, ◌∙◌, ap, sym, subst, arith, rules, List, ℕ}
-use Rattle.mad_lines.specs.TextLines.{lines, lines_of, line_at}
-use Rattle.mad_lines.specs.LineColumns.{columns, IsIndexAtColumn}
+use Rattle.mad_edit_lines.specs.TextLines.{lines, lines_of, line_at}
+use Rattle.mad_edit_lines.specs.LineColumns.{columns, IsIndexAtColumn}
 use Rattle.mad_edit.specs.Editor.{front_of_line}
 use Rattle.mad_edit.proofs.EditorLemmas.{lines_seen, front_seen}
 use Rattle.mad_edit.proofs.content.InputFieldContent.put_in_line.Goals as goal

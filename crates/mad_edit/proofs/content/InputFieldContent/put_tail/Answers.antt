@@ -1,6 +1,6 @@
 use Rattle.std.proofs.Common.{◌≡◌, subst}
-use Rattle.mad_lines.specs.declared.position.Pos.{Pos}
-use Rattle.mad_lines.specs.TextLines.{lines_of, IsPosition}
+use Rattle.mad_edit_lines.specs.declared.position.Pos.{Pos}
+use Rattle.mad_edit_lines.specs.TextLines.{lines_of, IsPosition}
 use Rattle.mad_edit.proofs.EditorLemmas.{lines_seen}
 use Rattle.mad_edit.proofs.content.InputFieldContent.put_tail.Goals as goal
 

@@ -1,7 +1,7 @@
 use Rattle.std.proofs.Common.{ℕ, List, rules, arith, ap, sym, ◌∙◌}
 use Rattle.std.specs.Prelude.{option_map}
 use Rattle.mad_edit.proofs.EditorLemmas.{lines_seen, line_seen, index_seen}
-use Rattle.mad_lines.specs.TextLines.{lines_of, text_of, offset_of, clamp}
+use Rattle.mad_edit_lines.specs.TextLines.{lines_of, text_of, offset_of, clamp}
 use Rattle.mad_edit.proofs.SwapLemmas.{swapped_lines, swapped_texts}
 use Rattle.mad_edit.proofs.content.InputFieldContent.swap_lines.Goals as goal
 

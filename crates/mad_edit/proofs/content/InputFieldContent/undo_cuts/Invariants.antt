@@ -1,6 +1,6 @@
 use Rattle.std.proofs.Common.{◌≤◌, ◌≡◌, ℕ, List, length, take, map}
 use Rattle.std.specs.Prelude.{All}
-use Rattle.mad_lines.specs.TextLines.{IsAcceptedChar}
+use Rattle.mad_edit_lines.specs.TextLines.{IsAcceptedChar}
 use Rattle.mad_edit.specs.Undo.{LeadsTo, all_undone, cut_of}
 use Rattle.mad_edit.proofs.content.InputFieldContent.undo_cuts.Given as goal
 

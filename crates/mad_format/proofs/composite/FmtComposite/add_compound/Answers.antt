@@ -1,7 +1,7 @@
 use Rattle.std.proofs.Common.{◌≡◌, chars, sym, ◌∙◌, arith}
 use Rattle.mad_md.specs.Flagged.{flags_of, flagged_of}
-use Rattle.mad_fit.specs.TextColumns.{width_of}
-use Rattle.mad_fit.proofs.FlaggedLemmas.{width_of-flagged}
+use Rattle.mad_measure.specs.TextColumns.{width_of}
+use Rattle.mad_measure.proofs.FlaggedLemmas.{width_of-flagged}
 use Rattle.mad_format.proofs.composite.FmtComposite.add_compound.Goals as goal
 
 pub returns-clause-length : goal.returns-clause-length

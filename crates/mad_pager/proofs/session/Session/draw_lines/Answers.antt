@@ -1,6 +1,6 @@
 use Rattle.std.proofs.Common.{◌≡◌, ◌∙◌, ap, sym, subst, arith}
-use Rattle.mad_fit.specs.Areas.{IsWithinLimits}
-use Rattle.mad_fit.specs.declared.area.Area.{Area}
+use Rattle.mad_measure.specs.Areas.{IsWithinLimits}
+use Rattle.mad_measure.specs.declared.area.Area.{Area}
 use Rattle.mad_draw.specs.BarsApart.{AreShownBeside}
 use Rattle.mad_pager.specs.Screens.{KeepsTextPremises, area_of, bar_of, paged_skin, text_rows}
 use Rattle.mad_pager.specs.Sessions.{state_of}

@@ -1,6 +1,6 @@
 use Rattle.std.proofs.Common.{refl, sym, subst, arith}
-use Rattle.mad_fit.specs.Areas.{IsWithinLimits}
-use Rattle.mad_fit.specs.declared.area.Area.{Area}
+use Rattle.mad_measure.specs.Areas.{IsWithinLimits}
+use Rattle.mad_measure.specs.declared.area.Area.{Area}
 use Rattle.mad_draw.specs.DrawnRows.{AreRowsShown}
 use Rattle.mad_hits.proofs.TookLemmas.{took_in_turn}
 use Rattle.mad_pager.specs.Screens.{IsFieldRow, IsFieldShown, prompt_row}

@@ -1,5 +1,5 @@
 use Rattle.std.proofs.Common.{refl, sym, subst}
-use Rattle.mad_fit.specs.declared.tokens.Token.{Token}
+use Rattle.mad_measure.specs.declared.tokens.Token.{Token}
 use Rattle.mad_wrap.specs.FirstFit.{Puts}
 use Rattle.mad_wrap.specs.WordLines.{TakesTokens}
 use Rattle.mad_wrap.specs.declared.first_fit.Put.TheVariants.{InGap}

@@ -2,8 +2,8 @@ use Rattle.std.proofs.Common.{◌≡◌, Bool, true, false, List, nat_eq, sym, �
 use Rattle.std.specs.Bool.{Decides}
 use Rattle.std.specs.Cmp.Lexicographic.{bytes_decides, pointwise}
 use Rattle.std.specs.Ordering.{on}
-use Rattle.mad_lines.specs.declared.line.Line.{Line}
-use Rattle.mad_lines.specs.TextLines.{lines_of, chars_of}
+use Rattle.mad_edit_lines.specs.declared.line.Line.{Line}
+use Rattle.mad_edit_lines.specs.TextLines.{lines_of, chars_of}
 use Rattle.mad_edit.proofs.CompareLemmas.{same_kept, lines_decide, same_position_decides, same_tail_decides}
 use Rattle.mad_edit.proofs.content.comparing.InputFieldContentPartialEq.eq.Goals as goal
 use Rattle.mad_edit.proofs.content.comparing.InputFieldContentPartialEq.eq.Goals.{then-eq, else-eq}

@@ -1,7 +1,7 @@
 use Rattle.std.proofs.Common.{sym, rules}
 use Rattle.std.specs.Prelude.{encode_utf8}
 use Rattle.std.proofs.Output.{has_written_of_eq, has_written_append}
-use Rattle.mad_lines.proofs.ColumnLemmas.{encoded_more}
+use Rattle.mad_edit_lines.proofs.ColumnLemmas.{encoded_more}
 use Rattle.mad_edit.proofs.content.showing.InputFieldContentDisplay.fmt.Goals as goal
 
 pub loop-c-preserved : goal.loop-c-preserved

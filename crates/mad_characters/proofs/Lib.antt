@@ -1,0 +1,3 @@
+pub mod CharColumns
+pub mod PictureLemmas
+pub mod WideColumns

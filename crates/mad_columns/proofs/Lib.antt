@@ -1,2 +1,0 @@
-pub mod CharColumns
-pub mod WideColumns
