@@ -1,7 +1,25 @@
 -- What rows show of a skin.
 use Rattle.mad_style.specs.CompoundStyles.{unstyled}
+use Rattle.mad_style.specs.StyledChars.{shown_as}
+use Rattle.mad_rows.specs.declared.page_styles.PageStyles.{PageStyles}
 use Rattle.mad_rows.specs.declared.row_skin.RowSkin.{RowSkin}
 use Rattle.mad_layout.specs.declared.skin.MadSkin.{MadSkin}
+
+-- what a page shows beside its text looks as what is there for it: boxes as bullets, the bars of alerts as those of quotes, and what is below a heading as
+-- a rule
+abbrev pub page_styles : MadSkin → PageStyles
+page_styles skin =
+    record {
+      task = shown_as skin.bullet 9744;
+      done = shown_as skin.bullet 9745;
+      note = skin.quote_mark;
+      tip = skin.quote_mark;
+      important = skin.quote_mark;
+      warning = skin.quote_mark;
+      caution = skin.quote_mark;
+      below_first = skin.horizontal_rule;
+      below_others = skin.horizontal_rule;
+    }
 
 -- all but its scroll bar; links have no style of their own
 abbrev pub row_skin : MadSkin → RowSkin
@@ -24,4 +42,5 @@ row_skin skin =
       table_border_chars = skin.table_border_chars;
       list_items_indentation_mode = skin.list_items_indentation_mode;
       whole_words = skin.whole_words;
+      page = page_styles skin;
     }

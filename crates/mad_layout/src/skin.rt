@@ -3,14 +3,15 @@
 ghost use Rattle.std.specs.Prelude.{◌≡◌, ◌+◌};
 ghost use Rattle.mad_md.specs.Flagged.{run_of};
 ghost use Rattle.mad_rows.specs.RowStyles.{compound_style};
-ghost use Rattle.mad_layout.specs.RowSkins.{row_skin};
+ghost use Rattle.mad_layout.specs.RowSkins.{page_styles, row_skin};
+ghost use Rattle.mad_style.specs.StyledChars.{shown_as};
 ghost use Rattle.mad_layout.specs.SkinParts.{header_line, first_header_line, default_header_lines, default_quote, default_table};
 
 use mad_format::{LineSkin, composite_columns};
 use mad_md::{Alignment, Compound, MAX_HEADER_DEPTH};
 pub use mad_rows::OrderedItemStyles;
 use mad_rows::{
-    FlagStyles, HeaderStyles, RowSkin, item_style_at, style_of_compound, style_of_kind,
+    FlagStyles, HeaderStyles, PageStyles, RowSkin, item_style_at, style_of_compound, style_of_kind,
 };
 use mad_style::{
     CompositeKind, CompoundStyle, LineStyle, ListItemsIndentationMode, MAX_ORDERED_LIST_DEPTH,
@@ -228,8 +229,33 @@ impl MadSkin {
             table_border_chars: self.table_border_chars,
             list_items_indentation_mode: self.list_items_indentation_mode,
             whole_words: self.whole_words,
+            page: self.page_styles(),
         }
     }
+
+    // What a page shows beside its text looks as what is there for it.
+    fn page_styles(&self) -> PageStyles
+        ensures { result ≡ page_styles self.now }
+    {
+        PageStyles {
+            task: shown_as(self.bullet, '☐'),
+            done: shown_as(self.bullet, '☑'),
+            note: self.quote_mark,
+            tip: self.quote_mark,
+            important: self.quote_mark,
+            warning: self.quote_mark,
+            caution: self.quote_mark,
+            below_first: self.horizontal_rule,
+            below_others: self.horizontal_rule,
+        }
+    }
+}
+
+// Another character in the same style.
+fn shown_as(styled: StyledChar, other: char) -> StyledChar
+    ensures { result ≡ shown_as styled other }
+{
+    StyledChar::new(*styled.compound_style(), other)
 }
 
 impl LineSkin for MadSkin {

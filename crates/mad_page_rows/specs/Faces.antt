@@ -1,14 +1,18 @@
 -- What is written of a page's rows, piece by piece.
-use Rattle.std.specs.Prelude.{ℕ, ◌+◌, ◌-◌, nat_lt, is_some, ◌&&◌, ◌||◌, Bool, true, false, List, [], ◌∷◌, ◌++◌, take, drop, length, Option, Some, None, if◌then◌else◌}
+use Rattle.std.specs.Prelude.{ℕ, zero, suc, ◌+◌, ◌-◌, nat_lt, is_some, ◌&&◌, ◌||◌, Bool, true, false, List, [], ◌∷◌, ◌++◌, take, drop, length, Option, Some, None, if◌then◌else◌}
 use Rattle.std.specs.List.{flat_map}
-use Rattle.mad_style.specs.StyledChars.{char_style, char_alone}
-use Rattle.mad_draw.specs.Pieces.{RowPiece, pieces_bytes, char_piece, spaces}
+use Rattle.mad_style.specs.StyledChars.{char_style, char_alone, styled_char}
+use Rattle.mad_style.specs.declared.styled_chars.StyledChar.{StyledChar}
+use Rattle.mad_draw.specs.Pieces.{RowPiece, pieces_bytes, char_piece, char_repeat, spaces}
 use Rattle.mad_rows.specs.Rows.{number_piece, line_pieces}
-use Rattle.mad_rows.specs.RowStyles.{ordered_item_style}
+use Rattle.mad_rows.specs.RowStyles.{header_style, ordered_item_style}
+use Rattle.mad_rows.specs.declared.page_styles.PageStyles.{PageStyles}
 use Rattle.mad_rows.specs.declared.row_skin.RowSkin.{RowSkin}
 use Rattle.mad_sections.specs.Gutters.{gutter_columns, columns_of}
 use Rattle.mad_sections.specs.declared.gutters.Gutter.{Gutter}
-use Rattle.mad_sections.specs.declared.gutters.Gutter.TheVariants.{Bar, Bullet, Number, Task, Code}
+use Rattle.mad_sections.specs.declared.gutters.Gutter.TheVariants.{Bar, AlertBar, Bullet, Number, Task, Code, Signs, Below}
+use Rattle.mad_sections.specs.declared.gutters.Alert.{Alert}
+use Rattle.mad_sections.specs.declared.gutters.Alert.TheVariants.{Note, Tip, Important, Warning, Caution}
 use Rattle.mad_pages.specs.PageRows.{RowContent, row_content}
 use Rattle.mad_pages.specs.declared.page_rows.PageRow.{PageRow}
 
@@ -16,16 +20,35 @@ use Rattle.mad_pages.specs.declared.page_rows.PageRow.{PageRow}
 abbrev pub has_ascii_boxes : RowSkin → Bool
 has_ascii_boxes skin = nat_lt (char_alone skin.bullet) 128
 
--- the box of a task, in bytes: ☐, ☑, or in ASCII [ ], [x]
-abbrev pub box_text : Bool → Bool → List ℕ
-box_text false false = 226 ∷ 152 ∷ 144 ∷ []
-box_text false true = 226 ∷ 152 ∷ 145 ∷ []
-box_text true false = 91 ∷ 32 ∷ 93 ∷ []
-box_text true true = 91 ∷ 120 ∷ 93 ∷ []
+-- the box of a task that is done, or of an open one
+abbrev pub task_box : PageStyles → Bool → StyledChar
+task_box page done = if done then page.done else page.task
 
--- the box of a task, in the bullet's style
+-- the box of a task in ASCII characters, in bytes: [ ], [x]
+abbrev pub ascii_box : Bool → List ℕ
+ascii_box false = 91 ∷ 32 ∷ 93 ∷ []
+ascii_box true = 91 ∷ 120 ∷ 93 ∷ []
+
+-- the box of a task, in its style: its character, or three ASCII ones
 abbrev pub box_piece : RowSkin → Bool → RowPiece
-box_piece skin done = record { style = (char_style skin.bullet).object_style; text = box_text (has_ascii_boxes skin) done }
+box_piece skin done = if has_ascii_boxes skin then record { style = (char_style (task_box skin.page done)).object_style; text = ascii_box done } else char_piece (task_box skin.page done)
+
+-- the bar of an alert
+abbrev pub alert_bar : PageStyles → Alert → StyledChar
+alert_bar page Note = page.note
+alert_bar page Tip = page.tip
+alert_bar page Important = page.important
+alert_bar page Warning = page.warning
+alert_bar page Caution = page.caution
+
+-- the sign of a heading of this level, which is counted from 0, in its style: #
+abbrev pub heading_sign : RowSkin → ℕ → StyledChar
+heading_sign skin level = styled_char (header_style skin.paragraph skin.headers (suc level)).compound_style 35
+
+-- what the rule below a heading of this level is drawn with, which is counted from 0
+abbrev pub below_char : PageStyles → ℕ → StyledChar
+below_char page zero = page.below_first
+below_char page (suc level) = page.below_others
 
 -- blanks in the paragraph's style
 abbrev pub blanks : RowSkin → ℕ → List RowPiece
@@ -46,14 +69,18 @@ code_face skin = if has_boxes skin then code_blanks skin 1 else blanks skin 2
 -- what a gutter shows in front of its first row
 abbrev pub first_face : RowSkin → Gutter → List RowPiece
 first_face skin Bar = char_piece skin.quote_mark ∷ blanks skin 1
+first_face skin (AlertBar alert) = char_piece (alert_bar skin.page alert) ∷ blanks skin 1
 first_face skin Bullet = char_piece skin.bullet ∷ blanks skin 1
 first_face skin (Number n) = number_piece (ordered_item_style skin 0).index_style n ∷ char_piece (ordered_item_style skin 0).index_suffix ∷ blanks skin 1
 first_face skin (Task done) = box_piece skin done ∷ blanks skin 1
 first_face skin Code = code_face skin
+first_face skin (Signs level) = char_repeat (heading_sign skin level) (suc level) ++ blanks skin 1
+first_face skin (Below level) = []
 
 -- and in front of all others: a bar is there again, and the side of a box, all else is blank
 abbrev pub other_face : RowSkin → Gutter → List RowPiece
 other_face skin Bar = char_piece skin.quote_mark ∷ blanks skin 1
+other_face skin (AlertBar alert) = char_piece (alert_bar skin.page alert) ∷ blanks skin 1
 other_face skin Code = code_face skin
 other_face skin g = blanks skin (gutter_columns (has_ascii_boxes skin) g)
 
@@ -98,9 +125,20 @@ ends_in_code (g ∷ h ∷ gs) = ends_in_code (h ∷ gs)
 abbrev pub in_box : RowSkin → List Gutter → Bool
 in_box skin gs = has_boxes skin && ends_in_code gs
 
--- the skin of a row's line: in a box what is beside its text looks as code
+-- the level of the heading that a row is below, if its last gutter says so
+abbrev pub level_above : List Gutter → Option ℕ
+level_above [] = None
+level_above (Below level ∷ []) = Some level
+level_above (g ∷ gs) = level_above gs
+
+-- a skin whose rules are drawn as those below a heading of this level, if there is one
+abbrev pub ruled : RowSkin → Option ℕ → RowSkin
+ruled skin None = skin
+ruled skin (Some level) = record skin { horizontal_rule = below_char skin.page level }
+
+-- the skin of a row's line: in a box what is beside its text looks as code, and below a heading a rule as those there
 abbrev pub line_skin : RowSkin → List Gutter → RowSkin
-line_skin skin gs = if in_box skin gs then record skin { paragraph = skin.code_block } else skin
+line_skin skin gs = ruled (if in_box skin gs then record skin { paragraph = skin.code_block } else skin) (level_above gs)
 
 -- the pieces of a row's line, in the columns that its gutters leave; in a box it fills them
 abbrev pub behind_pieces : RowSkin → Option ℕ → Bool → RowContent → List RowPiece

@@ -3,13 +3,14 @@
 ghost use Rattle.std.specs.Prelude.{◌≡◌, ◌≤◌, ◌-◌, ◌||◌, length, Some};
 ghost use Rattle.mad_draw.specs.Pieces.{pieces_bytes, spaces};
 ghost use Rattle.mad_sections.specs.Gutters.{columns_of, gutter_columns};
-ghost use Rattle.mad_page_rows.specs.Faces.{backs, box_text, code_face, codes, columns_behind, ends_in_code, face, has_ascii_boxes, has_boxes, in_box, is_code, line_skin};
+ghost use Rattle.mad_page_rows.specs.Faces.{backs, alert_bar, ascii_box, below_char, code_face, codes, columns_behind, ends_in_code, face, has_ascii_boxes, has_boxes, heading_sign, in_box, is_code, level_above, line_skin, ruled, task_box};
 ghost use Rattle.mad_rows.specs.RowStyles.{ordered_item_style};
 
-use mad_draw::Spaces;
-use mad_rows::RowSkin;
-use mad_sections::Gutter;
+use mad_draw::{CharRepeat, Spaces};
+use mad_rows::{PageStyles, RowSkin};
+use mad_sections::{Alert, Gutter};
 use mad_sections::gutters::gutter_columns;
+use mad_style::StyledChar;
 use mad_term::StyledNumber;
 use std::fmt::{self, Display};
 
@@ -38,15 +39,52 @@ pub fn columns_left(skin: &RowSkin, gutters: &[Gutter], width: usize) -> usize
     columns_behind(gutters, Some(width), has_ascii_boxes(skin)).unwrap_or(0)
 }
 
-// The box of a task.
-fn box_text(ascii: bool, done: bool) -> &'static str
-    ensures { result.now ≡ box_text ascii done }
+// The box of a task that is done, or of an open one.
+fn task_box(page: &PageStyles, done: bool) -> StyledChar
+    ensures { result ≡ task_box page.now done }
 {
-    match (ascii, done) {
-        (false, false) => "☐",
-        (false, true) => "☑",
-        (true, false) => "[ ]",
-        (true, true) => "[x]",
+    if done { page.done } else { page.task }
+}
+
+// The box of a task in ASCII characters.
+fn ascii_box(done: bool) -> &'static str
+    ensures { result.now ≡ ascii_box done }
+{
+    if done { "[x]" } else { "[ ]" }
+}
+
+// The bar of an alert.
+fn alert_bar(page: &PageStyles, alert: Alert) -> StyledChar
+    ensures { result ≡ alert_bar page.now alert }
+{
+    match alert {
+        Alert::Note => page.note,
+        Alert::Tip => page.tip,
+        Alert::Important => page.important,
+        Alert::Warning => page.warning,
+        Alert::Caution => page.caution,
+    }
+}
+
+// The sign of a heading of this level, counted from 0, in its style.
+fn heading_sign(skin: &RowSkin, level: u8) -> StyledChar
+    ensures { result ≡ heading_sign skin.now level }
+{
+    let style = skin
+        .headers
+        .get(usize::from(level))
+        .unwrap_or(&skin.paragraph);
+    StyledChar::new(style.compound_style, '#')
+}
+
+// What the rule below a heading of this level, counted from 0, is drawn with.
+fn below_char(page: &PageStyles, level: u8) -> StyledChar
+    ensures { result ≡ below_char page.now level }
+{
+    if level == 0 {
+        page.below_first
+    } else {
+        page.below_others
     }
 }
 
@@ -97,6 +135,10 @@ impl fmt::Display for FirstFace<'_> {
                 let mark = self.skin.quote_mark;
                 write!(f, "{mark}{space}")
             }
+            Gutter::AlertBar(alert) => {
+                let mark = alert_bar(&self.skin.page, alert);
+                write!(f, "{mark}{space}")
+            }
             Gutter::Bullet => {
                 let bullet = self.skin.bullet;
                 write!(f, "{bullet}{space}")
@@ -115,10 +157,44 @@ impl fmt::Display for FirstFace<'_> {
                 side.fmt(f)
             }
             Gutter::Task(done) => {
-                let text = box_text(has_ascii_boxes(self.skin), done);
-                let sign = self.skin.bullet.compound_style().apply_to(text);
+                let sign = TaskBox {
+                    skin: self.skin,
+                    done,
+                };
                 write!(f, "{sign}{space}")
             }
+            Gutter::Signs(level) => {
+                let signs = CharRepeat {
+                    c: heading_sign(self.skin, level),
+                    count: usize::from(level) + 1,
+                };
+                write!(f, "{signs}{space}")
+            }
+            Gutter::Below(_) => Ok(()),
+        }
+    }
+}
+
+// The box of a task in its style.
+#[derive(Clone, Copy)]
+struct TaskBox<'a> {
+    skin: &'a RowSkin,
+    done: bool,
+}
+
+impl fmt::Display for TaskBox<'_> {
+    ghost use Rattle.std.specs.Prelude.{◌∷◌, []};
+    ghost use Rattle.mad_page_rows.specs.Faces.{box_piece};
+
+    ghost output = { λ m. Some (pieces_bytes (box_piece m.skin.now m.done ∷ [])) };
+
+    fn fmt<W: fmt::Write>(&self, f: &mut fmt::Formatter<W>) -> fmt::Result {
+        let sign = task_box(&self.skin.page, self.done);
+        if has_ascii_boxes(self.skin) {
+            let text = sign.compound_style().apply_to(ascii_box(self.done));
+            write!(f, "{text}")
+        } else {
+            write!(f, "{sign}")
         }
     }
 }
@@ -140,6 +216,11 @@ impl fmt::Display for OtherFace<'_> {
             Gutter::Bar => {
                 let space = blanks(self.skin, 1);
                 let mark = self.skin.quote_mark;
+                write!(f, "{mark}{space}")
+            }
+            Gutter::AlertBar(alert) => {
+                let space = blanks(self.skin, 1);
+                let mark = alert_bar(&self.skin.page, alert);
                 write!(f, "{mark}{space}")
             }
             Gutter::Code => {
@@ -251,18 +332,42 @@ pub fn is_filled(skin: &RowSkin, gutters: &[Gutter], filled: bool) -> bool
     filled || in_box(skin, gutters)
 }
 
-/// The skin of a row's line: in a box what is beside its text looks as code.
+// The level of the heading that a row is below, if its last gutter says so.
+fn level_above(gutters: &[Gutter]) -> Option<u8>
+    ensures { result ≡ level_above gutters.now }
+{
+    match gutters {
+        [.., Gutter::Below(level)] => Some(*level),
+        _ => None,
+    }
+}
+
+// A skin whose rules are drawn as those below a heading of this level, if there is one.
+fn ruled(skin: RowSkin, level: Option<u8>) -> RowSkin
+    ensures { result ≡ ruled skin level }
+{
+    match level {
+        Some(level) => RowSkin {
+            horizontal_rule: below_char(&skin.page, level),
+            ..skin
+        },
+        None => skin,
+    }
+}
+
+/// The skin of a row's line: in a box what is beside its text looks as code, and below a heading a rule as those there.
 pub fn line_skin(skin: &RowSkin, gutters: &[Gutter]) -> RowSkin
     ensures { result ≡ line_skin skin.now gutters.now }
 {
-    if in_box(skin, gutters) {
+    let beside = if in_box(skin, gutters) {
         RowSkin {
             paragraph: skin.code_block,
             ..*skin
         }
     } else {
         *skin
-    }
+    };
+    ruled(beside, level_above(gutters))
 }
 
 /// Faces of gutters, all the first ones or all the others.

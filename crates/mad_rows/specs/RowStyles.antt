@@ -16,6 +16,7 @@ use Rattle.mad_style.specs.CompoundStyles.{overwritten, text_style, unstyled}
 use Rattle.mad_style.specs.OrderedItems.{unstyled_item}
 use Rattle.mad_style.specs.StyledChars.{char_alone, char_style}
 use Rattle.mad_format.specs.LineRules.{LineRules}
+use Rattle.mad_rows.specs.declared.page_styles.PageStyles.{PageStyles}
 use Rattle.mad_rows.specs.declared.row_skin.RowSkin.{RowSkin}
 
 -- the style of the header of this level, which is counted from 1, among these; the paragraph's at a level without a header
@@ -78,6 +79,18 @@ IsKnownLine s = IsStyle s.compound_style.object_style
 abbrev pub IsKnownItem : OrderedItemStyle → Type 0
 IsKnownItem s = IsStyle s.index_style.object_style × IsStyle (char_style s.index_suffix).object_style
 
+-- so are those of what a page shows beside its text
+pub record AreKnownSigns (page : PageStyles) : Type 0 where
+  pub task : IsStyle (char_style page.task).object_style
+  pub done : IsStyle (char_style page.done).object_style
+  pub note : IsStyle (char_style page.note).object_style
+  pub tip : IsStyle (char_style page.tip).object_style
+  pub important : IsStyle (char_style page.important).object_style
+  pub warning : IsStyle (char_style page.warning).object_style
+  pub caution : IsStyle (char_style page.caution).object_style
+  pub below_first : IsStyle (char_style page.below_first).object_style
+  pub below_others : IsStyle (char_style page.below_others).object_style
+
 -- so are those of the parts of a skin, but for headers and items
 pub record AreKnownParts (skin : RowSkin) : Type 0 where
   pub paragraph : IsKnownLine skin.paragraph
@@ -92,6 +105,7 @@ pub record AreKnownParts (skin : RowSkin) : Type 0 where
   pub bullet : IsStyle (char_style skin.bullet).object_style
   pub quote_mark : IsStyle (char_style skin.quote_mark).object_style
   pub rule : IsStyle (char_style skin.horizontal_rule).object_style
+  pub page : AreKnownSigns skin.page
 
 -- so are those of all its parts
 pub record AreKnownStyles (skin : RowSkin) : Type 0 where

@@ -2,7 +2,7 @@
 //!
 //! In the order of the work:
 //!
-//! 1. [`row_skin`]: what rows are drawn in, the part of a skin that they show.
+//! 1. [`page_styles`], [`row_skin`]: what rows are drawn in, the part of a skin that they show.
 //! 2. [`rows`]: where a line is in its row, and the columns that no text fills.
 //! 3. [`composites`], [`tables`], [`lines`]: a composite, a line of a table, and any line or row as displayed values.
 //! 4. [`style_commands`]: the commands of a style, made once.
@@ -12,6 +12,7 @@
 
 pub mod composites;
 pub mod lines;
+pub mod page_styles;
 pub mod read_rows;
 pub mod row_skin;
 pub mod row_writing;
@@ -21,6 +22,7 @@ pub mod tables;
 
 pub use composites::{FreeComposite, PlacedComposite};
 pub use lines::{PlacedLine, PlacedLines, PlacedRow};
+pub use page_styles::PageStyles;
 pub use read_rows::{append_read, is_aligned_left};
 pub use row_skin::{
     FlagStyles, HeaderStyles, OrderedItemStyles, RowSkin, item_style_at, style_of_compound,

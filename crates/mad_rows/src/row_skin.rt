@@ -5,6 +5,7 @@ ghost use Rattle.mad_md.specs.Flagged.{run_of};
 ghost use Rattle.std.specs.Str.{bytes_eq};
 ghost use Rattle.mad_rows.specs.RowStyles.{adds_nothing, compound_style, ellipsis_bytes, item_style_at, line_style, ordered_item_style, sets_nothing, style_of_compound, style_of_kind, with_links};
 
+use crate::page_styles::PageStyles;
 use mad_draw::Spaces;
 use mad_format::LineSkin;
 use mad_md::{Compound, MAX_HEADER_DEPTH};
@@ -60,6 +61,8 @@ pub struct RowSkin {
     pub list_items_indentation_mode: ListItemsIndentationMode,
     /// Whether a word that fits on a line stays whole, over compounds.
     pub whole_words: bool,
+    /// How what a page shows beside its text looks.
+    pub page: PageStyles,
 }
 
 impl RowSkin {

@@ -6,7 +6,7 @@ use Rattle.std.proofs.lemmas.Bool.Decides.{nat_tests}
 use Rattle.mad_sections.specs.Gutters.{gutter_columns, columns_of, shown_at, room_at}
 use Rattle.mad_sections.specs.RoomLaws.{RoomsLast, LessThanHalf, AreLast, ShownAreLast, NoneLonger}
 use Rattle.mad_sections.specs.declared.gutters.Gutter.{Gutter}
-use Rattle.mad_sections.specs.declared.gutters.Gutter.TheVariants.{Bar, Bullet, Number, Task, Code}
+use Rattle.mad_sections.specs.declared.gutters.Gutter.TheVariants.{Bar, AlertBar, Bullet, Number, Task, Code, Signs, Below}
 use Rattle.mad_sections.proofs.Choices.{by_bool}
 
 is_less : (m n : ℕ) → m < n → nat_lt m n ≡ true
@@ -27,18 +27,22 @@ by_less P m n x y less not_less = by_bool (λ t. P (if t then x else y)) (nat_lt
 
 -- ---- columns
 
--- a gutter has two columns at least
-two_columns : (ascii : Bool) (g : Gutter) → 2 ≤ gutter_columns ascii g
-two_columns ascii Bar = omega arith
-two_columns ascii Bullet = omega arith
-two_columns ascii (Number n) = omega arith
-two_columns true (Task done) = omega arith
-two_columns false (Task done) = omega arith
-two_columns ascii Code = omega arith
+-- a gutter has no column, or two at least
+two_columns : (ascii : Bool) (g : Gutter) → (gutter_columns ascii g ≡ 0) ⊎ (2 ≤ gutter_columns ascii g)
+two_columns ascii Bar = inr (omega arith)
+two_columns ascii (AlertBar alert) = inr (omega arith)
+two_columns ascii Bullet = inr (omega arith)
+two_columns ascii (Number n) = inr (omega arith)
+two_columns true (Task done) = inr (omega arith)
+two_columns false (Task done) = inr (omega arith)
+two_columns ascii Code = inr (omega arith)
+two_columns ascii (Signs level) = inr (omega arith)
+two_columns ascii (Below level) = inl refl
 
 none_or_two : (ascii : Bool) (gs : List Gutter) → (columns_of ascii gs ≡ 0) ⊎ (2 ≤ columns_of ascii gs)
 none_or_two ascii [] = inl refl
-none_or_two ascii (g ∷ gs) = let two = two_columns ascii g in inr (omega (arith, two))
+none_or_two ascii (g ∷ gs) =
+    ⊎_elim (λ none. ⊎_elim (λ others. inl (omega (arith, none, others))) (λ others. inr (omega (arith, others))) (none_or_two ascii gs)) (λ two. inr (omega (arith, two))) (two_columns ascii g)
 
 -- a longer end has as many columns at least
 longer_columns : (ascii : Bool) (gs : List Gutter) (n m : ℕ) → n ≤ m → columns_of ascii (drop m gs) ≤ columns_of ascii (drop n gs)

@@ -1,15 +1,19 @@
 -- Gutters: their columns, which of them are shown at a width, and what they leave of it.
 use Rattle.std.specs.Prelude.{ℕ, ◌+◌, ◌-◌, ◌*◌, nat_lt, if◌then◌else◌, Bool, List, [], ◌∷◌, length, decimal, Option, Some, None}
 use Rattle.mad_sections.specs.declared.gutters.Gutter.{Gutter}
-use Rattle.mad_sections.specs.declared.gutters.Gutter.TheVariants.{Bar, Bullet, Number, Task, Code}
+use Rattle.mad_sections.specs.declared.gutters.Gutter.TheVariants.{Bar, AlertBar, Bullet, Number, Task, Code, Signs, Below}
 
--- the columns of a gutter, by whether a task's box is of ASCII characters: those of what it shows, and a blank; of code those of its sides
+-- the columns of a gutter, by whether a task's box is of ASCII characters: those of what it shows, and a blank; of code those of its sides, of a heading
+-- its signs and a blank; what is below a heading takes none
 abbrev pub gutter_columns : Bool → Gutter → ℕ
 gutter_columns ascii Bar = 2
+gutter_columns ascii (AlertBar alert) = 2
 gutter_columns ascii Bullet = 2
 gutter_columns ascii (Number n) = length (decimal n) + 2
 gutter_columns ascii (Task done) = if ascii then 4 else 2
 gutter_columns ascii Code = 2
+gutter_columns ascii (Signs level) = level + 2
+gutter_columns ascii (Below level) = 0
 
 -- the columns of gutters
 abbrev pub columns_of : Bool → List Gutter → ℕ

@@ -1,1 +1,5 @@
-pub mod WrittenMarkdown
+pub mod Boxes
+pub mod WrittenPages
+pub mod TableCells
+pub mod NestedRows
+pub mod ShownFaces

@@ -1,23 +1,25 @@
-//! Writing the rows of Markdown as people write it.
+//! Writing pages.
 
-ghost use Rattle.std.specs.Prelude.{◌≡◌, List, IfOk, IsErrOf, string_bytes};
-ghost use Rattle.mad_blocks.specs.Layouts.{IsLayoutAt};
-ghost use Rattle.mad_format.specs.declared.line.FmtLine.{FmtLine};
+ghost use Rattle.std.specs.Prelude.{◌≡◌, ◌++◌, List, IfOk, IsErrOf, OnOk, string_bytes};
 ghost use Rattle.mad_rows.specs.RowStyles.{line_rules};
-ghost use Rattle.mad_rows.specs.Rows.{text_bytes};
+ghost use Rattle.mad_sections.specs.Sections.{page_content, SectionContent};
+ghost use Rattle.mad_pages.specs.PageLayouts.{IsPageAt};
+ghost use Rattle.mad_pages.specs.PageRows.{RowContent};
+ghost use Rattle.mad_page_rows.specs.Faces.{has_ascii_boxes};
 ghost use Rattle.mad_term.specs.declared.errors.Error.TheVariants.{Memory};
-ghost use Rattle.markdown_layout.specs.WrittenMarkdown.{markdown_skin, WritesLines};
-ghost use Rattle.markdown_reader.specs.Markdown.{markdown_lines};
+ghost use Rattle.markdown_reader.specs.Markdown.{markdown_sections};
+ghost use Rattle.markdown_reader.specs.SectionsLeft.{sections_left};
+ghost use Rattle.markdown_layout.specs.WrittenPages.{markdown_skin, rows_bytes, WritesPage};
 
-use mad_blocks::PartCursor;
-use mad_layout::{MadSkin, append_parts};
-use mad_rows::RowSkin;
+use crate::page_writing::append_section;
+use mad_layout::MadSkin;
+use mad_rows::{RowSkin, StyleCommands};
+use mad_sections::Page;
 use mad_term::{Error, Out, put_text};
-use markdown_reader::Markdown;
+use markdown_reader::{Markdown, Sections};
 use std::alloc::{AllocError, Global};
 
-/// Writes a text of Markdown as people write it, laid out at a width, in columns, if there is one: each line and a newline. Nothing is
-/// flushed.
+/// Writes a text of Markdown as people write it, as a page at a width, in columns, if there is one: each row and a newline. Nothing is flushed.
 ///
 /// The text is read by [`Markdown::read`], as CommonMark has it, and laid out in the skin with whole words, whatever the skin says of these.
 /// The text of a link is underlined, but in a skin in which no flag of a compound adds anything.
@@ -33,11 +35,30 @@ pub fn write_markdown_on<O: Out>(
     markdown: &str,
     width: Option<usize>,
 ) -> Result<(), Error>
-    ensures writes { WritesLines (markdown_skin skin.now) width (markdown_lines markdown.now) (O.seen out.old) result (O.seen out.new) }
+    ensures writes { WritesPage (markdown_skin skin.now) width (markdown_sections markdown.now) (O.seen out.old) result (O.seen out.new) }
     ensures early { IsErrOf result Memory → O.seen out.new ≡ O.seen out.old }
 {
     let skin = markdown_skin(skin);
     let rows = markdown_rows(alloc, &skin, markdown, width)?;
+    put_text(out, &rows)
+}
+
+/// Writes a page at a width, in columns, if there is one: each row and a newline. Nothing is flushed.
+///
+/// # Errors
+///
+/// A fault of the device; what went out by then is a beginning of the whole. Or out of memory, before the first byte.
+pub fn write_page_on<O: Out>(
+    alloc: Global,
+    out: &mut O,
+    skin: &RowSkin,
+    page: Page<'_>,
+    width: Option<usize>,
+) -> Result<(), Error>
+    ensures writes { WritesPage skin.now width (page_content page.entry) (O.seen out.old) result (O.seen out.new) }
+    ensures early { IsErrOf result Memory → O.seen out.new ≡ O.seen out.old }
+{
+    let rows = page_rows(alloc, skin, page, width)?;
     put_text(out, &rows)
 }
 
@@ -52,24 +73,52 @@ fn markdown_skin(skin: &MadSkin) -> RowSkin
     skin.with_links()
 }
 
-// The rows of a text in a skin: those of its lines, each with a newline.
+// The rows of a text in a skin: those of its page, each with a newline.
 fn markdown_rows(
     alloc: Global,
     skin: &RowSkin,
     markdown: &str,
     width: Option<usize>,
 ) -> Result<String, AllocError>
-    ensures { IfOk result (λ rows. (lines : List FmtLine) × IsLayoutAt (line_rules skin.now) width (markdown_lines markdown.now) lines × (string_bytes rows ≡ text_bytes skin.now width lines)) }
+    ensures { IfOk result (λ rows. (own : List RowContent) × IsPageAt (line_rules skin.now) (has_ascii_boxes skin.now) width (markdown_sections markdown.now) own × (string_bytes rows ≡ rows_bytes skin.now width own)) }
 {
     let read = Markdown::read(alloc, markdown)?;
-    let text = read.text(alloc)?;
     let mut rows = String::with_capacity(alloc, markdown.len())?;
-    append_parts(
-        alloc,
-        &mut rows,
-        &mut PartCursor::of_text(text),
-        width,
-        skin,
-    )?;
+    append_sections(alloc, &mut rows, read.sections(), width, skin)?;
+    Ok(rows)
+}
+
+// The rows of sections.
+fn append_sections(
+    alloc: Global,
+    rows: &mut String,
+    sections: Sections<'_>,
+    width: Option<usize>,
+    skin: &RowSkin,
+) -> Result<(), AllocError>
+    ensures { OnOk result ((own : List RowContent) × IsPageAt (line_rules skin.now) (has_ascii_boxes skin.now) width (sections_left sections.entry) own × (string_bytes rows.new ≡ string_bytes rows.old ++ rows_bytes skin.now width own)) }
+{
+    let mut commands = StyleCommands::new(alloc);
+    let mut rest = sections;
+    'sections: while let Some(section) = rest.next(alloc)? {
+        append_section(alloc, rows, section, width, skin, &mut commands)?;
+    }
+    Ok(())
+}
+
+// The rows of a page.
+fn page_rows(
+    alloc: Global,
+    skin: &RowSkin,
+    page: Page<'_>,
+    width: Option<usize>,
+) -> Result<String, AllocError>
+    ensures { IfOk result (λ rows. (own : List RowContent) × IsPageAt (line_rules skin.now) (has_ascii_boxes skin.now) width (page_content page.entry) own × (string_bytes rows ≡ rows_bytes skin.now width own)) }
+{
+    let mut commands = StyleCommands::new(alloc);
+    let mut rows = String::new(alloc);
+    for section in page.sections {
+        append_section(alloc, &mut rows, section, width, skin, &mut commands)?;
+    }
     Ok(rows)
 }

@@ -6,7 +6,7 @@ use Rattle.markdown_brackets.specs.Labels.{normal}
 use Rattle.markdown_marks.specs.Definitions.{after_definition}
 use Rattle.markdown_marks.specs.Remaining.{Remaining}
 use Rattle.markdown_blocks.specs.declared.containers.Container.{Container}
-use Rattle.markdown_blocks.specs.declared.containers.Container.TheVariants.{Quote as QuoteContainer, Item}
+use Rattle.markdown_blocks.specs.declared.containers.Container.TheVariants.{Quote, Item}
 use Rattle.markdown_destinations.specs.Destinations.{Leads, link_leads, text_of}
 use Rattle.markdown_destinations.specs.Parts.{defined_destination}
 use Rattle.markdown_inlines.specs.declared.inlines.LinkTarget.{LinkTarget}
@@ -17,17 +17,26 @@ use Rattle.markdown_leaves.specs.Parts.{PartContent, begins, ends, block}
 use Rattle.markdown_leaves.specs.Told.{parts_of}
 use Rattle.markdown_leaves.specs.declared.parts.Kind.{Kind}
 use Rattle.markdown_leaves.specs.declared.parts.Kind.TheVariants.{Nothing, Paragraph as ParagraphKind, Heading, Indented, Fenced, Html, Table, Rule, Definitions}
-use Rattle.mad_md.specs.Lines.{LineContent}
-use Rattle.markdown_lines.specs.Leaf.{leaf_rows, html_lines}
-use Rattle.markdown_lines.specs.Links.{Defined, LinkSaid, definition_address, address_or_none, address_by, address_in, address_of, leaf_addresses, links_at}
-use Rattle.markdown_lines.specs.Tables.{cell_text, after_cell, cells_addresses, row_addresses, rows_links, table_links}
+use Rattle.markdown_lines.specs.Tables.{cell_text, after_cell, cells_addresses, row_addresses, rows_links, table_lines}
 use Rattle.markdown_reader.specs.Definitions.{label_of, with_definition, defined_or, defined_in, leaf_defined, part_defined, parts_defined, nothing_defined, definitions_of}
-use Rattle.markdown_reader.specs.Mapping.{Mapping, nothing_shown, place_in, spaced, is_spaced, marked, passed, begun, item_ended, ended, linked, rows_in, rows_shown, unmarked, words_shown, leaf_text, big_begun, code_shown, heading_shown, table_added, leaf_shown, shown_part, shown_parts}
 use Rattle.markdown_reader.specs.Markdown.{unmarked_links}
+use Rattle.mad_md.specs.Lines.{LineContent, horizontal_rule}
+use Rattle.mad_md.specs.declared.composite.CompositeStyle.TheVariants.{Paragraph}
+use Rattle.mad_sections.specs.declared.gutters.Gutter.{Gutter}
+use Rattle.mad_sections.specs.declared.gutters.Gutter.TheVariants.{Bar, Bullet, Number, Task, Code}
+use Rattle.markdown_lines.specs.Code.{code_lines}
+use Rattle.markdown_lines.specs.Leaf.{html_lines}
+use Rattle.markdown_lines.specs.Links as line_links
+use Rattle.markdown_lines.specs.Links.{Defined, definition_address, address_or_none, address_by, address_in, address_of, leaf_addresses, links_at}
+use Rattle.markdown_lines.specs.Restyled.{restyled}
+use Rattle.markdown_reader.specs.Mapping.{LinkSaid, Mapping, nothing_shown, is_item, new_gutter, boxed, is_big, is_spaced, spaced, link_at, put, passed, list_ended, begun, item_ended, ended_by, words, addresses_in, text_of as leaf_text, words_shown, task_by, alert_line, alert_by, paragraph_by, heading_style, address_said, table_addresses, leaf_shown, shown_part, shown_parts}
+use Rattle.markdown_reader.specs.declared.forms.Form.{Form}
+use Rattle.markdown_reader.specs.declared.forms.Form.TheVariants.{Words, Large, Listed, Boxed}
+use Rattle.markdown_reader.specs.Signs.{after_box, box_of, after_line, alert_of}
+use Rattle.markdown_reader.specs.declared.signs.Alert.{Alert}
+use Rattle.markdown_reader.proofs.LinesPrinted.{text_printed}
 use Rattle.markdown_lines.specs.Printed.{is_obeyed}
-use Rattle.markdown_reader.specs.Printed.{IsPrintedLink, ArePrintedLinks}
-use Rattle.markdown_reader.proofs.PrintedLemmas.{text_printed}
-use Rattle.markdown_reader.specs.declared.mapper.Place.{Place}
+use Rattle.markdown_reader.specs.Printed.{ArePrintedLinks}
 
 abbrev IsPrintedText : List ℕ → Type 0
 IsPrintedText text = NoCharPasses is_obeyed text
@@ -117,37 +126,45 @@ unfolding cells_addresses
 cells_printed defined zero row h = tt
 cells_printed defined (suc columns) row h = texts_append (leaf_addresses defined (cell_text row)) (cells_addresses defined columns (after_cell row)) (leaf_addresses_printed defined (cell_text row) h) (cells_printed defined columns (after_cell row) h)
 
--- ---- links
+-- ---- tables
+
+at_printed : (line : ℕ) (addresses : List (List ℕ)) → ArePrintedTexts addresses → ArePrintedTexts (map address_said (links_at line addresses))
+at_printed line [] h = tt
+at_printed line (a ∷ addresses) h = (h.0, at_printed line addresses h.1)
+
+said_append : (xs ys : List line_links.LinkSaid) → ArePrintedTexts (map address_said xs) → ArePrintedTexts (map address_said ys) → ArePrintedTexts (map address_said (xs ++ ys))
+said_append [] ys h k = k
+said_append (x ∷ xs) ys h k = (h.0, said_append xs ys h.1 k)
+
+rows_printed : (defined : Defined) (columns at : ℕ) (lines : List Remaining) → LeadsPrinted defined → ArePrintedTexts (map address_said (rows_links defined columns at lines))
+unfolding rows_links
+rows_printed defined columns at [] h = tt
+rows_printed defined columns at (line ∷ lines) h =
+    said_append (links_at at (row_addresses defined columns line)) (rows_links defined columns (at + 1) lines)
+    (at_printed at (row_addresses defined columns line) (cells_printed defined _ _ h)) (rows_printed defined columns (at + 1) lines h)
+
+table_printed : (defined : Defined) (columns : ℕ) (lines : List Remaining) → LeadsPrinted defined → ArePrintedTexts (table_addresses defined columns lines)
+table_printed defined columns [] h = tt
+table_printed defined columns (head ∷ []) h = tt
+table_printed defined columns (head ∷ delimiters ∷ lines) h =
+    said_append (links_at 1 (row_addresses defined columns head)) (rows_links defined columns 3 lines)
+    (at_printed 1 (row_addresses defined columns head) (cells_printed defined _ _ h)) (rows_printed defined columns 3 lines h)
+
+-- ---- the mapping
 
 no_links : ArePrintedLinks []
 unfolding ArePrintedLinks
 no_links = tt
 
-links_at_printed : (line : ℕ) (addresses : List (List ℕ)) → ArePrintedTexts addresses → ArePrintedLinks (links_at line addresses)
+section_links : (section : ℕ) (addresses : List (List ℕ)) → ArePrintedTexts addresses → ArePrintedLinks (map (link_at section) addresses)
 unfolding ArePrintedLinks
-links_at_printed line [] h = tt
-links_at_printed line (a ∷ addresses) h = (h.0, links_at_printed line addresses h.1)
+section_links section [] h = tt
+section_links section (a ∷ addresses) h = (h.0, section_links section addresses h.1)
 
 links_append : (xs ys : List LinkSaid) → ArePrintedLinks xs → ArePrintedLinks ys → ArePrintedLinks (xs ++ ys)
 unfolding ArePrintedLinks
 links_append [] ys h k = k
 links_append (x ∷ xs) ys h k = (h.0, links_append xs ys h.1 k)
-
-rows_links_printed : (defined : Defined) (columns at : ℕ) (lines : List Remaining) → LeadsPrinted defined → ArePrintedLinks (rows_links defined columns at lines)
-unfolding rows_links
-rows_links_printed defined columns at [] h = no_links
-rows_links_printed defined columns at (line ∷ lines) h =
-    links_append (links_at at (row_addresses defined columns line)) (rows_links defined columns (at + 1) lines)
-    (links_at_printed at (row_addresses defined columns line) (cells_printed defined _ _ h)) (rows_links_printed defined columns (at + 1) lines h)
-
-table_links_printed : (defined : Defined) (columns at : ℕ) (lines : List Remaining) → LeadsPrinted defined → ArePrintedLinks (table_links defined columns at lines)
-table_links_printed defined columns at [] h = no_links
-table_links_printed defined columns at (head ∷ []) h = no_links
-table_links_printed defined columns at (head ∷ delimiters ∷ lines) h =
-    links_append (links_at (at + 1) (row_addresses defined columns head)) (rows_links defined columns (at + 3) lines)
-    (links_at_printed (at + 1) (row_addresses defined columns head) (cells_printed defined _ _ h)) (rows_links_printed defined columns (at + 3) lines h)
-
--- ---- the mapping
 
 abbrev HasPrinted : Mapping → Type 0
 HasPrinted m = ArePrintedLinks m.links
@@ -156,57 +173,59 @@ if_mapping : (t : Bool) (m n : Mapping) → HasPrinted m → HasPrinted n → Ha
 if_mapping true m n h k = h
 if_mapping false m n h k = k
 
-spaced_has : (quote : ℕ) (apart big : Bool) (m : Mapping) → HasPrinted m → HasPrinted (spaced quote apart big m)
-spaced_has quote apart big m h = if_mapping (is_spaced m.before apart big) _ m h h
+spaced_has : (apart big : Bool) (m : Mapping) → HasPrinted m → HasPrinted (spaced apart big m)
+spaced_has apart big m h = if_mapping (is_spaced apart big m) _ m h h
+
+put_has : (form : Form) (lines : List LineContent) (addresses : List (List ℕ)) (m : Mapping) → ArePrintedTexts addresses → HasPrinted m → HasPrinted (put form lines addresses m)
+put_has form lines addresses m k h =
+    let apart : Mapping = spaced m.apart (is_big form) m in
+    if_mapping (length lines == 0) m _ h (links_append apart.links (map (link_at (length apart.sections)) addresses) (spaced_has m.apart (is_big form) m h) (section_links (length apart.sections) addresses k))
 
 begun_has : (container : Container) (m : Mapping) → HasPrinted m → HasPrinted (begun container m)
-begun_has QuoteContainer m h = h
+begun_has Quote m h = h
 begun_has (Item sign number content) m h = h
 
-item_has : (m : Mapping) → HasPrinted m → HasPrinted (item_ended m)
-item_has m h = if_mapping (length m.marks == 0) m _ h (spaced_has 0 m.mark_apart false m h)
+ended_has : (gutter : Option Gutter) (m : Mapping) → HasPrinted m → HasPrinted (ended_by gutter m)
+ended_has None m h = h
+ended_has (Some gutter) m h = if_mapping (is_item gutter) (item_ended m) m (spaced_has m.item_apart false m h) h
 
-ended_has : (m : Mapping) → HasPrinted m → HasPrinted (ended m)
-ended_has m h = if_mapping (place_in m.places).item (item_ended m) m (item_has m h) h
+words_has : (defined : Defined) (bytes : List ℕ) (m : Mapping) → LeadsPrinted defined → HasPrinted m → HasPrinted (words_shown defined bytes m)
+words_has defined bytes m k h = put_has Words (words defined bytes) (addresses_in defined bytes) m (leaf_addresses_printed defined (leaf_text bytes) k) h
 
-unmarked_has : (place : Place) (m : Mapping) → HasPrinted m → HasPrinted (unmarked place m)
-unmarked_has place m h = if_mapping (place.quote == 0) _ m h h
+task_has : (done : Option Bool) (defined : Defined) (bytes : List ℕ) (m : Mapping) → LeadsPrinted defined → HasPrinted m → HasPrinted (task_by done defined bytes m)
+task_has None defined bytes m k h = words_has defined bytes m k h
+task_has (Some done) defined bytes m k h = words_has defined (after_box bytes) (boxed done m) k h
 
-linked_has : (addresses : List (List ℕ)) (m : Mapping) → ArePrintedTexts addresses → HasPrinted m → HasPrinted (linked addresses m)
-linked_has addresses m k h = links_append m.links (links_at (length m.lines) addresses) h (links_at_printed (length m.lines) addresses k)
+alert_has : (alert : Option Alert) (defined : Defined) (bytes : List ℕ) (m : Mapping) → LeadsPrinted defined → HasPrinted m → HasPrinted (alert_by alert defined bytes m)
+alert_has None defined bytes m k h = words_has defined bytes m k h
+alert_has (Some alert) defined bytes m k h =
+    put_has Words (alert_line alert ∷ restyled Paragraph Paragraph (words defined (after_line bytes))) (addresses_in defined (after_line bytes)) m (leaf_addresses_printed defined (leaf_text (after_line bytes)) k) h
 
-words_has : (rows : List LineContent) (addresses : List (List ℕ)) (m : Mapping) → ArePrintedTexts addresses → HasPrinted m → HasPrinted (words_shown rows addresses m)
-words_has rows addresses m k h =
-    let place : Place = place_in m.places in
-    let apart : Mapping = spaced place.quote m.apart false m in
-    if_mapping (length rows == 0) m (rows_shown rows addresses m) h
-    (linked_has addresses (marked (unmarked place apart)) k (unmarked_has place apart (spaced_has place.quote m.apart false m h)))
-
-big_has : (m : Mapping) → HasPrinted m → HasPrinted (big_begun m)
-big_has m h = spaced_has 0 m.apart true m h
-
-code_has : (lines : List Remaining) (m : Mapping) → HasPrinted m → HasPrinted (code_shown lines m)
-code_has lines m h = if_mapping (length lines == 0) m _ h (big_has m h)
-
-heading_has : (level : ℕ) (rows : List LineContent) (addresses : List (List ℕ)) (m : Mapping) → ArePrintedTexts addresses → HasPrinted m → HasPrinted (heading_shown level rows addresses m)
-heading_has level rows addresses m k h = if_mapping (length rows == 0) m _ h (linked_has addresses (big_begun m) k (big_has m h))
+paragraph_has : (gutter : Option Gutter) (defined : Defined) (bytes : List ℕ) (m : Mapping) → LeadsPrinted defined → HasPrinted m → HasPrinted (paragraph_by gutter defined bytes m)
+paragraph_has (Some Bullet) defined bytes m k h = task_has (box_of bytes) defined bytes m k h
+paragraph_has (Some Bar) defined bytes m k h = alert_has (alert_of bytes) defined bytes m k h
+paragraph_has (Some (Number number)) defined bytes m k h = words_has defined bytes m k h
+paragraph_has (Some (Task done)) defined bytes m k h = words_has defined bytes m k h
+paragraph_has (Some Code) defined bytes m k h = words_has defined bytes m k h
+paragraph_has None defined bytes m k h = words_has defined bytes m k h
 
 leaf_has : (defined : Defined) (kind : Kind) (lines : List Remaining) (m : Mapping) → LeadsPrinted defined → HasPrinted m → HasPrinted (leaf_shown defined kind lines m)
-leaf_has defined ParagraphKind lines m k h = words_has (leaf_rows defined.labels (leaf_text lines)) (leaf_addresses defined (leaf_text lines)) m (leaf_addresses_printed defined (leaf_text lines) k) h
-leaf_has defined Html lines m k h = words_has (html_lines (joined [] lines)) [] m tt h
-leaf_has defined (Heading level) lines m k h = heading_has level (leaf_rows defined.labels (leaf_text lines)) (leaf_addresses defined (leaf_text lines)) m (leaf_addresses_printed defined (leaf_text lines) k) h
-leaf_has defined Indented lines m k h = code_has lines m h
-leaf_has defined Fenced lines m k h = code_has (drop 1 lines) m h
-leaf_has defined (Table columns) lines m k h = links_append (big_begun m).links _ (big_has m h) (table_links_printed defined columns (length (big_begun m).lines) lines k)
-leaf_has defined Rule lines m k h = big_has m h
+leaf_has defined ParagraphKind lines m k h = paragraph_has (new_gutter m) defined (joined [] lines) m k h
+leaf_has defined Html lines m k h = put_has Words (html_lines (joined [] lines)) [] m tt h
+leaf_has defined (Heading level) lines m k h =
+    put_has Large (restyled (heading_style level) (heading_style level) (words defined (joined [] lines))) (addresses_in defined (joined [] lines)) m (leaf_addresses_printed defined (leaf_text (joined [] lines)) k) h
+leaf_has defined Indented lines m k h = put_has Boxed (code_lines 0 lines) [] m tt h
+leaf_has defined Fenced lines m k h = put_has Boxed (code_lines 0 (drop 1 lines)) [] m tt h
+leaf_has defined (Table columns) lines m k h = put_has Listed (table_lines defined.labels columns lines) (table_addresses defined columns lines) m (table_printed defined columns lines k) h
+leaf_has defined Rule lines m k h = put_has Large (horizontal_rule ∷ []) [] m tt h
 leaf_has defined Nothing lines m k h = h
 leaf_has defined Definitions lines m k h = h
 
 part_has : (defined : Defined) (part : PartContent) (m : Mapping) → LeadsPrinted defined → HasPrinted m → HasPrinted (shown_part defined part m)
 unfolding shown_part
 part_has defined (begins container apart) m k h = begun_has container (passed apart m) h
-part_has defined ends m k h = ended_has m h
-part_has defined (block leaf) m k h = leaf_has defined leaf.kind leaf.lines (passed leaf.apart m) k h
+part_has defined ends m k h = ended_has (new_gutter m) m h
+part_has defined (block leaf) m k h = leaf_has defined leaf.kind leaf.lines (list_ended (passed leaf.apart m)) k h
 
 parts_have : (defined : Defined) (parts : List PartContent) (m : Mapping) → LeadsPrinted defined → HasPrinted m → HasPrinted (shown_parts defined parts m)
 unfolding shown_parts

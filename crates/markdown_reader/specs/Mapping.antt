@@ -1,229 +1,294 @@
--- What the parts of a text are shown as.
-use Rattle.std.specs.Prelude.{ℕ, ◌+◌, ◌-◌, Bool, true, false, not, ◌||◌, ◌&&◌, ◌==◌, nat_lt, nat_le, List, [], ◌∷◌, ◌++◌, map, length, take, drop, min, slice_index_or, if◌then◌else◌}
+-- What the parts of a text are shown as: sections behind gutters.
+use Rattle.std.specs.Prelude.{ℕ, ◌+◌, ◌-◌, Bool, true, false, ◌||◌, ◌&&◌, ◌==◌, nat_lt, List, [], ◌∷◌, ◌++◌, map, length, take, drop, min, slice_index_or, Option, Some, None, if◌then◌else◌}
+use Rattle.std.specs.List.{suffix_len}
 use Rattle.std.specs.Str.Lossy.{utf8_lossy}
 use Rattle.markdown_marks.specs.Headings.{without_end}
 use Rattle.markdown_marks.specs.Remaining.{Remaining}
 use Rattle.markdown_blocks.specs.declared.containers.Container.{Container}
-use Rattle.markdown_blocks.specs.declared.containers.Container.TheVariants.{Quote as QuoteContainer, Item}
+use Rattle.markdown_blocks.specs.declared.containers.Container.TheVariants.{Quote, Item}
 use Rattle.markdown_leaves.specs.Defining.{joined}
 use Rattle.markdown_leaves.specs.Parts.{PartContent, begins, ends, block}
 use Rattle.markdown_leaves.specs.declared.parts.Kind.{Kind}
 use Rattle.markdown_leaves.specs.declared.parts.Kind.TheVariants.{Paragraph as ParagraphKind, Heading, Indented, Fenced, Html, Table, Rule}
-use Rattle.mad_md.specs.Lines.{LineContent, horizontal_rule}
+use Rattle.mad_md.specs.Flagged.{Flags}
+use Rattle.mad_md.specs.Lines.{LineContent, normal, horizontal_rule}
 use Rattle.mad_md.specs.declared.composite.CompositeStyle.{CompositeStyle}
-use Rattle.mad_md.specs.declared.composite.CompositeStyle.TheVariants.{Paragraph, Header, ListItem, OrderedListItem, ListItemFollowUp, Quote}
+use Rattle.mad_md.specs.declared.composite.CompositeStyle.TheVariants.{Paragraph, Header}
+use Rattle.mad_sections.specs.Sections.{SectionContent}
+use Rattle.mad_sections.specs.declared.gutters.Gutter.{Gutter}
+use Rattle.mad_sections.specs.declared.gutters.Gutter.TheVariants.{Bar, Bullet, Number, Task, Code}
 use Rattle.markdown_lines.specs.Code.{code_lines}
 use Rattle.markdown_lines.specs.Leaf.{leaf_rows, html_lines}
+use Rattle.markdown_lines.specs.Links as line_links
+use Rattle.markdown_lines.specs.Links.{Defined, leaf_addresses}
 use Rattle.markdown_lines.specs.Restyled.{restyled, empty_line}
-use Rattle.markdown_lines.specs.Links.{Defined, LinkSaid, leaf_addresses, links_at}
 use Rattle.markdown_lines.specs.Tables.{table_lines, table_links}
-use Rattle.markdown_reader.specs.declared.mapper.Before.{Before}
-use Rattle.markdown_reader.specs.declared.mapper.Place.{Place}
+use Rattle.markdown_reader.specs.Signs.{after_box, box_of, after_line, alert_word, alert_of}
+use Rattle.markdown_reader.specs.declared.forms.Form.{Form}
+use Rattle.markdown_reader.specs.declared.forms.Form.TheVariants.{Words, Large, Listed, Boxed}
+use Rattle.markdown_reader.specs.declared.lists.Counted.{Counted}
+use Rattle.markdown_reader.specs.declared.signs.Alert.{Alert}
 
--- The lines so far with their links, and what the next ones depend on: the places of the open containers, the styles of the items of which nothing is shown
--- yet, whether blank lines are before the last of these, whether some came since it began, and since something was shown last, and what that was.
+-- a link: the number of a section, and the address to which the link leads
+pub record LinkSaid : Type 0 where
+  pub section : ℕ
+  pub address : List ℕ
+
+-- The sections so far with their links, and what the next ones depend on: the gutters of the open containers, the outermost first; of how many of them, the
+-- outermost, something is shown; outside and for each of them the list whose item began last; whether blank lines came before the last item, since it began,
+-- and since something was shown last; whether anything was, and whether that wants blank rows beside it.
 pub record Mapping : Type 0 where
-  pub lines : List LineContent
+  pub sections : List SectionContent
   pub links : List LinkSaid
-  pub places : List Place
-  pub marks : List CompositeStyle
-  pub mark_apart : Bool
+  pub gutters : List Gutter
+  pub seen : ℕ
+  pub lists : List Counted
+  pub item_apart : Bool
   pub since : Bool
   pub apart : Bool
-  pub before : Before
+  pub some : Bool
+  pub big : Bool
+
+-- ---- lists
+
+-- no list, or one that has ended
+abbrev pub no_list : Counted
+no_list = record { sign = 0; next = 0 }
 
 -- before the text nothing is shown, and no container is open
 abbrev pub nothing_shown : Mapping
-nothing_shown = record { lines = []; links = []; places = []; marks = []; mark_apart = false; since = false; apart = false; before = record { some = false; big = false; quote = 0 } }
+nothing_shown = record { sections = []; links = []; gutters = []; seen = 0; lists = no_list ∷ []; item_apart = false; since = false; apart = false; some = false; big = false }
 
--- ---- places
+-- the list in the innermost open container
+abbrev pub last_list : List Counted → Counted
+last_list lists = slice_index_or lists (length lists - 1) no_list
 
--- the place of a leaf that no container holds
-abbrev pub outside : Place
-outside = record { item = false; column = 0; quote = 0 }
+-- the lists of the containers around it, and this one there
+abbrev pub with_list : List Counted → Counted → List Counted
+with_list lists list = take (length lists - 1) lists ++ list ∷ []
 
--- where the next leaf stands
-abbrev pub place_in : List Place → Place
-place_in places = slice_index_or places (length places - 1) outside
+-- the number of an item: the next one of its list, or the one that it has, if it begins a list
+abbrev pub number_in : Counted → ℕ → ℕ → ℕ
+number_in list sign number = if list.sign == sign then list.next else number
 
--- how many digits a number has, nine at most
-abbrev pub digits : ℕ → ℕ
-digits n =
-    if nat_lt n 10 then 1 else if nat_lt n 100 then 2 else if nat_lt n 1000 then 3 else if nat_lt n 10000 then 4 else if nat_lt n 100000 then 5
-    else if nat_lt n 1000000 then 6 else if nat_lt n 10000000 then 7 else if nat_lt n 100000000 then 8 else 9
+-- the list after an item: its next number is one more, but fits 32 bits
+abbrev pub list_after : ℕ → ℕ → Counted
+list_after sign number = record { sign = sign; next = min (number + 1) 4294967295 }
+
+-- ---- gutters
 
 -- an item that has this sign has a number
 abbrev pub is_number : ℕ → Bool
 is_number sign = (sign == 46) || (sign == 41)
 
--- how many columns the mark of an item takes
-abbrev pub mark_width : ℕ → ℕ → ℕ
-mark_width sign number = if is_number sign then digits number + 2 else 2
+-- the gutter that an item has: its number, or a bullet
+abbrev pub item_gutter : ℕ → ℕ → Gutter
+item_gutter sign number = if is_number sign then Number number else Bullet
 
--- the level of a style that begins in this column, at most 255
-abbrev pub level_of : ℕ → ℕ
-level_of column = min column 255
+-- it is an item's, so its other face is blank
+abbrev pub is_item : Gutter → Bool
+is_item Bar = false
+is_item Code = false
+is_item _ = true
 
--- the style that an item's first row has: with its number, or with a bullet
-abbrev pub item_style : ℕ → ℕ → ℕ → CompositeStyle
-item_style sign number level = if is_number sign then OrderedListItem level number else ListItem level
+-- without the items behind the last bar
+abbrev pub up_to_bar : List Gutter → List Gutter
+up_to_bar gutters = take (length gutters - suffix_len is_item gutters) gutters
 
--- what goes on in a place: a quote, an item, or neither
-abbrev pub follow_style : Place → CompositeStyle
-follow_style place = if not (place.quote == 0) then Quote else if nat_le 2 place.column then ListItemFollowUp (level_of (place.column - 2)) else Paragraph
+-- the gutter of the innermost open container, if there is one
+abbrev pub last_gutter : List Gutter → Option Gutter
+last_gutter gutters = if length gutters == 0 then None else Some (slice_index_or gutters (length gutters - 1) Bar)
 
--- the quote that a place is in, or else the one that begins at this depth
-abbrev pub quote_in : Place → ℕ → ℕ
-quote_in place depth = if place.quote == 0 then depth else place.quote
+-- the gutter of the innermost open container, if nothing of that is shown yet
+abbrev pub new_gutter : Mapping → Option Gutter
+new_gutter m = if nat_lt m.seen (length m.gutters) then last_gutter m.gutters else None
 
--- the quote, 0 if it isn't open at this depth
-abbrev pub open_quote : ℕ → ℕ → ℕ
-open_quote quote depth = if nat_lt depth quote then 0 else quote
+-- a box in the place of the last gutter
+abbrev pub boxed : Bool → Mapping → Mapping
+boxed done m = record m { gutters = take (length m.gutters - 1) m.gutters ++ Task done ∷ [] }
 
--- the style that a heading's rows have
-abbrev pub heading_style : ℕ → CompositeStyle
-heading_style level = Header (min level 255)
+-- ---- sections
 
--- ---- blank rows
+-- all but words wants blank rows beside it
+abbrev pub is_big : Form → Bool
+is_big Words = false
+is_big _ = true
 
--- a quote's where both neighbours have its mark
-abbrev pub blank_style : ℕ → Before → CompositeStyle
-blank_style quote before = if not (quote == 0) && (quote == before.quote) then Quote else Paragraph
+-- the gutters in front of a leaf: those of the open containers, and of code its box
+abbrev pub leaf_gutters : Form → List Gutter → List Gutter
+leaf_gutters Boxed gutters = gutters ++ Code ∷ []
+leaf_gutters _ gutters = gutters
+
+-- of a table those of its items, if it is shown as a list: a bullet stands behind those of the open containers
+abbrev pub items_gutters : Form → List Gutter → Option (List Gutter)
+items_gutters Listed gutters = Some (gutters ++ Bullet ∷ [])
+items_gutters _ gutters = None
+
+-- lines behind the gutters of all open containers; those begin with them of which nothing is shown yet, and the box of code
+abbrev pub section_of : Form → List LineContent → Mapping → SectionContent
+section_of form lines m = record { gutters = leaf_gutters form m.gutters; fresh = length (leaf_gutters form m.gutters) - m.seen; list = items_gutters form m.gutters; lines = lines }
+
+-- one more section, by which something of all open containers is shown
+abbrev pub with_section : Form → List LineContent → Mapping → Mapping
+with_section form lines m = record m { sections = m.sections ++ section_of form lines m ∷ []; seen = length m.gutters }
+
+-- A blank row is behind the gutters of the containers that both neighbours are in, up to the last bar: what is behind that is blank. No blank row is in a box.
+abbrev pub blank_row : Mapping → SectionContent
+blank_row m = record { gutters = up_to_bar (take m.seen m.gutters); fresh = 0; list = None; lines = empty_line Paragraph ∷ [] }
 
 -- something is shown, and then blank lines came, or one of both is big
-abbrev pub is_spaced : Before → Bool → Bool → Bool
-is_spaced before apart big = before.some && (apart || big || before.big)
+abbrev pub is_spaced : Bool → Bool → Mapping → Bool
+is_spaced apart big m = m.some && (apart || big || m.big)
 
 -- a blank row where blank lines are in the source, and beside what is big
-abbrev pub spaced : ℕ → Bool → Bool → Mapping → Mapping
-spaced quote apart big m = if is_spaced m.before apart big then record m { lines = m.lines ++ empty_line (blank_style quote m.before) ∷ [] } else m
+abbrev pub spaced : Bool → Bool → Mapping → Mapping
+spaced apart big m = if is_spaced apart big m then record m { sections = m.sections ++ blank_row m ∷ [] } else m
 
--- a row for each item of which nothing is shown yet
-abbrev pub marked : Mapping → Mapping
-marked m = record m { lines = m.lines ++ map empty_line m.marks; marks = [] }
+-- a link that is in this section
+abbrev pub link_at : ℕ → List ℕ → LinkSaid
+link_at section address = record { section = section; address = address }
+
+-- these are links of the next section
+abbrev pub linked : List (List ℕ) → Mapping → Mapping
+linked addresses m = record m { links = m.links ++ map (link_at (length m.sections)) addresses }
+
+-- one more section, and where its links lead; no blank lines came since
+abbrev pub added : Form → List LineContent → List (List ℕ) → Mapping → Mapping
+added form lines addresses m = record (with_section form lines (linked addresses m)) { apart = false; some = true; big = is_big form }
+
+-- the lines of a leaf, and where its links lead; a leaf without lines isn't shown
+abbrev pub put : Form → List LineContent → List (List ℕ) → Mapping → Mapping
+put form lines addresses m = if length lines == 0 then m else added form lines addresses (spaced m.apart (is_big form) m)
+
+-- ---- containers
 
 -- blank lines came, or didn't
 abbrev pub passed : Bool → Mapping → Mapping
 passed apart m = record m { apart = m.apart || apart; since = m.since || apart }
 
--- ---- containers
+-- what isn't an item ends the list beside it
+abbrev pub list_ended : Mapping → Mapping
+list_ended m = record m { lists = with_list m.lists no_list }
 
--- a quote begins, which belongs to the quote around it, if there is one
+-- a quote begins, which ends the list beside it
 abbrev pub quote_begun : Mapping → Mapping
-quote_begun m = record m { places = m.places ++ record { item = false; column = 0; quote = quote_in (place_in m.places) (length m.places + 1) } ∷ [] }
+quote_begun m = record m { gutters = m.gutters ++ Bar ∷ []; lists = with_list m.lists no_list ++ no_list ∷ [] }
 
--- an item begins: its mark waits to be shown, and its content stands behind it
-abbrev pub item_begun : ℕ → ℕ → Mapping → Mapping
-item_begun sign number m = record m {
-  marks = m.marks ++ item_style sign number (level_of (place_in m.places).column) ∷ [];
-  places = m.places ++ record { item = true; column = min ((place_in m.places).column + mark_width sign number) 65535; quote = 0 } ∷ [];
-  mark_apart = m.apart;
+-- an item begins, whose list goes on with the next number
+abbrev pub numbered : ℕ → ℕ → Mapping → Mapping
+numbered sign number m = record m {
+  gutters = m.gutters ++ item_gutter sign number ∷ [];
+  lists = with_list m.lists (list_after sign number) ++ no_list ∷ [];
+  item_apart = m.apart;
   since = false;
 }
 
 -- a container begins
 abbrev pub begun : Container → Mapping → Mapping
-begun QuoteContainer m = quote_begun m
-begun (Item sign number content) m = item_begun sign number m
+begun Quote m = quote_begun m
+begun (Item sign number content) m = numbered sign (number_in (last_list m.lists) sign number) m
 
 -- an item's row is shown, and only blank lines came since it began
 abbrev pub nothing_since : Mapping → Mapping
-nothing_since m = record m { apart = m.since; before = record { some = true; big = false; quote = 0 } }
+nothing_since m = record m { apart = m.since; some = true; big = false }
 
--- An item of which nothing was shown has a row where it began.
+-- an item of which nothing was shown has a row where it began
 abbrev pub item_ended : Mapping → Mapping
-item_ended m = if length m.marks == 0 then m else nothing_since (marked (spaced 0 m.mark_apart false m))
+item_ended m = nothing_since (with_section Words (empty_line Paragraph ∷ []) (spaced m.item_apart false m))
 
--- the innermost container ends: only an item may show a row then
-abbrev pub container_ended : Mapping → Mapping
-container_ended m = if (place_in m.places).item then item_ended m else m
+-- the container ends whose gutter is new, if there is one: only an item has a row then
+abbrev pub ended_by : Option Gutter → Mapping → Mapping
+ended_by None m = m
+ended_by (Some gutter) m = if is_item gutter then item_ended m else m
 
 -- the innermost container is open no more
 abbrev pub closed : Mapping → Mapping
-closed m = record m { places = take (length m.places - 1) m.places; before = record m.before { quote = open_quote m.before.quote (length m.places - 1) } }
+closed m = record m { gutters = take (length m.gutters - 1) m.gutters; lists = take (length m.lists - 1) m.lists; seen = min m.seen (length m.gutters - 1) }
 
 -- a container ends
 abbrev pub ended : Mapping → Mapping
-ended m = closed (container_ended m)
+ended m = closed (ended_by (new_gutter m) m)
 
--- ---- words
+-- ---- leaves
 
--- the mark of the last item that waits for one, or else this style
-abbrev pub last_mark : List CompositeStyle → CompositeStyle → CompositeStyle
-last_mark marks none = slice_index_or marks (length marks - 1) none
+-- the text of a leaf, without blanks at the end
+abbrev pub text_of : List ℕ → List ℕ
+text_of bytes = utf8_lossy (without_end 32 9 bytes)
 
--- the first row of words has the mark of the last item that waits for one, but in a quote, where that has a row of its own
-abbrev pub first_style : Place → List CompositeStyle → CompositeStyle
-first_style place marks = if place.quote == 0 then last_mark marks (follow_style place) else Quote
+-- the rows that a text shows
+abbrev pub words : Defined → List ℕ → List LineContent
+words defined bytes = leaf_rows defined.labels (text_of bytes)
 
--- words show the last mark that waits, but not in a quote
-abbrev pub unmarked : Place → Mapping → Mapping
-unmarked place m = if place.quote == 0 then record m { marks = take (length m.marks - 1) m.marks } else m
+-- where the links of a text lead
+abbrev pub addresses_in : Defined → List ℕ → List (List ℕ)
+addresses_in defined bytes = leaf_addresses defined (text_of bytes)
 
--- links of the next line
-abbrev pub linked : List (List ℕ) → Mapping → Mapping
-linked addresses m = record m { links = m.links ++ links_at (length m.lines) addresses }
+-- the rows and links of a text are shown
+abbrev pub words_shown : Defined → List ℕ → Mapping → Mapping
+words_shown defined bytes m = put Words (words defined bytes) (addresses_in defined bytes) m
 
--- rows of words are shown, of which the first has a style of its own
-abbrev pub rows_added : CompositeStyle → Place → List LineContent → Mapping → Mapping
-rows_added first place rows m = record m { lines = m.lines ++ restyled first (follow_style place) rows; apart = false; before = record { some = true; big = false; quote = place.quote } }
+-- the first paragraph of an item with a bullet: the box in front of it is the item's gutter
+abbrev pub task_by : Option Bool → Defined → List ℕ → Mapping → Mapping
+task_by None defined bytes m = words_shown defined bytes m
+task_by (Some done) defined bytes m = words_shown defined (after_box bytes) (boxed done m)
 
--- rows of words stand in this place, behind a row for each other mark that waits
-abbrev pub rows_in : Place → List LineContent → List (List ℕ) → Mapping → Mapping
-rows_in place rows addresses m = rows_added (first_style place m.marks) place rows (linked addresses (marked (unmarked place m)))
+-- the flags that a text in bold has
+abbrev pub bold : Flags
+bold = record { bold = true; italic = false; code = false; strikeout = false; link = false }
 
--- rows of words stand where the next leaf does, behind a blank row where one is wanted
-abbrev pub rows_shown : List LineContent → List (List ℕ) → Mapping → Mapping
-rows_shown rows addresses m = rows_in (place_in m.places) rows addresses (spaced (place_in m.places).quote m.apart false m)
+-- the row of an alert
+abbrev pub alert_line : Alert → LineContent
+alert_line alert = normal (record { style = Paragraph; runs = record { flags = bold; text = alert_word alert } ∷ [] })
 
--- rows of words, and where their links lead
-abbrev pub words_shown : List LineContent → List (List ℕ) → Mapping → Mapping
-words_shown rows addresses m = if length rows == 0 then m else rows_shown rows addresses m
+-- the first paragraph of a quote: the alert that its first line is has a row of its own
+abbrev pub alert_by : Option Alert → Defined → List ℕ → Mapping → Mapping
+alert_by None defined bytes m = words_shown defined bytes m
+alert_by (Some alert) defined bytes m = put Words (alert_line alert ∷ restyled Paragraph Paragraph (words defined (after_line bytes))) (addresses_in defined (after_line bytes)) m
 
--- the text of a leaf: its lines joined, without blanks at the end
-abbrev pub leaf_text : List Remaining → List ℕ
-leaf_text lines = utf8_lossy (without_end 32 9 (joined [] lines))
+-- a paragraph, by the gutter that is new in front of it
+abbrev pub paragraph_by : Option Gutter → Defined → List ℕ → Mapping → Mapping
+paragraph_by (Some Bullet) defined bytes m = task_by (box_of bytes) defined bytes m
+paragraph_by (Some Bar) defined bytes m = alert_by (alert_of bytes) defined bytes m
+paragraph_by _ defined bytes m = words_shown defined bytes m
 
--- ---- what wants blank rows beside it
+-- the style that a heading's rows have
+abbrev pub heading_style : ℕ → CompositeStyle
+heading_style level = Header (min level 255)
 
--- what is big begins, behind a blank row and a row for each mark that waits
-abbrev pub big_begun : Mapping → Mapping
-big_begun m = record (marked (spaced 0 m.apart true m)) { apart = false; before = record { some = true; big = true; quote = 0 } }
+-- the rows and links of a heading are shown
+abbrev pub heading_shown : Defined → ℕ → List ℕ → Mapping → Mapping
+heading_shown defined level bytes m = put Large (restyled (heading_style level) (heading_style level) (words defined bytes)) (addresses_in defined bytes) m
 
--- these lines are shown
-abbrev pub lines_added : List LineContent → Mapping → Mapping
-lines_added lines m = record m { lines = m.lines ++ lines }
+-- where a link of a table leads
+abbrev pub address_said : line_links.LinkSaid → List ℕ
+address_said link = link.address
 
--- the rows and links of a heading are shown; one without text isn't
-abbrev pub heading_shown : ℕ → List LineContent → List (List ℕ) → Mapping → Mapping
-heading_shown level rows addresses m = if length rows == 0 then m else lines_added (restyled (heading_style level) (heading_style level) rows) (linked addresses (big_begun m))
+-- where the links of a table lead
+abbrev pub table_addresses : Defined → ℕ → List Remaining → List (List ℕ)
+table_addresses defined columns lines = map address_said (table_links defined columns 0 lines)
 
--- the lines and links of a table are shown
-abbrev pub table_added : Defined → ℕ → List Remaining → Mapping → Mapping
-table_added defined columns lines m = record m { lines = m.lines ++ table_lines defined.labels columns lines; links = m.links ++ table_links defined columns (length m.lines) lines }
-
--- the lines of code are shown in the column of their place; code without lines isn't
+-- the lines of code are shown in a box
 abbrev pub code_shown : List Remaining → Mapping → Mapping
-code_shown lines m = if length lines == 0 then m else lines_added (code_lines (place_in m.places).column lines) (big_begun m)
-
--- ---- parts
+code_shown lines m = put Boxed (code_lines 0 lines) [] m
 
 -- a leaf is shown as its kind is; nothing and definitions aren't shown
 abbrev pub leaf_shown : Defined → Kind → List Remaining → Mapping → Mapping
-leaf_shown defined ParagraphKind lines m = words_shown (leaf_rows defined.labels (leaf_text lines)) (leaf_addresses defined (leaf_text lines)) m
-leaf_shown defined Html lines m = words_shown (html_lines (joined [] lines)) [] m
-leaf_shown defined (Heading level) lines m = heading_shown level (leaf_rows defined.labels (leaf_text lines)) (leaf_addresses defined (leaf_text lines)) m
+leaf_shown defined ParagraphKind lines m = paragraph_by (new_gutter m) defined (joined [] lines) m
+leaf_shown defined Html lines m = put Words (html_lines (joined [] lines)) [] m
+leaf_shown defined (Heading level) lines m = heading_shown defined level (joined [] lines) m
 leaf_shown defined Indented lines m = code_shown lines m
 leaf_shown defined Fenced lines m = code_shown (drop 1 lines) m
-leaf_shown defined (Table columns) lines m = table_added defined columns lines (big_begun m)
-leaf_shown defined Rule lines m = lines_added (horizontal_rule ∷ []) (big_begun m)
+leaf_shown defined (Table columns) lines m = put Listed (table_lines defined.labels columns lines) (table_addresses defined columns lines) m
+leaf_shown defined Rule lines m = put Large (horizontal_rule ∷ []) [] m
 leaf_shown defined _ lines m = m
+
+-- ---- parts
 
 -- a part of the text
 unfoldable pub shown_part : Defined → PartContent → Mapping → Mapping
 shown_part defined (begins container apart) m = begun container (passed apart m)
 shown_part defined ends m = ended m
-shown_part defined (block leaf) m = leaf_shown defined leaf.kind leaf.lines (passed leaf.apart m)
+shown_part defined (block leaf) m = leaf_shown defined leaf.kind leaf.lines (list_ended (passed leaf.apart m))
 
 -- parts of the text, one after the other
 unfoldable pub shown_parts : Defined → List PartContent → Mapping → Mapping

@@ -1,31 +1,30 @@
--- The lines of a Markdown text, and its links.
+-- The sections of a Markdown text, and its links.
 use Rattle.std.specs.Prelude.{ℕ, List}
 use Rattle.markdown_leaves.specs.Parts.{PartContent}
 use Rattle.markdown_leaves.specs.Told.{parts_of}
-use Rattle.mad_md.specs.Lines.{LineContent}
-use Rattle.markdown_lines.specs.Links.{LinkSaid}
 use Rattle.markdown_lines.specs.Texts.{behind_mark}
-pub use Rattle.markdown_lines.specs.Steady.{steady_lines, AreSteadyLines}
+use Rattle.mad_sections.specs.Sections.{SectionContent}
+pub use Rattle.markdown_reader.specs.Steady.{steady_sections, AreSteadySections}
 use Rattle.markdown_reader.specs.Definitions.{definitions_of}
-use Rattle.markdown_reader.specs.Mapping.{Mapping, nothing_shown, shown_parts}
+use Rattle.markdown_reader.specs.Mapping.{LinkSaid, Mapping, nothing_shown, shown_parts}
 
 -- what parts are shown as, by all definitions among them
 abbrev pub parts_shown : List PartContent → Mapping
 parts_shown parts = shown_parts (definitions_of parts) parts nothing_shown
 
 -- what a text behind its byte order mark is shown as, each character printable
-unfoldable pub printable_lines : List ℕ → List LineContent
-printable_lines source = (parts_shown (parts_of source)).lines
+unfoldable pub printable_sections : List ℕ → List SectionContent
+printable_sections source = (parts_shown (parts_of source)).sections
 
--- these lines, each of whose runs is steady
-abbrev pub unmarked_lines : List ℕ → List LineContent
-unmarked_lines source = steady_lines (printable_lines source)
+-- these sections, each of whose runs is steady
+abbrev pub unmarked_sections : List ℕ → List SectionContent
+unmarked_sections source = steady_sections (printable_sections source)
 
 -- what a text is shown as
-abbrev pub markdown_lines : List ℕ → List LineContent
-markdown_lines source = unmarked_lines (behind_mark source)
+abbrev pub markdown_sections : List ℕ → List SectionContent
+markdown_sections source = unmarked_sections (behind_mark source)
 
--- the links of a text behind its mark, leaf by leaf, and in each in the order in which they end: the number of a line, and where the link leads
+-- the links of a text behind its mark, leaf by leaf, and in each in the order in which they end: the number of a section, and where the link leads
 unfoldable pub unmarked_links : List ℕ → List LinkSaid
 unmarked_links source = (parts_shown (parts_of source)).links
 

@@ -5,7 +5,7 @@ ghost use Rattle.markdown_brackets.specs.Labels.{normal};
 ghost use Rattle.markdown_marks.specs.Remaining.{remaining};
 ghost use Rattle.markdown_leaves.specs.Parts.{part_of};
 ghost use Rattle.markdown_lines.specs.LinksOf.{defined_of};
-ghost use Rattle.markdown_reader.specs.Definitions.{label_of, with_definition, defined_in, leaf_defined, part_defined, definitions_of};
+ghost use Rattle.markdown_reader.specs.Definitions.{label_of, with_definition, defined_in, leaf_defined, part_defined, nothing_defined, definitions_of};
 
 use markdown_brackets::labels::{Labels, normal};
 use markdown_leaves::defining::joined;
@@ -109,7 +109,12 @@ fn push_leaf_definitions(
     }
 }
 
-fn push_part_definitions(
+/// Adds the definitions of a part whose labels are new.
+///
+/// # Errors
+///
+/// Out of memory is the only error.
+pub fn push_part_definitions(
     alloc: Global,
     definitions: &mut Definitions,
     part: &Part<'_>,
@@ -119,6 +124,16 @@ fn push_part_definitions(
     match part {
         Part::Block(block) => push_leaf_definitions(alloc, definitions, block.kind, &block.lines),
         Part::Begins(_, _) | Part::Ends => Ok(()),
+    }
+}
+
+/// No definitions.
+pub fn no_definitions(alloc: Global) -> Definitions
+    ensures { defined_of result ≡ nothing_defined }
+{
+    Definitions {
+        labels: Labels::new(alloc),
+        addresses: Vec::new(alloc),
     }
 }
 

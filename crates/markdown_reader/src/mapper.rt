@@ -1,169 +1,66 @@
 //! What the parts of a text are shown as.
 
-ghost use Rattle.std.specs.Prelude.{◌≡◌, ◌≤◌, ◌||◌, [], ◌∷◌, ◌++◌, IfOk, OnOk, map, drop, string_bytes};
+ghost use Rattle.std.specs.Prelude.{◌≡◌, ◌||◌, true, false, Some, [], ◌∷◌, ◌++◌, IfOk, OnOk, map, drop, string_bytes};
 ghost use Rattle.markdown_marks.specs.Remaining.{remaining};
+ghost use Rattle.markdown_leaves.specs.Defining.{joined};
 ghost use Rattle.markdown_leaves.specs.Parts.{part_of};
 ghost use Rattle.mad_md.specs.Lines.{horizontal_rule};
-ghost use Rattle.markdown_leaves.specs.Defining.{joined};
-ghost use Rattle.markdown_lines.specs.Leaf.{leaf_rows, html_lines};
-ghost use Rattle.markdown_reader.specs.Mapping.{nothing_shown, place_in, digits, is_number, mark_width, level_of, item_style, follow_style, quote_in, open_quote, heading_style, blank_style, is_spaced, spaced, marked, passed, quote_begun, item_begun, begun, item_ended, container_ended, ended, first_style, unmarked, linked, rows_shown, words_shown, leaf_text, big_begun, lines_added, heading_shown, table_added, code_shown, leaf_shown, shown_part, shown_parts};
-ghost use Rattle.markdown_reader.specs.MappingOf.{mapping_of};
-ghost use Rattle.markdown_lines.specs.Links.{leaf_addresses};
+ghost use Rattle.markdown_lines.specs.Code.{code_lines};
+ghost use Rattle.markdown_lines.specs.Leaf.{html_lines};
 ghost use Rattle.markdown_lines.specs.LinksOf.{defined_of};
-ghost use Rattle.markdown_lines.specs.Restyled.{empty_line};
+ghost use Rattle.markdown_lines.specs.Restyled.{restyled};
 ghost use Rattle.markdown_lines.specs.Shown.{shown};
+ghost use Rattle.markdown_lines.specs.Tables.{table_lines};
+ghost use Rattle.markdown_reader.specs.Signs.{alert_of, box_of};
+ghost use Rattle.markdown_reader.specs.Mapping.{nothing_shown, with_list, new_gutter, boxed, with_section, blank_row, is_spaced, spaced, linked, added, put, passed, list_ended, quote_begun, numbered, begun, item_ended, ended_by, closed, ended, text_of, words_shown, task_by, alert_line, alert_by, paragraph_by, heading_style, heading_shown, code_shown, table_addresses, leaf_shown, shown_part, shown_parts};
+ghost use Rattle.markdown_reader.specs.MappingOf.{mapping_of};
+ghost use Rattle.markdown_reader.specs.SectionsSaid.{lines_said, link_said, section_said};
 
+use crate::forms::{Form, is_big, items_gutters, leaf_gutters};
+use crate::lists::{
+    Counted, first_gutters, is_item, item_gutter, last_gutter, last_list, list_after, no_list,
+    number_in, up_to_bar,
+};
+use crate::sections::{Link, MarkdownSection, addresses_of, push_links};
+use crate::signs::{Alert, after_box, after_line, alert_of, alert_word, box_of};
 use mad_md::CompositeStyle;
+use mad_sections::Gutter;
 use markdown_blocks::Container;
 use markdown_leaves::defining::joined;
 use markdown_leaves::{Kind, Part};
 use markdown_lines::code::push_code_lines;
-use markdown_lines::leaf::{Leaf, html_lines, read_leaf};
+use markdown_lines::leaf::{html_lines, read_leaf};
 use markdown_lines::lines::Lines;
-use markdown_lines::links::{Definitions, Link, push_links};
+use markdown_lines::links::Definitions;
+use markdown_lines::places::{RunFlags, RunRange};
+use markdown_lines::runs::Runs;
 use markdown_lines::tables::push_table;
 use markdown_marks::headings::without_end;
 use markdown_marks::rest::Rest;
 use std::alloc::{AllocError, Global};
+use std::mem::replace;
 
-/// Where a leaf stands.
-#[derive(Debug, Clone, Copy, PartialEq, Eq)]
-pub struct Place {
-    /// Whether the last container is an item.
-    pub item: bool,
-    /// The column of its text, 0 in a quote and outside of items.
-    pub column: u16,
-    /// The number of the outermost quote that it is in since its last item, 0 if it is in none.
-    pub quote: usize,
-}
-
-/// What was shown last.
-#[derive(Debug, Clone, Copy, PartialEq, Eq)]
-pub struct Before {
-    /// Whether anything was shown.
-    pub some: bool,
-    /// Whether it wants blank rows beside it.
-    pub big: bool,
-    /// The quote whose mark it has, while that is open.
-    pub quote: usize,
-}
-
-/// The lines so far, and what the next ones depend on.
+/// The sections so far, and what the next ones depend on.
 #[derive(Debug, Drop)]
 pub struct Mapper {
-    pub(crate) lines: Lines,
+    pub(crate) sections: Vec<MarkdownSection>,
     pub(crate) links: Vec<Link>,
-    // of each open container
-    places: Vec<Place>,
-    // the styles of the items of which nothing is shown yet
-    marks: Vec<CompositeStyle>,
-    // whether blank lines are before the last of them
-    mark_apart: bool,
-    // whether blank lines came since the last item began
+    // of the open containers, the outermost first
+    gutters: Vec<Gutter>,
+    // of how many of these, the outermost, something is shown
+    seen: usize,
+    // outside, and in each open container: the list whose item began last
+    lists: Vec<Counted>,
+    // whether blank lines are before the last item
+    item_apart: bool,
+    // whether blank lines came since it began
     since: bool,
     // whether blank lines came since something was shown last
     apart: bool,
-    before: Before,
-}
-
-// How many digits a number has.
-fn digits(number: u32) -> u16
-    ensures value { result ≡ digits number }
-    ensures few { result ≤ 9 }
-{
-    if number < 10 {
-        return 1;
-    }
-    if number < 100 {
-        return 2;
-    }
-    if number < 1_000 {
-        return 3;
-    }
-    if number < 10_000 {
-        return 4;
-    }
-    if number < 100_000 {
-        return 5;
-    }
-    if number < 1_000_000 {
-        return 6;
-    }
-    if number < 10_000_000 {
-        return 7;
-    }
-    if number < 100_000_000 {
-        return 8;
-    }
-    9
-}
-
-fn is_number(sign: u8) -> bool
-    ensures { result ≡ is_number sign }
-{
-    sign == b'.' || sign == b')'
-}
-
-// How many columns a mark takes.
-fn mark_width(sign: u8, number: u32) -> u16
-    ensures { result ≡ mark_width sign number }
-{
-    if is_number(sign) {
-        digits(number) + 2
-    } else {
-        2
-    }
-}
-
-fn level_of(column: u16) -> u8
-    ensures { result ≡ level_of column }
-{
-    column.min(255) as u8
-}
-
-// The style of an item.
-fn item_style(sign: u8, number: u32, level: u8) -> CompositeStyle
-    ensures { result ≡ item_style sign number level }
-{
-    if is_number(sign) {
-        CompositeStyle::OrderedListItem {
-            level,
-            index: number,
-        }
-    } else {
-        CompositeStyle::ListItem(level)
-    }
-}
-
-// The style of what goes on in a place.
-fn follow_style(place: Place) -> CompositeStyle
-    ensures { result ≡ follow_style place }
-{
-    if place.quote != 0 {
-        return CompositeStyle::Quote;
-    }
-    if place.column >= 2 {
-        return CompositeStyle::ListItemFollowUp(level_of(place.column - 2));
-    }
-    CompositeStyle::Paragraph
-}
-
-// The style of a blank row: a quote's where both neighbours have its mark.
-fn blank_style(quote: usize, before: Before) -> CompositeStyle
-    ensures { result ≡ blank_style quote before }
-{
-    if quote != 0 && quote == before.quote {
-        CompositeStyle::Quote
-    } else {
-        CompositeStyle::Paragraph
-    }
-}
-
-// Whether a blank row comes next.
-fn is_spaced(before: Before, apart: bool, big: bool) -> bool
-    ensures { result ≡ is_spaced before apart big }
-{
-    before.some && (apart || big || before.big)
+    // whether anything was shown
+    some: bool,
+    // whether what was shown last wants blank rows beside it
+    big: bool,
 }
 
 fn either(first: bool, second: bool) -> bool
@@ -172,45 +69,75 @@ fn either(first: bool, second: bool) -> bool
     first || second
 }
 
-// The quote that a quote in this place is in.
-fn quote_in(place: Place, depth: usize) -> usize
-    ensures { result ≡ quote_in place depth }
-{
-    if place.quote == 0 { depth } else { place.quote }
-}
-
-// The quote, if it is open at this depth.
-fn open_quote(quote: usize, depth: usize) -> usize
-    ensures { result ≡ open_quote quote depth }
-{
-    if quote > depth { 0 } else { quote }
-}
-
 fn heading_style(level: usize) -> CompositeStyle
     ensures { result ≡ heading_style level }
 {
     CompositeStyle::Header(level.min(255) as u8)
 }
 
-// Adds a row without text for each style.
-fn push_styles(lines: &mut Lines, styles: &[CompositeStyle]) -> Result<(), AllocError>
-    ensures { OnOk result (shown lines.new ≡ shown lines.old ++ map empty_line styles.now) }
+// The text of a leaf.
+fn text_of(alloc: Global, bytes: &[u8]) -> Result<String, AllocError>
+    ensures { IfOk result (λ text. string_bytes text ≡ text_of bytes.now) }
 {
-    let mut rest = styles;
-    while let [style, next @ ..] = rest {
-        lines.push_empty(*style)?;
-        rest = next;
-    }
-    Ok(())
+    let text = String::from_utf8_lossy(alloc, without_end(b' ', b'\t', bytes))?;
+    Ok(text)
 }
 
-// The text of a leaf.
-fn leaf_text(alloc: Global, lines: &[Rest<'_>]) -> Result<String, AllocError>
-    ensures { IfOk result (λ text. string_bytes text ≡ leaf_text (map remaining lines.now)) }
+// Rows in another style.
+fn restyled(alloc: Global, style: CompositeStyle, rows: &Lines) -> Result<Lines, AllocError>
+    ensures { IfOk result (λ made. shown made ≡ restyled style style (shown rows.now)) }
 {
-    let text = joined(alloc, lines)?;
-    let shown = String::from_utf8_lossy(alloc, without_end(b' ', b'\t', text.as_slice()))?;
-    Ok(shown)
+    let mut made = Lines::new(alloc);
+    made.push_rows(style, style, rows)?;
+    Ok(made)
+}
+
+// A rule across the page.
+fn rule_row(alloc: Global) -> Result<Lines, AllocError>
+    ensures { IfOk result (λ made. shown made ≡ horizontal_rule ∷ []) }
+{
+    let mut made = Lines::new(alloc);
+    made.push_horizontal_rule()?;
+    Ok(made)
+}
+
+// The row of an alert.
+fn alert_row(alloc: Global, alert: Alert) -> Result<Lines, AllocError>
+    ensures { IfOk result (λ made. shown made ≡ alert_line alert ∷ []) }
+{
+    let mut word = Runs::new(alloc);
+    word.push(
+        RunFlags {
+            bold: true,
+            ..RunFlags::NONE
+        },
+        alert_word(alert),
+    )?;
+    let mut made = Lines::new(alloc);
+    made.push_row(
+        CompositeStyle::Paragraph,
+        &word,
+        RunRange { start: 0, count: 1 },
+    )?;
+    Ok(made)
+}
+
+// The row of an alert, and rows below it.
+fn alert_rows(alloc: Global, alert: Alert, rows: &Lines) -> Result<Lines, AllocError>
+    ensures { IfOk result (λ made. shown made ≡ alert_line alert ∷ restyled CompositeStyle.Paragraph CompositeStyle.Paragraph (shown rows.now)) }
+{
+    let mut made = alert_row(alloc, alert)?;
+    made.push_rows(CompositeStyle::Paragraph, CompositeStyle::Paragraph, rows)?;
+    Ok(made)
+}
+
+// Lines of code.
+fn code_rows(alloc: Global, lines: &[Rest<'_>]) -> Result<Lines, AllocError>
+    ensures { IfOk result (λ made. shown made ≡ code_lines 0 (map remaining lines.now)) }
+{
+    let mut made = Lines::new(alloc);
+    push_code_lines(alloc, &mut made, 0, lines)?;
+    Ok(made)
 }
 
 fn after_first<'l, 's>(lines: &'l [Rest<'s>]) -> &'l [Rest<'s>]
@@ -224,38 +151,141 @@ fn after_first<'l, 's>(lines: &'l [Rest<'s>]) -> &'l [Rest<'s>]
 
 impl Mapper {
     /// Nothing is shown.
-    pub fn new(alloc: Global) -> Mapper
-        ensures { mapping_of result ≡ nothing_shown }
+    ///
+    /// # Errors
+    ///
+    /// Out of memory is the only error.
+    pub fn new(alloc: Global) -> Result<Mapper, AllocError>
+        ensures { IfOk result (λ made. mapping_of made ≡ nothing_shown) }
     {
-        Mapper {
-            lines: Lines::new(alloc),
+        let mut lists = Vec::new(alloc);
+        lists.push(no_list())?;
+        Ok(Mapper {
+            sections: Vec::new(alloc),
             links: Vec::new(alloc),
-            places: Vec::new(alloc),
-            marks: Vec::new(alloc),
-            mark_apart: false,
+            gutters: Vec::new(alloc),
+            seen: 0,
+            lists,
+            item_apart: false,
             since: false,
             apart: false,
-            before: Before {
-                some: false,
-                big: false,
-                quote: 0,
-            },
+            some: false,
+            big: false,
+        })
+    }
+
+    // ---- sections
+
+    // The gutter of the innermost open container, if nothing of that is shown yet.
+    fn new_gutter(&self) -> Option<Gutter>
+        ensures { result ≡ new_gutter (mapping_of self.now) }
+    {
+        if self.seen < self.gutters.as_slice().len() {
+            last_gutter(self.gutters.as_slice())
+        } else {
+            None
         }
     }
 
-    // Where the next leaf stands.
-    fn place(&self) -> Place
-        ensures { result ≡ place_in self.now.places.items }
+    // Lines behind the gutters of all open containers.
+    fn add_section(
+        &mut self,
+        alloc: Global,
+        form: Form,
+        lines: Option<Lines>,
+    ) -> Result<(), AllocError>
+        ensures { OnOk result (mapping_of self.new ≡ with_section form (lines_said lines) (mapping_of self.old)) }
     {
-        match self.places.as_slice() {
-            [.., place] => *place,
-            [] => Place {
-                item: false,
-                column: 0,
-                quote: 0,
-            },
+        let gutters = leaf_gutters(alloc, form, self.gutters.as_slice())?;
+        let list = items_gutters(alloc, form, self.gutters.as_slice())?;
+        let fresh = gutters.as_slice().len().saturating_sub(self.seen);
+        self.sections.push(MarkdownSection {
+            gutters,
+            fresh,
+            list,
+            lines,
+        })?;
+        self.seen = self.gutters.as_slice().len();
+        Ok(())
+    }
+
+    // A blank row, behind the gutters of the containers that both neighbours are in, up to the last bar.
+    fn add_blank(&mut self, alloc: Global) -> Result<(), AllocError>
+        ensures { OnOk result (mapping_of self.new ≡ record (mapping_of self.old) { sections = (mapping_of self.old).sections ++ blank_row (mapping_of self.old) ∷ [] }) }
+    {
+        let both = first_gutters(self.gutters.as_slice(), self.seen);
+        let gutters = Vec::from_slice(alloc, up_to_bar(both))?;
+        self.sections.push(MarkdownSection {
+            gutters,
+            fresh: 0,
+            list: None,
+            lines: None,
+        })?;
+        Ok(())
+    }
+
+    // Whether a blank row comes next.
+    fn is_spaced(&self, apart: bool, big: bool) -> bool
+        ensures { result ≡ is_spaced apart big (mapping_of self.now) }
+    {
+        self.some && (apart || big || self.big)
+    }
+
+    // A blank row, where one comes next.
+    fn space(&mut self, alloc: Global, apart: bool, big: bool) -> Result<(), AllocError>
+        ensures { OnOk result (mapping_of self.new ≡ spaced apart big (mapping_of self.old)) }
+    {
+        if self.is_spaced(apart, big) {
+            self.add_blank(alloc)
+        } else {
+            Ok(())
         }
     }
+
+    // Adds links of the next section.
+    fn link(&mut self, addresses: Vec<String>) -> Result<(), AllocError>
+        ensures { OnOk result (mapping_of self.new ≡ linked (map string_bytes addresses.items) (mapping_of self.old)) }
+    {
+        let section = self.sections.as_slice().len();
+        push_links(&mut self.links, section, addresses)
+    }
+
+    // Lines of a leaf, and where its links lead.
+    fn add(
+        &mut self,
+        alloc: Global,
+        form: Form,
+        lines: Lines,
+        addresses: Vec<String>,
+    ) -> Result<(), AllocError>
+        ensures { OnOk result (mapping_of self.new ≡ added form (shown lines) (map string_bytes addresses.items) (mapping_of self.old)) }
+    {
+        self.link(addresses)?;
+        self.add_section(alloc, form, Some(lines))?;
+        self.apart = false;
+        self.some = true;
+        self.big = is_big(form);
+        Ok(())
+    }
+
+    // The same after a blank row, where one comes next. A leaf without lines isn't shown.
+    fn put(
+        &mut self,
+        alloc: Global,
+        form: Form,
+        lines: Lines,
+        addresses: Vec<String>,
+    ) -> Result<(), AllocError>
+        ensures { OnOk result (mapping_of self.new ≡ put form (shown lines) (map string_bytes addresses.items) (mapping_of self.old)) }
+    {
+        if lines.is_empty() {
+            return Ok(());
+        }
+        self.space(alloc, self.apart, is_big(form))?;
+        self.add(alloc, form, lines, addresses)
+    }
+
+    // ---- containers
 
     // Blank lines came, or didn't.
     fn pass(&mut self, apart: bool)
@@ -265,50 +295,40 @@ impl Mapper {
         self.since = either(self.since, apart);
     }
 
-    // A blank row, where one comes next.
-    fn space(&mut self, quote: usize, apart: bool, big: bool) -> Result<(), AllocError>
-        ensures { OnOk result (mapping_of self.new ≡ spaced quote apart big (mapping_of self.old)) }
+    // The list in the innermost open container is this one.
+    fn set_list(&mut self, list: Counted) -> Result<(), AllocError>
+        ensures { OnOk result (mapping_of self.new ≡ record (mapping_of self.old) { lists = with_list (mapping_of self.old).lists list }) }
     {
-        if is_spaced(self.before, apart, big) {
-            self.lines.push_empty(blank_style(quote, self.before))?;
-        }
+        let count = self.lists.as_slice().len().saturating_sub(1);
+        self.lists.truncate(count);
+        self.lists.push(list)?;
         Ok(())
     }
 
-    // A row for each item of which nothing is shown yet.
-    fn push_marks(&mut self) -> Result<(), AllocError>
-        ensures { OnOk result (mapping_of self.new ≡ marked (mapping_of self.old)) }
+    // What isn't an item ends the list beside it.
+    fn end_list(&mut self) -> Result<(), AllocError>
+        ensures { OnOk result (mapping_of self.new ≡ list_ended (mapping_of self.old)) }
     {
-        push_styles(&mut self.lines, &self.marks)?;
-        self.marks.clear();
-        Ok(())
+        self.set_list(no_list())
     }
 
     fn begin_quote(&mut self) -> Result<(), AllocError>
         ensures { OnOk result (mapping_of self.new ≡ quote_begun (mapping_of self.old)) }
     {
-        let place = self.place();
-        let quote = quote_in(place, self.places.as_slice().len() + 1);
-        self.places.push(Place {
-            item: false,
-            column: 0,
-            quote,
-        })?;
+        self.set_list(no_list())?;
+        self.lists.push(no_list())?;
+        self.gutters.push(Gutter::Bar)?;
         Ok(())
     }
 
+    // An item with this number begins.
     fn begin_item(&mut self, sign: u8, number: u32) -> Result<(), AllocError>
-        ensures { OnOk result (mapping_of self.new ≡ item_begun sign number (mapping_of self.old)) }
+        ensures { OnOk result (mapping_of self.new ≡ numbered sign number (mapping_of self.old)) }
     {
-        let place = self.place();
-        self.marks
-            .push(item_style(sign, number, level_of(place.column)))?;
-        self.places.push(Place {
-            item: true,
-            column: place.column.saturating_add(mark_width(sign, number)),
-            quote: 0,
-        })?;
-        self.mark_apart = self.apart;
+        self.set_list(list_after(sign, number))?;
+        self.lists.push(no_list())?;
+        self.gutters.push(item_gutter(sign, number))?;
+        self.item_apart = self.apart;
         self.since = false;
         Ok(())
     }
@@ -318,144 +338,152 @@ impl Mapper {
     {
         match container {
             Container::Quote => self.begin_quote(),
-            Container::Item { sign, number, .. } => self.begin_item(sign, number),
+            Container::Item { sign, number, .. } => {
+                let list = last_list(self.lists.as_slice());
+                self.begin_item(sign, number_in(list, sign, number))
+            }
         }
     }
 
-    // An item ends. If nothing of it was shown, it has a row where it began.
-    fn end_item(&mut self) -> Result<(), AllocError>
+    // An item ends of which nothing was shown: it has a row where it began.
+    fn end_item(&mut self, alloc: Global) -> Result<(), AllocError>
         ensures { OnOk result (mapping_of self.new ≡ item_ended (mapping_of self.old)) }
     {
-        if self.marks.as_slice().is_empty() {
-            return Ok(());
-        }
-        self.space(0, self.mark_apart, false)?;
-        self.push_marks()?;
+        self.space(alloc, self.item_apart, false)?;
+        self.add_section(alloc, Form::Words, None)?;
         self.apart = self.since;
-        self.before = Before {
-            some: true,
-            big: false,
-            quote: 0,
-        };
+        self.some = true;
+        self.big = false;
         Ok(())
     }
 
-    fn end_container(&mut self) -> Result<(), AllocError>
-        ensures { OnOk result (mapping_of self.new ≡ container_ended (mapping_of self.old)) }
+    // A container ends of which nothing was shown, or another one.
+    fn end_new(&mut self, alloc: Global, gutter: Option<Gutter>) -> Result<(), AllocError>
+        ensures { OnOk result (mapping_of self.new ≡ ended_by gutter (mapping_of self.old)) }
     {
-        if self.place().item {
-            self.end_item()
-        } else {
-            Ok(())
+        match gutter {
+            Some(gutter) => {
+                if is_item(gutter) {
+                    self.end_item(alloc)
+                } else {
+                    Ok(())
+                }
+            }
+            None => Ok(()),
         }
     }
 
-    fn end(&mut self) -> Result<(), AllocError>
+    // The innermost container is closed.
+    fn close(&mut self)
+        ensures { mapping_of self.new ≡ closed (mapping_of self.old) }
+    {
+        let depth = self.gutters.as_slice().len().saturating_sub(1);
+        self.gutters.truncate(depth);
+        let lists = self.lists.as_slice().len().saturating_sub(1);
+        self.lists.truncate(lists);
+        self.seen = self.seen.min(depth);
+    }
+
+    fn end(&mut self, alloc: Global) -> Result<(), AllocError>
         ensures { OnOk result (mapping_of self.new ≡ ended (mapping_of self.old)) }
     {
-        self.end_container()?;
-        let depth = self.places.as_slice().len().saturating_sub(1);
-        self.places.truncate(depth);
-        self.before.quote = open_quote(self.before.quote, depth);
+        let gutter = self.new_gutter();
+        self.end_new(alloc, gutter)?;
+        self.close();
         Ok(())
     }
 
-    // The style of the first row of words.
-    fn first_style(&self, place: Place) -> CompositeStyle
-        ensures { result ≡ first_style place self.now.marks.items }
+    // ---- leaves
+
+    fn show_words(
+        &mut self,
+        alloc: Global,
+        definitions: &Definitions,
+        bytes: &[u8],
+    ) -> Result<(), AllocError>
+        ensures { OnOk result (mapping_of self.new ≡ words_shown (defined_of definitions.now) bytes.now (mapping_of self.old)) }
     {
-        if place.quote != 0 {
-            return CompositeStyle::Quote;
-        }
-        match self.marks.as_slice() {
-            [.., style] => *style,
-            [] => follow_style(place),
-        }
+        let text = text_of(alloc, bytes)?;
+        let leaf = read_leaf(alloc, definitions, text.as_str())?;
+        self.put(alloc, Form::Words, leaf.rows, leaf.addresses)
     }
 
-    // Outside of quotes the last mark has no row of its own then.
-    fn unmark(&mut self, place: Place)
-        ensures { mapping_of self.new ≡ unmarked place (mapping_of self.old) }
+    // A box in the place of the last gutter.
+    fn tick(&mut self, done: bool) -> Result<(), AllocError>
+        ensures { OnOk result (mapping_of self.new ≡ boxed done (mapping_of self.old)) }
     {
-        if place.quote == 0 {
-            let count = self.marks.as_slice().len().saturating_sub(1);
-            self.marks.truncate(count);
-        }
-    }
-
-    // Adds links of the next line.
-    fn link(&mut self, addresses: Vec<String>) -> Result<(), AllocError>
-        ensures { OnOk result (mapping_of self.new ≡ linked (map string_bytes addresses.items) (mapping_of self.old)) }
-    {
-        let line = self.lines.count();
-        push_links(&mut self.links, line, addresses)
-    }
-
-    // Rows of words, and their links.
-    fn show_rows(&mut self, leaf: Leaf) -> Result<(), AllocError>
-        ensures { OnOk result (mapping_of self.new ≡ rows_shown (shown leaf.rows) (map string_bytes leaf.addresses.items) (mapping_of self.old)) }
-    {
-        let place = self.place();
-        self.space(place.quote, self.apart, false)?;
-        let first = self.first_style(place);
-        self.unmark(place);
-        self.push_marks()?;
-        self.link(leaf.addresses)?;
-        self.lines
-            .push_rows(first, follow_style(place), &leaf.rows)?;
-        self.apart = false;
-        self.before = Before {
-            some: true,
-            big: false,
-            quote: place.quote,
-        };
+        let depth = self.gutters.as_slice().len().saturating_sub(1);
+        self.gutters.truncate(depth);
+        self.gutters.push(Gutter::Task(done))?;
         Ok(())
     }
 
-    fn show_words(&mut self, leaf: Leaf) -> Result<(), AllocError>
-        ensures { OnOk result (mapping_of self.new ≡ words_shown (shown leaf.rows) (map string_bytes leaf.addresses.items) (mapping_of self.old)) }
+    // The first paragraph of an item with a bullet.
+    fn show_task(
+        &mut self,
+        alloc: Global,
+        definitions: &Definitions,
+        bytes: &[u8],
+    ) -> Result<(), AllocError>
+        ensures { OnOk result (mapping_of self.new ≡ task_by (box_of bytes.now) (defined_of definitions.now) bytes.now (mapping_of self.old)) }
     {
-        if leaf.rows.is_empty() {
-            return Ok(());
+        match box_of(bytes) {
+            Some(done) => {
+                self.tick(done)?;
+                self.show_words(alloc, definitions, after_box(bytes))
+            }
+            None => self.show_words(alloc, definitions, bytes),
         }
-        self.show_rows(leaf)
     }
 
+    // An alert, and the words below it.
+    fn put_alert(
+        &mut self,
+        alloc: Global,
+        definitions: &Definitions,
+        alert: Alert,
+        bytes: &[u8],
+    ) -> Result<(), AllocError>
+        ensures { OnOk result (mapping_of self.new ≡ alert_by (Some alert) (defined_of definitions.now) bytes.now (mapping_of self.old)) }
+    {
+        let text = text_of(alloc, after_line(bytes))?;
+        let leaf = read_leaf(alloc, definitions, text.as_str())?;
+        let lines = alert_rows(alloc, alert, &leaf.rows)?;
+        self.put(alloc, Form::Words, lines, leaf.addresses)
+    }
+
+    // The first paragraph of a quote.
+    fn show_quoted(
+        &mut self,
+        alloc: Global,
+        definitions: &Definitions,
+        bytes: &[u8],
+    ) -> Result<(), AllocError>
+        ensures { OnOk result (mapping_of self.new ≡ alert_by (alert_of bytes.now) (defined_of definitions.now) bytes.now (mapping_of self.old)) }
+    {
+        match alert_of(bytes) {
+            Some(alert) => self.put_alert(alloc, definitions, alert, bytes),
+            None => self.show_words(alloc, definitions, bytes),
+        }
+    }
+
+    // A paragraph, by the gutter that is new in front of it.
     fn show_paragraph(
         &mut self,
         alloc: Global,
         definitions: &Definitions,
-        lines: &[Rest<'_>],
+        gutter: Option<Gutter>,
+        bytes: &[u8],
     ) -> Result<(), AllocError>
-        ensures { OnOk result (mapping_of self.new ≡ words_shown (leaf_rows (defined_of definitions.now).labels (leaf_text (map remaining lines.now))) (leaf_addresses (defined_of definitions.now) (leaf_text (map remaining lines.now))) (mapping_of self.old)) }
+        ensures { OnOk result (mapping_of self.new ≡ paragraph_by gutter (defined_of definitions.now) bytes.now (mapping_of self.old)) }
     {
-        let text = leaf_text(alloc, lines)?;
-        let leaf = read_leaf(alloc, definitions, text.as_str())?;
-        self.show_words(leaf)
-    }
-
-    fn show_html(&mut self, alloc: Global, lines: &[Rest<'_>]) -> Result<(), AllocError>
-        ensures { OnOk result (mapping_of self.new ≡ words_shown (html_lines (joined [] (map remaining lines.now))) [] (mapping_of self.old)) }
-    {
-        let text = joined(alloc, lines)?;
-        let rows = html_lines(alloc, text.as_slice())?;
-        let addresses = Vec::new(alloc);
-        self.show_words(Leaf { rows, addresses })
-    }
-
-    // Before a leaf that wants blank rows beside it.
-    fn begin_big(&mut self) -> Result<(), AllocError>
-        ensures { OnOk result (mapping_of self.new ≡ big_begun (mapping_of self.old)) }
-    {
-        self.space(0, self.apart, true)?;
-        self.push_marks()?;
-        self.apart = false;
-        self.before = Before {
-            some: true,
-            big: true,
-            quote: 0,
-        };
-        Ok(())
+        match gutter {
+            Some(Gutter::Bullet) => self.show_task(alloc, definitions, bytes),
+            Some(Gutter::Bar) => self.show_quoted(alloc, definitions, bytes),
+            Some(Gutter::Number(_)) | Some(Gutter::Task(_)) | Some(Gutter::Code) | None => {
+                self.show_words(alloc, definitions, bytes)
+            }
+        }
     }
 
     fn show_heading(
@@ -463,30 +491,28 @@ impl Mapper {
         alloc: Global,
         definitions: &Definitions,
         level: usize,
-        lines: &[Rest<'_>],
+        bytes: &[u8],
     ) -> Result<(), AllocError>
-        ensures { OnOk result (mapping_of self.new ≡ heading_shown level (leaf_rows (defined_of definitions.now).labels (leaf_text (map remaining lines.now))) (leaf_addresses (defined_of definitions.now) (leaf_text (map remaining lines.now))) (mapping_of self.old)) }
+        ensures { OnOk result (mapping_of self.new ≡ heading_shown (defined_of definitions.now) level bytes.now (mapping_of self.old)) }
     {
-        let text = leaf_text(alloc, lines)?;
+        let text = text_of(alloc, bytes)?;
         let leaf = read_leaf(alloc, definitions, text.as_str())?;
-        if leaf.rows.is_empty() {
-            return Ok(());
-        }
-        self.begin_big()?;
-        self.link(leaf.addresses)?;
-        self.lines
-            .push_rows(heading_style(level), heading_style(level), &leaf.rows)
+        let lines = restyled(alloc, heading_style(level), &leaf.rows)?;
+        self.put(alloc, Form::Large, lines, leaf.addresses)
     }
 
     fn show_code(&mut self, alloc: Global, lines: &[Rest<'_>]) -> Result<(), AllocError>
         ensures { OnOk result (mapping_of self.new ≡ code_shown (map remaining lines.now) (mapping_of self.old)) }
     {
-        if lines.is_empty() {
-            return Ok(());
-        }
-        let place = self.place();
-        self.begin_big()?;
-        push_code_lines(alloc, &mut self.lines, place.column, lines)
+        let rows = code_rows(alloc, lines)?;
+        self.put(alloc, Form::Boxed, rows, Vec::new(alloc))
+    }
+
+    fn show_html(&mut self, alloc: Global, bytes: &[u8]) -> Result<(), AllocError>
+        ensures { OnOk result (mapping_of self.new ≡ put Form.Words (html_lines bytes.now) [] (mapping_of self.old)) }
+    {
+        let rows = html_lines(alloc, bytes)?;
+        self.put(alloc, Form::Words, rows, Vec::new(alloc))
     }
 
     fn show_table(
@@ -496,24 +522,20 @@ impl Mapper {
         columns: usize,
         lines: &[Rest<'_>],
     ) -> Result<(), AllocError>
-        ensures { OnOk result (mapping_of self.new ≡ table_added (defined_of definitions.now) columns (map remaining lines.now) (big_begun (mapping_of self.old))) }
+        ensures { OnOk result (mapping_of self.new ≡ put Form.Listed (table_lines (defined_of definitions.now).labels columns (map remaining lines.now)) (table_addresses (defined_of definitions.now) columns (map remaining lines.now)) (mapping_of self.old)) }
     {
-        self.begin_big()?;
-        push_table(
-            alloc,
-            &mut self.lines,
-            &mut self.links,
-            definitions,
-            columns,
-            lines,
-        )
+        let mut rows = Lines::new(alloc);
+        let mut links = Vec::new(alloc);
+        push_table(alloc, &mut rows, &mut links, definitions, columns, lines)?;
+        let addresses = addresses_of(alloc, links)?;
+        self.put(alloc, Form::Listed, rows, addresses)
     }
 
-    fn show_rule(&mut self) -> Result<(), AllocError>
-        ensures { OnOk result (mapping_of self.new ≡ lines_added (horizontal_rule ∷ []) (big_begun (mapping_of self.old))) }
+    fn show_rule(&mut self, alloc: Global) -> Result<(), AllocError>
+        ensures { OnOk result (mapping_of self.new ≡ put Form.Large (horizontal_rule ∷ []) [] (mapping_of self.old)) }
     {
-        self.begin_big()?;
-        self.lines.push_horizontal_rule()
+        let row = rule_row(alloc)?;
+        self.put(alloc, Form::Large, row, Vec::new(alloc))
     }
 
     fn show_leaf(
@@ -527,14 +549,40 @@ impl Mapper {
     {
         match kind {
             Kind::Nothing | Kind::Definitions => Ok(()),
-            Kind::Paragraph => self.show_paragraph(alloc, definitions, lines),
-            Kind::Html => self.show_html(alloc, lines),
-            Kind::Heading(level) => self.show_heading(alloc, definitions, level, lines),
+            Kind::Paragraph => {
+                let bytes = joined(alloc, lines)?;
+                let gutter = self.new_gutter();
+                self.show_paragraph(alloc, definitions, gutter, bytes.as_slice())
+            }
+            Kind::Html => {
+                let bytes = joined(alloc, lines)?;
+                self.show_html(alloc, bytes.as_slice())
+            }
+            Kind::Heading(level) => {
+                let bytes = joined(alloc, lines)?;
+                self.show_heading(alloc, definitions, level, bytes.as_slice())
+            }
             Kind::Indented => self.show_code(alloc, lines),
             Kind::Fenced => self.show_code(alloc, after_first(lines)),
             Kind::Table(columns) => self.show_table(alloc, definitions, columns, lines),
-            Kind::Rule => self.show_rule(),
+            Kind::Rule => self.show_rule(alloc),
         }
+    }
+
+    /// Takes the sections so far.
+    pub fn take_sections(&mut self, alloc: Global) -> Vec<MarkdownSection>
+        ensures sections { map section_said result.items ≡ (mapping_of self.old).sections }
+        ensures rest { mapping_of self.new ≡ record (mapping_of self.old) { sections = [] } }
+    {
+        replace(&mut self.sections, Vec::new(alloc))
+    }
+
+    /// Takes the links so far.
+    pub fn take_links(&mut self, alloc: Global) -> Vec<Link>
+        ensures links { map link_said result.items ≡ (mapping_of self.old).links }
+        ensures rest { mapping_of self.new ≡ record (mapping_of self.old) { links = [] } }
+    {
+        replace(&mut self.links, Vec::new(alloc))
     }
 
     /// A part of the text.
@@ -552,9 +600,10 @@ impl Mapper {
                 self.pass(*apart);
                 self.begin(*container)
             }
-            Part::Ends => self.end(),
+            Part::Ends => self.end(alloc),
             Part::Block(block) => {
                 self.pass(block.apart);
+                self.end_list()?;
                 self.show_leaf(alloc, definitions, block.kind, &block.lines)
             }
         }

@@ -1,28 +1,30 @@
 //! Reading Markdown as people write it.
 
-ghost use Rattle.std.specs.Prelude.{◌≡◌, IfOk, map};
-ghost use Rattle.mad_md.specs.Lines.{contents};
-ghost use Rattle.markdown_lines.specs.LinksOf.{link_of};
-ghost use Rattle.markdown_lines.specs.Printed.{ArePrinted};
-ghost use Rattle.markdown_lines.specs.Steady.{AreSteadyLines};
+ghost use Rattle.std.specs.Prelude.{◌≡◌, IfOk, OnOk, [], drop, map, option_map, slice_get};
+ghost use Rattle.mad_sections.specs.Sections.{page_content, section_content};
 ghost use Rattle.markdown_lines.specs.Texts.{behind_mark};
-ghost use Rattle.markdown_reader.specs.Markdown.{printable_lines, unmarked_lines, markdown_lines, unmarked_links, markdown_links};
+ghost use Rattle.markdown_reader.specs.Markdown.{printable_sections, unmarked_sections, markdown_sections, unmarked_links, markdown_links};
+ghost use Rattle.markdown_reader.specs.MappingOf.{mapping_of};
 ghost use Rattle.markdown_reader.specs.MarkdownSays.{markdown_says, links_said};
-ghost use Rattle.markdown_reader.specs.Printed.{ArePrintedLinks};
+ghost use Rattle.markdown_reader.specs.Printed.{ArePrintedSections, ArePrintedLinks};
+ghost use Rattle.markdown_reader.specs.SectionsLeft.{sections_left};
+ghost use Rattle.markdown_reader.specs.SectionsSaid.{link_said, lines_said, section_said};
+ghost use Rattle.markdown_reader.specs.Steadied.{IsSteadied, AreSteadied, AreSteadiedLines};
+ghost use Rattle.markdown_reader.specs.Steady.{steady_sections, AreSteadySections};
 
 use crate::definitions::definitions_of;
 use crate::mapper::Mapper;
-use mad_md::Text;
+use crate::sections::{Link, MarkdownSection};
+use mad_sections::{Page, Section};
 use markdown_leaves::read_parts;
 use markdown_lines::lines::Lines;
-use markdown_lines::links::Link;
 use markdown_lines::texts::behind_mark;
 use std::alloc::{AllocError, Global};
 
-/// The lines of a Markdown text, which own their text, and its links.
+/// The sections of a Markdown text, which own their text, and its links.
 #[derive(Debug, Drop)]
 pub struct Markdown {
-    lines: Lines,
+    sections: Vec<MarkdownSection>,
     links: Vec<Link>,
 }
 
@@ -36,10 +38,10 @@ impl Markdown {
     ///
     /// Out of memory is the only error.
     pub fn read(alloc: Global, source: &str) -> Result<Markdown, AllocError>
-        ensures lines { IfOk result (λ read. markdown_says read ≡ markdown_lines source.now) }
+        ensures sections { IfOk result (λ read. markdown_says read ≡ markdown_sections source.now) }
         ensures links { IfOk result (λ read. links_said read ≡ markdown_links source.now) }
-        ensures printed { IfOk result (λ read. ArePrinted (markdown_says read)) }
-        ensures steady { IfOk result (λ read. AreSteadyLines (markdown_says read)) }
+        ensures printed { IfOk result (λ read. ArePrintedSections (markdown_says read)) }
+        ensures steady { IfOk result (λ read. AreSteadySections (markdown_says read)) }
         ensures printed_links { IfOk result (λ read. ArePrintedLinks (links_said read)) }
     {
         let read = Markdown::read_unmarked(alloc, behind_mark(source))?;
@@ -51,17 +53,18 @@ impl Markdown {
     /// # Errors
     ///
     /// Out of memory is the only error.
+    #[tactic(auto, using(crate::proofs::SteadyLemmas::steadied_are, crate::proofs::SteadyLemmas::steadied_steady, crate::proofs::SteadyLemmas::steadied_printed))]
     pub fn read_unmarked(alloc: Global, source: &str) -> Result<Markdown, AllocError>
-        ensures lines { IfOk result (λ read. markdown_says read ≡ unmarked_lines source.now) }
+        ensures sections { IfOk result (λ read. markdown_says read ≡ unmarked_sections source.now) }
         ensures links { IfOk result (λ read. links_said read ≡ unmarked_links source.now) }
-        ensures printed { IfOk result (λ read. ArePrinted (markdown_says read)) }
-        ensures steady { IfOk result (λ read. AreSteadyLines (markdown_says read)) }
+        ensures printed { IfOk result (λ read. ArePrintedSections (markdown_says read)) }
+        ensures steady { IfOk result (λ read. AreSteadySections (markdown_says read)) }
         ensures printed_links { IfOk result (λ read. ArePrintedLinks (links_said read)) }
     {
         let read = Markdown::read_printed(alloc, source)?;
-        let lines = read.lines.into_steady(alloc)?;
+        let sections = steadied(alloc, read.sections)?;
         Ok(Markdown {
-            lines,
+            sections,
             links: read.links,
         })
     }
@@ -72,9 +75,9 @@ impl Markdown {
     ///
     /// Out of memory is the only error.
     pub fn read_printable(alloc: Global, source: &str) -> Result<Markdown, AllocError>
-        ensures lines { IfOk result (λ read. markdown_says read ≡ printable_lines (behind_mark source.now)) }
+        ensures sections { IfOk result (λ read. markdown_says read ≡ printable_sections (behind_mark source.now)) }
         ensures links { IfOk result (λ read. links_said read ≡ markdown_links source.now) }
-        ensures printed { IfOk result (λ read. ArePrinted (markdown_says read)) }
+        ensures printed { IfOk result (λ read. ArePrintedSections (markdown_says read)) }
         ensures printed_links { IfOk result (λ read. ArePrintedLinks (links_said read)) }
     {
         let read = Markdown::read_printed(alloc, behind_mark(source))?;
@@ -84,46 +87,146 @@ impl Markdown {
     // What is read of a text behind its byte order mark has nothing that a terminal obeys.
     #[tactic(auto, using(crate::proofs::PrintedLemmas::markdown_printed, crate::proofs::LinksPrinted::links_printed))]
     fn read_printed(alloc: Global, source: &str) -> Result<Markdown, AllocError>
-        ensures lines { IfOk result (λ read. markdown_says read ≡ printable_lines source.now) }
+        ensures sections { IfOk result (λ read. markdown_says read ≡ printable_sections source.now) }
         ensures links { IfOk result (λ read. links_said read ≡ unmarked_links source.now) }
-        ensures printed { IfOk result (λ read. ArePrinted (markdown_says read)) }
+        ensures printed { IfOk result (λ read. ArePrintedSections (markdown_says read)) }
         ensures printed_links { IfOk result (λ read. ArePrintedLinks (links_said read)) }
     {
-        let markdown = Markdown::read_lines(alloc, source)?;
+        let markdown = Markdown::read_sections(alloc, source)?;
         Ok(markdown)
     }
 
-    #[tactic(auto, unfolding(crate::specs::Markdown::printable_lines, crate::specs::Markdown::unmarked_links))]
-    fn read_lines(alloc: Global, source: &str) -> Result<Markdown, AllocError>
-        ensures lines { IfOk result (λ read. markdown_says read ≡ printable_lines source.now) }
+    #[tactic(auto, unfolding(crate::specs::Markdown::printable_sections, crate::specs::Markdown::unmarked_links))]
+    fn read_sections(alloc: Global, source: &str) -> Result<Markdown, AllocError>
+        ensures sections { IfOk result (λ read. markdown_says read ≡ printable_sections source.now) }
         ensures links { IfOk result (λ read. links_said read ≡ unmarked_links source.now) }
     {
         let parts = read_parts(alloc, source.as_bytes())?;
         let definitions = definitions_of(alloc, &parts)?;
-        let mut mapper = Mapper::new(alloc);
+        let mut mapper = Mapper::new(alloc)?;
         mapper.show_all(alloc, &definitions, &parts)?;
         Ok(Markdown {
-            lines: mapper.lines,
+            sections: mapper.sections,
             links: mapper.links,
         })
     }
 
-    /// The lines.
+    /// Takes what a mapper has shown so far. Each run is steady, as in [`Markdown::read`]. The numbers of its links count from its own first section.
     ///
     /// # Errors
     ///
     /// Out of memory is the only error.
-    pub fn text(&self, alloc: Global) -> Result<Text<'_>, AllocError>
-        ensures { IfOk result (λ text. contents text ≡ markdown_says self.now) }
+    #[tactic(auto, using(crate::proofs::SteadyLemmas::steadied_are))]
+    pub fn take(alloc: Global, mapper: &mut Mapper) -> Result<Markdown, AllocError>
+        ensures sections { IfOk result (λ read. markdown_says read ≡ steady_sections (mapping_of mapper.old).sections) }
+        ensures links { IfOk result (λ read. links_said read ≡ (mapping_of mapper.old).links) }
+        ensures rest { OnOk result (mapping_of mapper.new ≡ record (mapping_of mapper.old) { sections = []; links = [] }) }
     {
-        let lines = self.lines.text_lines(alloc)?;
-        Ok(Text { lines })
+        let taken = mapper.take_sections(alloc);
+        let links = mapper.take_links(alloc);
+        let sections = steadied(alloc, taken)?;
+        Ok(Markdown { sections, links })
     }
 
-    /// The links, in the order of their lines. Those of images aren't among them, nor those of html.
+    /// A cursor before the first section.
+    pub fn sections(&self) -> Sections<'_>
+        ensures { sections_left result ≡ markdown_says self.now }
+    {
+        Sections {
+            rest: self.sections.as_slice(),
+        }
+    }
+
+    /// All sections, as a page.
+    ///
+    /// # Errors
+    ///
+    /// Out of memory is the only error.
+    pub fn page(&self, alloc: Global) -> Result<Page<'_>, AllocError>
+        ensures { IfOk result (λ page. page_content page ≡ markdown_says self.now) }
+    {
+        let mut sections = Vec::with_capacity(alloc, self.sections.as_slice().len())?;
+        let mut rest = self.sections();
+        while let Some(section) = rest.next(alloc)? {
+            sections.push(section)?;
+        }
+        Ok(Page { sections })
+    }
+
+    /// The links, in the order of their sections. Those of images aren't among them, nor those of html.
     pub fn links(&self) -> &[Link]
-        ensures { map link_of result.now ≡ links_said self.now }
+        ensures { map link_said result.now ≡ links_said self.now }
     {
         self.links.as_slice()
     }
+}
+
+/// A cursor over the sections of a text.
+#[derive(Clone, Copy)]
+pub struct Sections<'m> {
+    rest: &'m [MarkdownSection],
+}
+
+impl<'m> Sections<'m> {
+    /// The next section, if there is one.
+    ///
+    /// # Errors
+    ///
+    /// Out of memory is the only error.
+    pub fn next(&mut self, alloc: Global) -> Result<Option<Section<'m>>, AllocError>
+        ensures section { IfOk result (λ found. option_map section_content found ≡ slice_get (sections_left self.old) 0) }
+        ensures rest { IfOk result (λ found. sections_left self.new ≡ drop 1 (sections_left self.old)) }
+    {
+        match self.rest {
+            [] => Ok(None),
+            [section, rest @ ..] => {
+                let made = section.section(alloc)?;
+                self.rest = rest;
+                Ok(Some(made))
+            }
+        }
+    }
+}
+
+// Lines, each of whose runs is steady.
+#[tactic(auto, using(crate::proofs::SteadyLemmas::empty_steadied))]
+fn steadied_lines(alloc: Global, lines: Option<Lines>) -> Result<Option<Lines>, AllocError>
+    ensures { IfOk result (λ made. AreSteadiedLines (lines_said lines) (lines_said made)) }
+{
+    match lines {
+        Some(lines) => {
+            let made = lines.into_steady(alloc)?;
+            Ok(Some(made))
+        }
+        None => Ok(None),
+    }
+}
+
+// A section, each of whose runs is steady.
+fn steadied_one(alloc: Global, section: MarkdownSection) -> Result<MarkdownSection, AllocError>
+    ensures { IfOk result (λ made. IsSteadied (section_said section) (section_said made)) }
+{
+    let lines = steadied_lines(alloc, section.lines)?;
+    Ok(MarkdownSection {
+        gutters: section.gutters,
+        fresh: section.fresh,
+        list: section.list,
+        lines,
+    })
+}
+
+// Sections, each of whose runs is steady.
+#[tactic(auto, using(crate::proofs::SteadyLemmas::so_far_none, crate::proofs::SteadyLemmas::so_far_all))]
+fn steadied(
+    alloc: Global,
+    sections: Vec<MarkdownSection>,
+) -> Result<Vec<MarkdownSection>, AllocError>
+    ensures { IfOk result (λ made. AreSteadied (map section_said sections.items) (map section_said made.items)) }
+{
+    let mut made = Vec::with_capacity(alloc, sections.as_slice().len())?;
+    for section in sections {
+        let steady = steadied_one(alloc, section)?;
+        made.push(steady)?;
+    }
+    Ok(made)
 }

@@ -8,9 +8,9 @@ use Rattle.markdown_leaves.specs.declared.parts.Kind.{Kind}
 use Rattle.markdown_leaves.specs.declared.parts.Kind.TheVariants.{Nothing, Paragraph, Heading, Indented, Fenced, Html, Table, Rule, Definitions}
 use Rattle.markdown_marks.specs.Remaining.{Remaining}
 use Rattle.markdown_lines.specs.Links.{Defined}
-use Rattle.markdown_sections.specs.Definitions.{leaf_defined, part_defined, parts_defined, nothing_defined, definitions_of}
-use Rattle.markdown_sections.specs.Mapping.{Mapping, passed, list_ended, leaf_shown, shown_part, shown_parts}
-use Rattle.markdown_sections.specs.Markdown.{printable_sections, unmarked_links}
+use Rattle.markdown_reader.specs.Definitions.{leaf_defined, part_defined, parts_defined, nothing_defined, definitions_of}
+use Rattle.markdown_reader.specs.Mapping.{Mapping, passed, list_ended, leaf_shown, shown_part, shown_parts}
+use Rattle.markdown_reader.specs.Markdown.{printable_sections, unmarked_links}
 use Rattle.markdown_section_stream.specs.Known.{asks_nothing, AreKnown, defines_nothing}
 use Rattle.markdown_section_stream.specs.Laws.{KnownIsWhole, KnownHasLinks, UndefinedIsWhole, DefinedInFrontIsWhole, WithoutWordsIsSame}
 use Rattle.markdown_section_stream.specs.Streamed.{Streamed, nothing_streamed, part_streamed, parts_streamed, streamed_sections, streamed_links}

@@ -8,7 +8,7 @@ use Rattle.mad_pages.specs.PageLayouts.{BecomesAt, IsPageAt}
 use Rattle.mad_pages.specs.PageRows.{RowContent}
 use Rattle.mad_sections.specs.Sections.{SectionContent}
 use Rattle.std.proofs.lemmas.List.{map-append}
-use Rattle.markdown_sections.specs.Steady.{steady_section, steady_sections}
+use Rattle.markdown_reader.specs.Steady.{steady_section, steady_sections}
 use Rattle.markdown_section_stream.proofs.KnownLemmas.{known_is_whole}
 use Rattle.markdown_section_stream.proofs.StreamingLemmas.{cuts_dont_matter}
 use Rattle.markdown_section_stream.specs.Streaming.{nothing_come, pieces_shown}

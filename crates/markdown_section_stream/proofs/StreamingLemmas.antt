@@ -3,8 +3,8 @@ use Rattle.std.proofs.Common.{◌≡◌, ℕ, List, [], ◌∷◌, ◌++◌, app
 use Rattle.std.specs.List.{flat_map}
 use Rattle.mad_sections.specs.Sections.{SectionContent}
 use Rattle.markdown_leaves.specs.Parts.{PartContent}
-use Rattle.markdown_sections.specs.Definitions.{part_defined}
-use Rattle.markdown_sections.specs.Mapping.{LinkSaid, Mapping}
+use Rattle.markdown_reader.specs.Definitions.{part_defined}
+use Rattle.markdown_reader.specs.Mapping.{LinkSaid, Mapping}
 use Rattle.markdown_section_stream.specs.Laws.{CutsDontMatter, CutsDontMatterToLinks}
 use Rattle.markdown_section_stream.specs.Readings.{Reading, lines_read, parts_read, parts_at_end, handed_on}
 use Rattle.markdown_section_stream.specs.Streamed.{Streamed, nothing_streamed, part_streamed, parts_streamed, streamed_sections, streamed_links}

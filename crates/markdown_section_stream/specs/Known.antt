@@ -4,8 +4,8 @@ use Rattle.markdown_leaves.specs.Parts.{PartContent, block}
 use Rattle.markdown_leaves.specs.declared.parts.Kind.{Kind}
 use Rattle.markdown_leaves.specs.declared.parts.Kind.TheVariants.{Paragraph, Heading, Table, Definitions}
 use Rattle.markdown_lines.specs.Links.{Defined}
-use Rattle.markdown_sections.specs.Definitions.{part_defined}
-use Rattle.markdown_sections.specs.Mapping.{Mapping, shown_part}
+use Rattle.markdown_reader.specs.Definitions.{part_defined}
+use Rattle.markdown_reader.specs.Mapping.{Mapping, shown_part}
 
 -- a leaf whose words may name a definition
 abbrev pub has_words : Kind → Bool

@@ -12,10 +12,10 @@ use Rattle.markdown_leaves.specs.Parts.{PartContent, ends}
 use Rattle.markdown_leaves.specs.declared.parts.Kind.TheVariants.{Nothing}
 use Rattle.markdown_leaves.specs.Gather.{Gathering, closed}
 use Rattle.markdown_leaves.specs.Told.{happened, parts_of}
-use Rattle.markdown_sections.specs.Definitions.{definitions_of, nothing_defined}
-use Rattle.markdown_sections.specs.Mapping.{Mapping, shown_parts}
-use Rattle.markdown_sections.specs.Steady.{steady_sections}
-use Rattle.markdown_sections.specs.Markdown.{printable_sections, unmarked_sections, unmarked_links}
+use Rattle.markdown_reader.specs.Definitions.{definitions_of, nothing_defined}
+use Rattle.markdown_reader.specs.Mapping.{Mapping, shown_parts}
+use Rattle.markdown_reader.specs.Steady.{steady_sections}
+use Rattle.markdown_reader.specs.Markdown.{printable_sections, unmarked_sections, unmarked_links}
 use Rattle.markdown_lines.specs.Links.{Defined}
 use Rattle.markdown_section_stream.specs.Known.{SaysTheSame, AreKnown, asks_nothing, defines_nothing}
 use Rattle.markdown_section_stream.specs.Readings.{Reading, nothing_read, lines_read, parts_read, parts_at_end, handed_on}

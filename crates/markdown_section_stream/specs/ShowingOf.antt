@@ -1,6 +1,6 @@
 -- What a showing has shown, and its definitions.
 use Rattle.markdown_lines.specs.LinksOf.{defined_of}
-use Rattle.markdown_sections.specs.MappingOf.{mapping_of}
+use Rattle.markdown_reader.specs.MappingOf.{mapping_of}
 use Rattle.markdown_section_stream.specs.Streamed.{Streamed}
 use Rattle.markdown_section_stream.specs.declared.showing.Showing.{Showing}
 

@@ -2,7 +2,7 @@
 use Rattle.std.specs.Prelude.{ℕ, ◌+◌, List, [], ◌∷◌, ◌++◌, map, length}
 use Rattle.std.specs.List.{flat_map}
 use Rattle.mad_sections.specs.Sections.{SectionContent}
-use Rattle.markdown_sections.specs.Mapping.{LinkSaid, Mapping}
+use Rattle.markdown_reader.specs.Mapping.{LinkSaid, Mapping}
 use Rattle.markdown_section_stream.specs.Readings.{Reading, nothing_read, lines_read, parts_read, parts_at_end, handed_on}
 use Rattle.markdown_section_stream.specs.Streamed.{Streamed, nothing_streamed, parts_streamed}
 

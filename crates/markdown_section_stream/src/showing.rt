@@ -2,17 +2,17 @@
 
 ghost use Rattle.std.specs.Prelude.{◌≡◌, IfOk, OnOk, map};
 ghost use Rattle.markdown_leaves.specs.Parts.{part_of};
-ghost use Rattle.markdown_sections.specs.MarkdownSays.{markdown_says, links_said};
-ghost use Rattle.markdown_sections.specs.Steady.{steady_sections};
+ghost use Rattle.markdown_reader.specs.MarkdownSays.{markdown_says, links_said};
+ghost use Rattle.markdown_reader.specs.Steady.{steady_sections};
 ghost use Rattle.markdown_section_stream.specs.ShowingOf.{streamed_of};
 ghost use Rattle.markdown_section_stream.specs.Streamed.{nothing_streamed, part_streamed, parts_streamed};
 ghost use Rattle.markdown_section_stream.specs.Streaming.{taken_from};
 
 use markdown_leaves::Part;
 use markdown_lines::links::Definitions;
-use markdown_sections::Markdown;
-use markdown_sections::definitions::{no_definitions, push_part_definitions};
-use markdown_sections::mapper::Mapper;
+use markdown_reader::Markdown;
+use markdown_reader::definitions::{no_definitions, push_part_definitions};
+use markdown_reader::mapper::Mapper;
 use std::alloc::{AllocError, Global};
 
 /// The definitions so far, and a mapper that goes on from part to part. What it has shown can be taken at any time.

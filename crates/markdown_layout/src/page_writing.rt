@@ -1,0 +1,166 @@
+//! Rows of pages as text at the end of a string: the same bytes as their displayed values.
+
+ghost use Rattle.std.specs.Prelude.{◌≡◌, ◌++◌, false, List, OnOk, map, string_bytes};
+ghost use Rattle.mad_draw.specs.Pieces.{pieces_bytes};
+ghost use Rattle.mad_rows.specs.Rows.{line_bytes};
+ghost use Rattle.mad_rows.specs.RowStyles.{line_rules};
+ghost use Rattle.mad_sections.specs.Sections.{section_content};
+ghost use Rattle.mad_pages.specs.PageLayouts.{BecomesAt};
+ghost use Rattle.mad_pages.specs.PageRows.{RowContent, row_content};
+ghost use Rattle.mad_page_rows.specs.Faces.{columns_behind, faces, has_ascii_boxes, page_row_bytes};
+ghost use Rattle.markdown_layout.specs.Boxes.{has_code};
+ghost use Rattle.markdown_layout.specs.WrittenPages.{rows_bytes};
+
+use mad_page_rows::faces::has_boxes;
+use mad_page_rows::{Faces, PlacedPageRow, columns_behind, has_ascii_boxes};
+use mad_pages::{PageRow, push_section};
+use mad_rows::{RowSkin, StyleCommands, append_line};
+use mad_sections::{Gutter, Section};
+use std::alloc::{AllocError, Global};
+
+// The faces of gutters, the last so many their first ones.
+fn append_faces(
+    rows: &mut String,
+    skin: &RowSkin,
+    gutters: &[Gutter],
+    fresh: usize,
+) -> Result<(), AllocError>
+    ensures { OnOk result (string_bytes rows.new ≡ string_bytes rows.old ++ pieces_bytes (faces skin.now gutters.now fresh)) }
+{
+    let (others, firsts) = gutters.split_at(gutters.len().saturating_sub(fresh));
+    let others = Faces {
+        skin,
+        gutters: others,
+        first: false,
+    };
+    let firsts = Faces {
+        skin,
+        gutters: firsts,
+        first: true,
+    };
+    write!(rows, "{others}{firsts}")
+}
+
+// Whether one of these gutters is that of code.
+fn has_code(gutters: &[Gutter]) -> bool
+    ensures { result ≡ has_code gutters.now }
+{
+    let mut rest = gutters;
+    while let [gutter, next @ ..] = rest {
+        if matches!(gutter, Gutter::Code) {
+            return true;
+        }
+        rest = next;
+    }
+    false
+}
+
+// A row that isn't in a box: the faces of its gutters, and its line.
+fn append_open_row(
+    rows: &mut String,
+    row: &PageRow,
+    width: Option<usize>,
+    skin: &RowSkin,
+    commands: &mut StyleCommands,
+) -> Result<(), AllocError>
+    ensures { OnOk result (string_bytes rows.new ≡ string_bytes rows.old ++ (pieces_bytes (faces skin.now row.now.gutters.now row.now.fresh) ++ line_bytes skin.now (columns_behind (has_ascii_boxes skin.now) width row.now.gutters.now) row.now.line)) }
+{
+    append_faces(rows, skin, row.gutters, row.fresh)?;
+    let columns = columns_behind(row.gutters, width, has_ascii_boxes(skin));
+    append_line(rows, &row.line, columns, skin, commands)
+}
+
+// Room for what a box fills.
+fn reserve_box(rows: &mut String, width: Option<usize>, skin: &RowSkin) -> Result<(), AllocError>
+    ensures { OnOk result (string_bytes rows.new ≡ string_bytes rows.old) }
+{
+    match width {
+        Some(width) if has_boxes(skin) => rows.reserve(width),
+        _ => Ok(()),
+    }
+}
+
+// A row that may be in a box.
+fn append_boxed_row(
+    rows: &mut String,
+    row: &PageRow,
+    width: Option<usize>,
+    skin: &RowSkin,
+) -> Result<(), AllocError>
+    ensures { OnOk result (string_bytes rows.new ≡ string_bytes rows.old ++ page_row_bytes skin.now width (row_content row.now)) }
+{
+    reserve_box(rows, width, skin)?;
+    let placed = PlacedPageRow {
+        skin,
+        row,
+        outer: width,
+        filled: false,
+    };
+    write!(rows, "{placed}\n")
+}
+
+/// Puts a row of a page and a newline after the rows that are there, at a width in columns, if there is one.
+///
+/// # Errors
+///
+/// Out of memory. What the rows then end with is open.
+pub fn append_page_row(
+    rows: &mut String,
+    row: &PageRow,
+    width: Option<usize>,
+    skin: &RowSkin,
+    commands: &mut StyleCommands,
+) -> Result<(), AllocError>
+    ensures { OnOk result (string_bytes rows.new ≡ string_bytes rows.old ++ page_row_bytes skin.now width (row_content row.now)) }
+{
+    if has_code(row.gutters) {
+        append_boxed_row(rows, row, width, skin)
+    } else {
+        append_open_row(rows, row, width, skin, commands)
+    }
+}
+
+// Rows of a page, each with a newline.
+fn append_page_rows(
+    rows: &mut String,
+    page_rows: &[PageRow],
+    width: Option<usize>,
+    skin: &RowSkin,
+    commands: &mut StyleCommands,
+) -> Result<(), AllocError>
+    ensures { OnOk result (string_bytes rows.new ≡ string_bytes rows.old ++ rows_bytes skin.now width (map row_content page_rows.now)) }
+{
+    let mut rest = page_rows;
+    while let [row, next @ ..] = rest {
+        append_page_row(rows, row, width, skin, commands)?;
+        rest = next;
+    }
+    Ok(())
+}
+
+/// Puts the rows of a section, each with a newline, after the rows that are there, at a width in columns, if there is one.
+///
+/// # Errors
+///
+/// Out of memory. What the rows then end with is open.
+pub fn append_section(
+    alloc: Global,
+    rows: &mut String,
+    section: Section<'_>,
+    width: Option<usize>,
+    skin: &RowSkin,
+    commands: &mut StyleCommands,
+) -> Result<(), AllocError>
+    ensures { OnOk result ((own : List RowContent) × BecomesAt (line_rules skin.now) (has_ascii_boxes skin.now) width (section_content section.entry) own × (string_bytes rows.new ≡ string_bytes rows.old ++ rows_bytes skin.now width own)) }
+{
+    let mut page_rows = Vec::new(alloc);
+    push_section(
+        alloc,
+        &mut page_rows,
+        section,
+        width,
+        has_ascii_boxes(skin),
+        skin,
+    )?;
+    append_page_rows(rows, page_rows.as_slice(), width, skin, commands)
+}

@@ -1,0 +1,26 @@
+//! Laws, each the contract of a small function: what is said of the sections of all texts.
+
+ghost use Rattle.markdown_reader.specs.Faces.{FacesOnce};
+ghost use Rattle.markdown_reader.specs.ListedSections.{SectionsMayBeListed};
+ghost use Rattle.markdown_reader.specs.Nested.{SectionsNest};
+
+/// A section is behind exactly the gutters of the containers that are open where it is told, and each of these begins with the first section in
+/// it. Code is in a box behind them, and a table tells them with a bullet for the items of a list. A blank row before it is behind those that
+/// both neighbours are in, up to the last bar.
+#[tactic(auto, using(crate::proofs::NestedLemmas::sections_nest))]
+pub fn sections_nest()
+    ensures { SectionsNest }
+{}
+
+/// Each item's bullet, number or box is in front of exactly one row: as many are shown as items began, but for those that are open and of which
+/// nothing is shown yet.
+#[tactic(auto, using(crate::proofs::FaceLemmas::faces_once))]
+pub fn faces_are_shown_once()
+    ensures { FacesOnce }
+{}
+
+/// The items of a table that may be shown as a list are behind the gutters of the table, and a bullet.
+#[tactic(auto, using(crate::proofs::NestedLemmas::may_be_listed))]
+pub fn tables_may_be_lists()
+    ensures { SectionsMayBeListed }
+{}

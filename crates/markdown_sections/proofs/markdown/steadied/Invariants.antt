@@ -1,8 +1,0 @@
-use Rattle.std.proofs.Common.{map}
-use Rattle.std.specs.Vec.Iter.{into_iter_items}
-use Rattle.markdown_sections.specs.SectionsSaid.{section_said}
-use Rattle.markdown_sections.proofs.SteadyLemmas.{SteadiedSoFar}
-use Rattle.markdown_sections.proofs.markdown.steadied.Given as goal
-
-abbrev pub invariant-loop-section : goal.invariant-loop-section
-invariant-loop-section l = SteadiedSoFar (map section_said l.fn.sections.items) (map section_said (into_iter_items l.section-iterator)) (map section_said l.made.items)
