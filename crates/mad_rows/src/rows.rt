@@ -211,8 +211,8 @@ pub fn know_row(skin: &RowSkin, line: Option<&FmtLine>, width: usize)
     know_styles(skin);
 }
 
-// The numbers of the colors in a skin's styles are bytes.
-fn know_styles(skin: &RowSkin)
+/// The numbers of the colors in a skin's styles are bytes. Nothing is done.
+pub fn know_styles(skin: &RowSkin)
     ensures { AreKnownStyles skin.now }
 {
     know_parts(*skin);
@@ -220,8 +220,8 @@ fn know_styles(skin: &RowSkin)
     know_all(&skin.ordered_item_styles);
 }
 
-/// The numbers of the colors in the styles of a skin's parts are bytes. Nothing is done.
-pub fn know_parts(skin: RowSkin)
+// So they are in the styles of its parts.
+fn know_parts(skin: RowSkin)
     ensures { AreKnownParts skin }
 {}
 
