@@ -15,15 +15,5 @@ returns c = record {
   bullet = search rules;
   quote_mark = search rules;
   rule = search rules;
-  page = record {
-    task = search rules;
-    done = search rules;
-    note = search rules;
-    tip = search rules;
-    important = search rules;
-    warning = search rules;
-    caution = search rules;
-    below_first = search rules;
-    below_others = search rules;
-  };
+  page = c.know_signs.ensures;
 }
