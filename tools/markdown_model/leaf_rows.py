@@ -212,10 +212,11 @@ def table_rows(lines: list[Line], width: int | None) -> Iterator[Row]:
 
 
 def code_rows(lines: list[Normal], width: int | None) -> list[Row]:
-    """Rows of code, each as wide as the widest."""
-    rows = [row for line in lines for row in wrap(line.composite.compounds, width)]
-    widest = max(map(row_columns, rows))
-    return [placed(row, widest, Align.LEFT) for row in rows]
+    """Rows of code, each as wide as the widest line, or as the room."""
+    code = [line.composite.compounds for line in lines]
+    widest = max(map(row_columns, code))
+    place = widest if width is None else min(widest, width)
+    return [placed(row, place, Align.LEFT) for line in code for row in wrap(line, width)]
 
 
 def layout(width: int | None, lines: list[Line]) -> list[Row]:

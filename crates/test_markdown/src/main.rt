@@ -11,7 +11,7 @@
 //!
 //! In a text `▪` is a byte order mark.
 //!
-//! As `--told CALL FILE` it answers the call of each text of a file, with a line `==` before each answer. A byte 1 stands between two texts. So
+//! As `--told CALL FILE` it answers the call of each text of a file, with a byte 1 before each answer. The same stands between two texts. So
 //! `tools/commonmark` and `tools/markdown_files` ask it.
 #![tactic(auto)]
 
@@ -58,7 +58,7 @@ fn tell(rt: &HostRuntime, call: &str, file: &str) -> io::Result<()> {
     let texts = fs::read_to_string(rt, file)?;
     for text in texts.as_str().split('\u{1}') {
         let answer = MarkdownCalls.answer(rt.alloc(), call, text)?;
-        print!(rt; "==\n{answer}")?;
+        print!(rt; "\u{1}{answer}")?;
     }
     Ok(())
 }
