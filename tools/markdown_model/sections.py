@@ -5,7 +5,7 @@
 from __future__ import annotations
 
 import re
-from bisect import bisect_left
+from bisect import bisect_left, bisect_right
 from collections.abc import Callable, Iterator
 from dataclasses import dataclass, field, replace
 
@@ -106,10 +106,7 @@ class Mapping:
         self.runs: Callable[[str, dict], list[Row]] = tags.runs_of_leaf if self.tags else leaves.runs_of_leaf
         doc = read_blocks(self.source)
         self.defs = definitions(doc)
-        inside = {n for x in html_leaves(doc) for n in range(x.first, x.last + 1)}
-        ends = quote_ends(doc)
-        blank = [n for n, x in enumerate(lines_of(self.source), 1) if not x.strip(" \t>") and n not in inside]
-        self.blank_lines = [(n, ends.get(n, len(self.source))) for n in blank]
+        self.blank_lines = blank_lines(self.source, doc)
         self.walk(doc)
 
     # ---- containers
@@ -207,27 +204,32 @@ class Mapping:
         self.last = node, list(self.open)
 
     def apart(self, a: Node, b: Node) -> bool:
-        """Whether a blank row is between two neighbours that are shown: where the source has a blank line (but for quote signs) that is in no
-        quote which ends before the second, and beside headings, code, tables and rules."""
-        between = self.blank_lines[bisect_left(self.blank_lines, (a.last + 1,)):bisect_left(self.blank_lines, (b.first,))]
-        return any(end >= b.first for _, end in between) or a.kind in LARGE or b.kind in LARGE
+        """Whether a blank row is between two neighbours that are shown: where a blank line is, and beside headings, code, tables and rules."""
+        between = bisect_left(self.blank_lines, b.first) - bisect_right(self.blank_lines, a.last)
+        return between > 0 or a.kind in LARGE or b.kind in LARGE
 
 
-def quote_ends(node: Node) -> dict[int, int]:
-    """Of each line in a quote the last line of the innermost quote that it is in."""
+def blank_lines(source: str, doc: Node) -> list[int]:
+    """The blank lines, but for quote signs, those of html apart. One in a quote counts where the next block is in that quote too."""
+    blocks = list(blocks_in(doc))
+    inside = {n for x in blocks if x.kind == "html" for n in range(x.first, x.last + 1)}
     ends: dict[int, int] = {}
-    for c in node.children:
-        if c.kind == "quote":
-            ends.update((n, c.last) for n in range(c.first, c.last + 1))
-        ends.update(quote_ends(c))
-    return ends
+    for x in blocks:  # an inner quote comes after those around it
+        if x.kind == "quote":
+            ends.update((n, x.last) for n in range(x.first, x.last + 1))
+    starts = sorted({x.first for x in blocks})
+
+    def counts(n: int) -> bool:
+        at = bisect_right(starts, n)
+        return n not in ends or at < len(starts) and starts[at] <= ends[n]
+
+    return [n for n, x in enumerate(lines_of(source), 1) if not x.strip(" \t>") and n not in inside and counts(n)]
 
 
-def html_leaves(node: Node) -> Iterator[Node]:
-    for c in node.children:
-        if c.kind == "html":
-            yield c
-        yield from html_leaves(c)
+def blocks_in(node: Node) -> Iterator[Node]:
+    for child in node.children:
+        yield child
+        yield from blocks_in(child)
 
 
 # ------------------------------------------------------------------ of a whole text
