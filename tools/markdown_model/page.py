@@ -1,6 +1,6 @@
 """The rows of a text's page at a width, in a skin without styles: python3 -m markdown_model.page [--tags] [--sections] WIDTH FILE ..
 
-A width of 0 is none. With --sections it writes the sections that are shown there, a table that has no room as a list. With --tags, tags of html set
+WIDTH is a number or `none`. With --sections it writes the sections that are shown there, a table that has no room as a list. With --tags, tags of html set
 flags, which the library doesn't read.
 """
 from __future__ import annotations
@@ -75,17 +75,21 @@ def page(source: str, width: int | None, tags: bool = False) -> list[str]:
     return texts(width, sections_of(source, tags))
 
 
+def width_of(word: str) -> int | None:
+    return None if word == "none" else int(word)
+
+
 def main() -> None:
     parser = argparse.ArgumentParser(usage="python3 -m markdown_model.page [--tags] [--sections] WIDTH FILE ..")
     parser.add_argument("--tags", action="store_true")
     parser.add_argument("--sections", action="store_true")
-    parser.add_argument("width", type=int)
+    parser.add_argument("width", type=width_of)
     parser.add_argument("files", nargs="+", type=Path)
     given = parser.parse_args()
     for path in given.files:
         raw = path.read_bytes()
         sections = sections_of((gzip.decompress(raw) if path.suffix == ".gz" else raw).decode("utf-8", "replace"), given.tags)
-        rows = dump.picture(shown_sections(given.width or None, sections)) if given.sections else texts(given.width or None, sections)
+        rows = dump.picture(shown_sections(given.width, sections)) if given.sections else texts(given.width, sections)
         print("\n".join(rows))
 
 

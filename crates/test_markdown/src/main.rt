@@ -7,7 +7,7 @@
 //! 3. [`inlines`]: `inlines`, the inlines of a text.
 //! 4. [`pieces`]: `pieces`, the inlines of a text's leaves.
 //! 5. [`shown`]: `sections`, the sections that are shown of a text, and `links`, its links.
-//! 6. [`pages`]: `page W`, the rows of a text at a width.
+//! 6. [`pages`]: `page W`, the rows of a text at a width; `page none`, without one.
 //!
 //! In a text `▪` is a byte order mark.
 //!

@@ -5,9 +5,9 @@ use mad_layout::MadSkin;
 use markdown_layout::write_markdown_on;
 use std::alloc::{AllocError, Global};
 
-/// The rows of a text at a width, 0 for none.
+/// The rows of a text at a width, or without one where it is no number.
 pub(crate) fn draw_page(alloc: Global, width: &str, text: &str) -> Result<String, AllocError> {
-    let width = width.parse::<usize>().ok().filter(|width| *width > 0);
+    let width = width.parse::<usize>().ok();
     let skin = MadSkin::no_style();
     let mut out = Gathered::new(alloc);
     if write_markdown_on(alloc, &mut out, &skin, text, width).is_err() {
