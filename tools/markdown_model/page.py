@@ -71,8 +71,8 @@ def texts(width: int | None, sections: list[Section]) -> list[str]:
     return [front + "".join(c.src for c in row) for s in shown_sections(width, sections) for front, row in section_rows(width, s)]
 
 
-def page(source: str, width: int | None, tags: bool = False) -> list[str]:
-    return texts(width, sections_of(source, tags))
+def page(source: str, width: int | None, tags: bool = False, streamed: bool = False) -> list[str]:
+    return texts(width, sections_of(source, tags, streamed))
 
 
 def width_of(word: str) -> int | None:

@@ -11,7 +11,7 @@ from dataclasses import dataclass, field, replace
 
 from . import leaves, tags
 from .blocks import Node, cells_of, lines_of, read_blocks, runs_of
-from .html import definitions, text_of_leaf
+from .html import define, definitions, text_of_leaf
 from .leaves import Row, cell_runs, compounds, expanded, html_rows, links_of
 from .lines import CODE, EMPTY, PARAGRAPH, Align, Composite, Compound, HorizontalRule, Line, Normal, TableRow, TableRule, header, paragraph
 from .steady import steady
@@ -92,10 +92,11 @@ class Open:
 @dataclass
 class Mapping:
     """`open` are the containers that are open; of the last `fresh` nothing is shown yet. `last` is the leaf that was shown last, and the containers that
-    it was in. With `tags`, tags of html set flags."""
+    it was in. With `tags`, tags of html set flags. With `streamed`, a leaf knows the definitions up to it alone, as in a text that comes in pieces."""
 
     source: str
     tags: bool = False
+    streamed: bool = False
     sections: list[Section] = field(default_factory=list)
     links: list[tuple[int, str]] = field(default_factory=list)
     open: list[Open] = field(default_factory=list)
@@ -105,7 +106,7 @@ class Mapping:
     def __post_init__(self) -> None:
         self.runs: Callable[[str, dict], list[Row]] = tags.runs_of_leaf if self.tags else leaves.runs_of_leaf
         doc = read_blocks(self.source)
-        self.defs = definitions(doc)
+        self.defs = {} if self.streamed else definitions(doc)
         self.blank_lines = blank_lines(self.source, doc)
         self.walk(doc)
 
@@ -133,7 +134,9 @@ class Mapping:
     # ---- leaves
 
     def show(self, node: Node) -> None:
-        if node.kind == "html":
+        if node.kind == "def":
+            define(self.defs, node)
+        elif node.kind == "html":
             for part in self.html_parts(node):
                 self.put(*part)
         elif node.kind == "para" and self.fresh:
@@ -240,8 +243,8 @@ def behind_mark(source: str) -> str:
     return source.removeprefix("\ufeff")
 
 
-def mapping_of(source: str, tags: bool = False) -> Mapping:
-    return Mapping(behind_mark(source), tags)
+def mapping_of(source: str, tags: bool = False, streamed: bool = False) -> Mapping:
+    return Mapping(behind_mark(source), tags, streamed)
 
 
 def steadied(line: Line) -> Line:
@@ -254,9 +257,9 @@ def steadied(line: Line) -> Line:
     return TableRow([one(cell) for cell in line.cells]) if isinstance(line, TableRow) else line
 
 
-def sections_of(source: str, tags: bool = False) -> list[Section]:
+def sections_of(source: str, tags: bool = False, streamed: bool = False) -> list[Section]:
     """The sections of a text, steady."""
-    return [replace(s, lines=[steadied(x) for x in s.lines]) for s in mapping_of(source, tags).sections]
+    return [replace(s, lines=[steadied(x) for x in s.lines]) for s in mapping_of(source, tags, streamed).sections]
 
 
 def links_in(source: str) -> list[tuple[int, str]]:
