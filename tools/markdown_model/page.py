@@ -10,9 +10,9 @@ import gzip
 from pathlib import Path
 
 from . import dump
-from .leaf_rows import Cells, Row, columns, fits_as_table, layout, table_of
-from .lines import EMPTY, Compound, Line, paragraph
-from .sections import Gutter, Section, sections_of
+from .leaf_rows import Cells, Row, columns, fits_as_table, layout, placed, table_of
+from .lines import EMPTY, Align, Compound, Line, paragraph
+from .sections import CODE_SIDES, Gutter, Section, sections_of
 
 PageRow = tuple[str, Row]
 
@@ -62,17 +62,27 @@ def section_rows(width: int | None, section: Section) -> list[PageRow]:
     return [(first if k == 0 else rest, row) for k, row in enumerate(layout(room(width, section.gutters), section.lines))]
 
 
+def boxed_rows(width: int | None, section: Section) -> list[PageRow]:
+    """The same where code has a background: of the two columns of code's gutter one is behind the row, and the row fills what is between them."""
+    rows = section_rows(width, section)
+    columns_left = room(width, section.gutters)
+    if gutters_shown(width, section.gutters)[-1:] != [CODE_SIDES]:
+        return rows
+    return [(front[:-1], placed(row, columns_left or 0, Align.LEFT) + [Compound(" ")]) for front, row in rows]
+
+
 def shown_sections(width: int | None, sections: list[Section]) -> list[Section]:
     return [u for s in sections for u in unfolded(width, s)]
 
 
-def texts(width: int | None, sections: list[Section]) -> list[str]:
+def texts(width: int | None, sections: list[Section], boxes: bool = False) -> list[str]:
     """The rows of a page, as texts."""
-    return [front + "".join(c.src for c in row) for s in shown_sections(width, sections) for front, row in section_rows(width, s)]
+    rows_of = boxed_rows if boxes else section_rows
+    return [front + "".join(c.src for c in row) for s in shown_sections(width, sections) for front, row in rows_of(width, s)]
 
 
-def page(source: str, width: int | None, tags: bool = False, streamed: bool = False) -> list[str]:
-    return texts(width, sections_of(source, tags, streamed))
+def page(source: str, width: int | None, tags: bool = False, streamed: bool = False, boxes: bool = False) -> list[str]:
+    return texts(width, sections_of(source, tags, streamed), boxes)
 
 
 def width_of(word: str) -> int | None:
