@@ -49,8 +49,11 @@ def head_length(row: Row) -> int:
 
 
 def item_lines(heads: Cells, row: Cells) -> list[Line]:
-    labels = [head.compounds + [Compound(": ")] if head.compounds else [] for head in heads] + [[]] * len(row)
-    return [paragraph(label + cell.compounds) for label, cell in zip(labels, row) if cell.compounds] or [EMPTY]
+    def label(column: int) -> Row:
+        head = heads[column].compounds if column < len(heads) else []
+        return head + [Compound(": ")] if head else []
+
+    return [paragraph(label(k) + cell.compounds) for k, cell in enumerate(row) if cell.compounds] or [EMPTY]
 
 
 def section_rows(width: int | None, section: Section) -> list[PageRow]:
