@@ -1,8 +1,8 @@
-"""The examples as theorems: what one sees of their blocks, and their lines, for crates/markdown_examples.
+"""The examples as theorems: what one sees of their blocks, and their sections, for crates/markdown_examples.
 
     python3 -m markdown_model.theorems [--check]
 
-It writes Blocks*.antt and Lines*.antt in the crate's specs/ and proofs/, the lists of these, and src/blocks.rt and src/lines.rt, by what the model says
+It writes Blocks*.antt and Sections*.antt in the crate's specs/ and proofs/, the lists of these, and src/blocks.rt and src/sections.rt, by what the model says
 of each text. What is of html there is written by `tools/html_theorems`. With --check it writes nothing, and fails if they are others.
 """
 from __future__ import annotations
@@ -14,9 +14,9 @@ from collections.abc import Callable
 from typing import NamedTuple
 
 from .blocks import read_blocks
-from .lines import HorizontalRule, Normal, TableRow
-from .mapping import Flat
+from .lines import EMPTY, HorizontalRule, Normal, TableRow
 from .picture import HERE, blocks_of, leaf
+from .sections import Mapping
 
 CRATE = HERE.parent.parent / "crates/markdown_examples"
 PER = 25
@@ -65,7 +65,7 @@ def blocks_row(text):
     return f"seen {literal(text)} ≡ {listed(seen(read_blocks(text).children))}"
 
 
-# ---- lines
+# ---- sections
 
 def run(compound):
     flags = (compound.bold, compound.italic, compound.code, compound.strikeout, compound.link is not None)
@@ -76,14 +76,11 @@ def runs(composite):
     return f"({listed(map(run, composite.compounds))})"
 
 
-def style(kind):
-    numbers = {"Header": [kind.level], "ListItem": [kind.level], "ListItemFollowUp": [kind.level], "OrderedListItem": [kind.level, kind.index]}.get(kind.name)
-    return f"({kind.name} {' '.join(map(str, numbers))})" if numbers else kind.name
-
-
 def line(it):
     if isinstance(it, Normal):
-        return f"row {style(it.composite.style)} {runs(it.composite)}"
+        kind = it.composite.style
+        words = {"Code": "code_row", "Header": f"row (Header {kind.level})"}.get(kind.name, f"row {kind.name}")
+        return f"{words} {runs(it.composite)}"
     if isinstance(it, TableRow):
         return f"cells ({listed(map(runs, it.cells))})"
     if isinstance(it, HorizontalRule):
@@ -91,8 +88,20 @@ def line(it):
     return f"table_rule ({listed(a.value.capitalize() for a in it.cells)})"
 
 
-def lines_row(text):
-    return f"printable_lines {literal(text)} ≡ {listed(map(line, Flat(text).lines))}"
+def is_blank(it):
+    return it.fresh == 0 and it.lines == [EMPTY]
+
+
+def section(it):
+    """Its gutters, how many of them begin with it, and its lines. A table's are those of a list too, if it becomes one."""
+    gutters = f"({listed(gutter.term for gutter in it.gutters)})" if it.gutters else "[]"
+    if is_blank(it):
+        return f"blank {gutters}"
+    return f"{'behind' if it.items is None else 'table_behind'} {gutters} {it.fresh} ({listed(map(line, it.lines))})"
+
+
+def sections_row(text):
+    return f"printable_sections {literal(text)} ≡ {listed(map(section, Mapping(text).sections))}"
 
 
 # ---- files
@@ -100,7 +109,9 @@ def lines_row(text):
 VARIANTS = {
     "Rattle.markdown_blocks.specs.declared.containers.Container": ["Quote", "Item"],
     "Rattle.markdown_leaves.specs.declared.parts.Kind": ["Paragraph", "Heading", "Indented", "Fenced", "Html", "Table", "Rule", "Definitions"],
-    "Rattle.mad_md.specs.declared.composite.CompositeStyle": ["Paragraph", "Header", "ListItem", "OrderedListItem", "ListItemFollowUp", "Code", "Quote"],
+    "Rattle.mad_sections.specs.declared.gutters.Gutter": ["Bar", "AlertBar", "Bullet", "Number", "Task", "Code"],
+    "Rattle.mad_sections.specs.declared.gutters.Alert": ["Note", "Tip", "Important", "Warning", "Caution"],
+    "Rattle.mad_md.specs.declared.composite.CompositeStyle": ["Paragraph", "Header"],
     "Rattle.mad_md.specs.declared.alignment.Alignment": ["Unspecified", "Left", "Center", "Right"],
 }
 
@@ -124,12 +135,12 @@ def blocks_uses(rows):
     return "", variants(containers, rows) + variants(kinds, rows) + use("Rattle.markdown_examples.specs.Seen", ["opens", "closes", "leaf", "seen"])
 
 
-def lines_uses(rows):
-    styles, alignments = list(VARIANTS)[2:]
-    return ", true, false", variants(styles, rows) + variants(alignments, rows) + use(
+def sections_uses(rows):
+    words = ["plain", "flagged", "row", "code_row", "cells", "behind", "table_behind", "blank"]
+    return ", true, false", "".join(variants(path, rows) for path in list(VARIANTS)[2:]) + use(
         "Rattle.mad_md.specs.Lines", named(["table_rule", "horizontal_rule"], rows)) + use(
-        "Rattle.markdown_examples.specs.Rows", ["plain", "flagged", "row"] + named(["cells"], rows)) + use(
-        "Rattle.markdown_reader.specs.Markdown", ["printable_lines"])
+        "Rattle.markdown_examples.specs.Rows", named(words, rows)) + use(
+        "Rattle.markdown_reader.specs.Markdown", ["printable_sections"])
 
 
 def group_files(part, number, first, rows):
@@ -149,7 +160,7 @@ def group_files(part, number, first, rows):
 
 
 class Part(NamedTuple):
-    """What is said of the examples: blocks or lines."""
+    """What is said of the examples: blocks or sections."""
     name: str
     row_of: Callable[[str], str]
     uses: Callable[[list[str]], tuple[str, str]]
@@ -162,7 +173,7 @@ class Part(NamedTuple):
 
 PARTS = [
     Part("Blocks", blocks_row, blocks_uses, "what one sees of their blocks", "markdown_as_html", "reading", "What the blocks of examples {} are.", "The blocks of examples."),
-    Part("Lines", lines_row, lines_uses, "their lines", "markdown_examples", "lines", "The lines of examples {}.", "The lines that are shown of examples."),
+    Part("Sections", sections_row, sections_uses, "their sections", "markdown_examples", "sections", "The sections of examples {}.", "The sections that are shown of examples."),
 ]
 
 
@@ -186,7 +197,7 @@ def files(texts):
     made = "".join(f"pub mod {part.name}{k}\n" for part in PARTS for k in range(1, count + 1))
     for folder in ("specs", "proofs"):
         name = f"{folder}/Lib.antt"
-        others = re.sub(r"pub mod (Blocks|Lines)\d+\n", "", (CRATE / name).read_text(encoding="utf-8"))
+        others = re.sub(r"pub mod (Blocks|Sections)\d+\n", "", (CRATE / name).read_text(encoding="utf-8"))
         front, html, rest = others.partition("pub mod Html1\n")
         yield name, front + made + html + rest
 

@@ -3,10 +3,10 @@
 //! In the order of the work:
 //!
 //! 1. [`blocks`]: what one sees of their blocks.
-//! 2. [`lines`]: the lines that are shown.
+//! 2. [`sections`]: the sections that are shown.
 //! 3. [`html`]: their html.
 #![tactic(auto)]
 
 pub mod blocks;
 pub mod html;
-pub mod lines;
+pub mod sections;
