@@ -121,7 +121,7 @@ pub fn examples_17()
     ensures { AreSections17 }
 {}
 
-/// The sections of examples 426 to 429.
+/// The sections of examples 426 to 449.
 #[tactic(auto, using(crate::proofs::Sections18::sections18))]
 pub fn examples_18()
     ensures { AreSections18 }
