@@ -14,9 +14,9 @@ from collections.abc import Callable
 from typing import NamedTuple
 
 from .blocks import read_blocks
-from .lines import HorizontalRule, Normal, TableRow
+from .lines import EMPTY, HorizontalRule, Normal, TableRow
 from .picture import HERE, blocks_of, leaf
-from .sections import Pages, paragraph
+from .sections import Mapping
 
 CRATE = HERE.parent.parent / "crates/markdown_examples"
 PER = 25
@@ -88,25 +88,20 @@ def line(it):
     return f"table_rule ({listed(a.value.capitalize() for a in it.cells)})"
 
 
-def gutter(it):
-    """A gutter, with the number of its item, the alert of its quote, or whether its task is done."""
-    return it.kind if it.value is None else f"{it.kind} {str(it.value).lower() if it.kind == 'Task' else it.value}"
-
-
 def is_blank(it):
-    return it.fresh == 0 and it.lines == [paragraph([])]
+    return it.fresh == 0 and it.lines == [EMPTY]
 
 
 def section(it):
     """Its gutters, how many of them begin with it, and its lines. A table's are those of a list too, if it becomes one."""
-    gutters = f"({listed(map(gutter, it.gutters))})" if it.gutters else "[]"
+    gutters = f"({listed(gutter.term for gutter in it.gutters)})" if it.gutters else "[]"
     if is_blank(it):
         return f"blank {gutters}"
-    return f"{'table_behind' if it.is_table() else 'behind'} {gutters} {it.fresh} ({listed(map(line, it.lines))})"
+    return f"{'behind' if it.items is None else 'table_behind'} {gutters} {it.fresh} ({listed(map(line, it.lines))})"
 
 
 def sections_row(text):
-    return f"printable_sections {literal(text)} ≡ {listed(map(section, Pages(text).sections))}"
+    return f"printable_sections {literal(text)} ≡ {listed(map(section, Mapping(text).sections))}"
 
 
 # ---- files

@@ -6,17 +6,19 @@
 //! 2. [`lines`]: `lines`, what each line of a text does.
 //! 3. [`inlines`]: `inlines`, the inlines of a text.
 //! 4. [`pieces`]: `pieces`, the inlines of a text's leaves.
-//! 5. [`shown`]: `shown`, the lines that are shown of a text, and `links`, its links.
+//! 5. [`shown`]: `sections`, the sections that are shown of a text, and `links`, its links.
+//! 6. [`pages`]: `page W`, the rows of a text at a width.
 //!
 //! In a text `▪` is a byte order mark.
 //!
-//! As `--told CALL FILE` it answers the call of each text of a file, with a line `==` before each answer. A byte 1 stands between two texts. So
+//! As `--told CALL FILE` it answers the call of each text of a file, with a byte 1 before each answer. The same stands between two texts. So
 //! `tools/commonmark` and `tools/markdown_files` ask it.
 #![tactic(auto)]
 
 mod blocks;
 mod inlines;
 mod lines;
+mod pages;
 mod pieces;
 mod shown;
 
@@ -35,8 +37,11 @@ impl Calls for MarkdownCalls {
             "blocks" => blocks::picture_of(alloc, text),
             "pieces" => pieces::draw_leaves(alloc, text),
             "links" => shown::draw_links(alloc, text),
-            "shown" => shown::draw_lines(alloc, text),
-            _ => inlines::draw_inlines(alloc, call, text),
+            "sections" => shown::draw_sections(alloc, text),
+            _ => match call.strip_prefix("page ") {
+                Some(width) => pages::draw_page(alloc, width, text),
+                None => inlines::draw_inlines(alloc, call, text),
+            },
         }
     }
 }
@@ -53,7 +58,7 @@ fn tell(rt: &HostRuntime, call: &str, file: &str) -> io::Result<()> {
     let texts = fs::read_to_string(rt, file)?;
     for text in texts.as_str().split('\u{1}') {
         let answer = MarkdownCalls.answer(rt.alloc(), call, text)?;
-        print!(rt; "==\n{answer}")?;
+        print!(rt; "\u{1}{answer}")?;
     }
     Ok(())
 }
