@@ -4,7 +4,8 @@ use Rattle.mad_sections.specs.declared.gutters.Gutter.TheVariants.{Bar, AlertBar
 use Rattle.mad_sections.specs.declared.gutters.Alert.TheVariants.{Note, Tip, Important, Warning, Caution}
 use Rattle.mad_md.specs.declared.composite.CompositeStyle.TheVariants.{Paragraph, Header}
 use Rattle.markdown_examples.specs.Rows.{plain, flagged, row, behind, blank}
-use Rattle.markdown_reader.specs.Markdown.{printable_sections}
+use Rattle.markdown_reader.specs.Mapping.{link_at}
+use Rattle.markdown_reader.specs.Markdown.{printable_sections, unmarked_links}
 use Rattle.markdown_examples.specs.Sections18.{AreSections18}
 use Rattle.markdown_examples.proofs.Computing.{sections}
 
@@ -19,6 +20,10 @@ e427 = refl
 e428 : printable_sections (codes "<aaaaaaaaaaaaaaaaaaaaaaaaaaaaaaaa:b>") ≡ behind [] 0 (row Paragraph (flagged false false false false true (codes "aaaaaaaaaaaaaaaaaaaaaaaaaaaaaaaa:b") ∷ []) ∷ []) ∷ []
 unfolding sections
 e428 = refl
+
+l428 : unmarked_links (codes "<aaaaaaaaaaaaaaaaaaaaaaaaaaaaaaaa:b>") ≡ link_at 0 (codes "aaaaaaaaaaaaaaaaaaaaaaaaaaaaaaaa:b") ∷ []
+unfolding sections
+l428 = refl
 
 e429 : printable_sections (codes "<aaaaaaaaaaaaaaaaaaaaaaaaaaaaaaaaa:b>") ≡ behind [] 0 (row Paragraph (plain (codes "<aaaaaaaaaaaaaaaaaaaaaaaaaaaaaaaaa:b>") ∷ []) ∷ []) ∷ []
 unfolding sections
@@ -47,6 +52,10 @@ e434 = refl
 e435 : printable_sections (codes "- [x] [b]\n\n[b]: /u\n[x]: /v") ≡ behind (Task true ∷ []) 1 (row Paragraph (flagged false false false false true (codes "b") ∷ []) ∷ []) ∷ []
 unfolding sections
 e435 = refl
+
+l435 : unmarked_links (codes "- [x] [b]\n\n[b]: /u\n[x]: /v") ≡ link_at 0 (codes "/u") ∷ []
+unfolding sections
+l435 = refl
 
 e436 : printable_sections (codes "> [!NOTE]\n> a\n> b\n\n> [!tip]  \n> c") ≡ behind (AlertBar Note ∷ []) 1 (row Paragraph (flagged true false false false false (codes "NOTE") ∷ []) ∷ row Paragraph (plain (codes "a b") ∷ []) ∷ []) ∷ blank [] ∷ behind (AlertBar Tip ∷ []) 1 (row Paragraph (flagged true false false false false (codes "TIP") ∷ []) ∷ row Paragraph (plain (codes "c") ∷ []) ∷ []) ∷ []
 unfolding sections
@@ -105,4 +114,4 @@ unfolding sections
 e449 = refl
 
 pub sections18 : AreSections18
-sections18 = record { e426 = e426; e427 = e427; e428 = e428; e429 = e429; e430 = e430; e431 = e431; e432 = e432; e433 = e433; e434 = e434; e435 = e435; e436 = e436; e437 = e437; e438 = e438; e439 = e439; e440 = e440; e441 = e441; e442 = e442; e443 = e443; e444 = e444; e445 = e445; e446 = e446; e447 = e447; e448 = e448; e449 = e449 }
+sections18 = record { e426 = e426; e427 = e427; e428 = e428; l428 = l428; e429 = e429; e430 = e430; e431 = e431; e432 = e432; e433 = e433; e434 = e434; e435 = e435; l435 = l435; e436 = e436; e437 = e437; e438 = e438; e439 = e439; e440 = e440; e441 = e441; e442 = e442; e443 = e443; e444 = e444; e445 = e445; e446 = e446; e447 = e447; e448 = e448; e449 = e449 }

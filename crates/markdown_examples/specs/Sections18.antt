@@ -1,15 +1,17 @@
--- Examples 426 to 449: their sections.
+-- Examples 426 to 449: their sections and links.
 use Rattle.std.specs.Prelude.{◌≡◌, [], ◌∷◌, codes, true, false}
 use Rattle.mad_sections.specs.declared.gutters.Gutter.TheVariants.{Bar, AlertBar, Bullet, Number, Task}
 use Rattle.mad_sections.specs.declared.gutters.Alert.TheVariants.{Note, Tip, Important, Warning, Caution}
 use Rattle.mad_md.specs.declared.composite.CompositeStyle.TheVariants.{Paragraph, Header}
 use Rattle.markdown_examples.specs.Rows.{plain, flagged, row, behind, blank}
-use Rattle.markdown_reader.specs.Markdown.{printable_sections}
+use Rattle.markdown_reader.specs.Mapping.{link_at}
+use Rattle.markdown_reader.specs.Markdown.{printable_sections, unmarked_links}
 
 pub record AreSections18 : Type 0 where
   pub e426 : printable_sections (codes ">>>>>>>>>>>>>>>>>>>>>>>>>>>>>>>>>>>>>>>>>>>>>>>>>>>>>>>>>>>>>>>> a") ≡ behind (Bar ∷ Bar ∷ Bar ∷ Bar ∷ Bar ∷ Bar ∷ Bar ∷ Bar ∷ Bar ∷ Bar ∷ Bar ∷ Bar ∷ Bar ∷ Bar ∷ Bar ∷ Bar ∷ Bar ∷ Bar ∷ Bar ∷ Bar ∷ Bar ∷ Bar ∷ Bar ∷ Bar ∷ Bar ∷ Bar ∷ Bar ∷ Bar ∷ Bar ∷ Bar ∷ Bar ∷ Bar ∷ Bar ∷ Bar ∷ Bar ∷ Bar ∷ Bar ∷ Bar ∷ Bar ∷ Bar ∷ Bar ∷ Bar ∷ Bar ∷ Bar ∷ Bar ∷ Bar ∷ Bar ∷ Bar ∷ Bar ∷ Bar ∷ Bar ∷ Bar ∷ Bar ∷ Bar ∷ Bar ∷ Bar ∷ Bar ∷ Bar ∷ Bar ∷ Bar ∷ Bar ∷ Bar ∷ Bar ∷ Bar ∷ []) 64 (row Paragraph (plain (codes "a") ∷ []) ∷ []) ∷ []
   pub e427 : printable_sections (codes "a\r\nb\r# c\r\n\r\nd") ≡ behind [] 0 (row Paragraph (plain (codes "a b") ∷ []) ∷ []) ∷ blank [] ∷ behind [] 0 (row (Header 1) (plain (codes "c") ∷ []) ∷ []) ∷ blank [] ∷ behind [] 0 (row Paragraph (plain (codes "d") ∷ []) ∷ []) ∷ []
   pub e428 : printable_sections (codes "<aaaaaaaaaaaaaaaaaaaaaaaaaaaaaaaa:b>") ≡ behind [] 0 (row Paragraph (flagged false false false false true (codes "aaaaaaaaaaaaaaaaaaaaaaaaaaaaaaaa:b") ∷ []) ∷ []) ∷ []
+  pub l428 : unmarked_links (codes "<aaaaaaaaaaaaaaaaaaaaaaaaaaaaaaaa:b>") ≡ link_at 0 (codes "aaaaaaaaaaaaaaaaaaaaaaaaaaaaaaaa:b") ∷ []
   pub e429 : printable_sections (codes "<aaaaaaaaaaaaaaaaaaaaaaaaaaaaaaaaa:b>") ≡ behind [] 0 (row Paragraph (plain (codes "<aaaaaaaaaaaaaaaaaaaaaaaaaaaaaaaaa:b>") ∷ []) ∷ []) ∷ []
   pub e430 : printable_sections (codes "- [ ] a\n- [x] b\n  c\n- [X]\td\n- [x]  e") ≡ behind (Task false ∷ []) 1 (row Paragraph (plain (codes "a") ∷ []) ∷ []) ∷ behind (Task true ∷ []) 1 (row Paragraph (plain (codes "b c") ∷ []) ∷ []) ∷ behind (Task true ∷ []) 1 (row Paragraph (plain (codes "d") ∷ []) ∷ []) ∷ behind (Task true ∷ []) 1 (row Paragraph (plain (codes "e") ∷ []) ∷ []) ∷ []
   pub e431 : printable_sections (codes "- [x]a\n- [x]\n- [x]\n  b\n- [x] \n  c") ≡ behind (Bullet ∷ []) 1 (row Paragraph (plain (codes "[x]a") ∷ []) ∷ []) ∷ behind (Bullet ∷ []) 1 (row Paragraph (plain (codes "[x]") ∷ []) ∷ []) ∷ behind (Bullet ∷ []) 1 (row Paragraph (plain (codes "[x] b") ∷ []) ∷ []) ∷ behind (Bullet ∷ []) 1 (row Paragraph (plain (codes "[x] c") ∷ []) ∷ []) ∷ []
@@ -17,6 +19,7 @@ pub record AreSections18 : Type 0 where
   pub e433 : printable_sections (codes "- a\n\n  [x] b\n\n- - [ ] c\n  - > [x] d") ≡ behind (Bullet ∷ []) 1 (row Paragraph (plain (codes "a") ∷ []) ∷ []) ∷ blank [] ∷ behind (Bullet ∷ []) 0 (row Paragraph (plain (codes "[x] b") ∷ []) ∷ []) ∷ blank [] ∷ behind (Bullet ∷ Task false ∷ []) 2 (row Paragraph (plain (codes "c") ∷ []) ∷ []) ∷ behind (Bullet ∷ Bullet ∷ Bar ∷ []) 2 (row Paragraph (plain (codes "[x] d") ∷ []) ∷ []) ∷ []
   pub e434 : printable_sections (codes "- [x] <!-- c -->\n- # [x] a\n- \\[x] b") ≡ behind (Task true ∷ []) 1 (row Paragraph ([]) ∷ []) ∷ blank [] ∷ behind (Bullet ∷ []) 1 (row (Header 1) (plain (codes "[x] a") ∷ []) ∷ []) ∷ blank [] ∷ behind (Bullet ∷ []) 1 (row Paragraph (plain (codes "[x] b") ∷ []) ∷ []) ∷ []
   pub e435 : printable_sections (codes "- [x] [b]\n\n[b]: /u\n[x]: /v") ≡ behind (Task true ∷ []) 1 (row Paragraph (flagged false false false false true (codes "b") ∷ []) ∷ []) ∷ []
+  pub l435 : unmarked_links (codes "- [x] [b]\n\n[b]: /u\n[x]: /v") ≡ link_at 0 (codes "/u") ∷ []
   pub e436 : printable_sections (codes "> [!NOTE]\n> a\n> b\n\n> [!tip]  \n> c") ≡ behind (AlertBar Note ∷ []) 1 (row Paragraph (flagged true false false false false (codes "NOTE") ∷ []) ∷ row Paragraph (plain (codes "a b") ∷ []) ∷ []) ∷ blank [] ∷ behind (AlertBar Tip ∷ []) 1 (row Paragraph (flagged true false false false false (codes "TIP") ∷ []) ∷ row Paragraph (plain (codes "c") ∷ []) ∷ []) ∷ []
   pub e437 : printable_sections (codes "> [!Important]\n\n> [!WARNING] a") ≡ behind (AlertBar Important ∷ []) 1 (row Paragraph (flagged true false false false false (codes "IMPORTANT") ∷ []) ∷ []) ∷ blank [] ∷ behind (Bar ∷ []) 1 (row Paragraph (plain (codes "[!WARNING] a") ∷ []) ∷ []) ∷ []
   pub e438 : printable_sections (codes "> a\n>\n> [!NOTE]") ≡ behind (Bar ∷ []) 1 (row Paragraph (plain (codes "a") ∷ []) ∷ []) ∷ blank (Bar ∷ []) ∷ behind (Bar ∷ []) 0 (row Paragraph (plain (codes "[!NOTE]") ∷ []) ∷ []) ∷ []

@@ -3,7 +3,7 @@
 //! In the order of the work:
 //!
 //! 1. [`blocks`]: what one sees of their blocks.
-//! 2. [`sections`]: the sections that are shown.
+//! 2. [`sections`]: the sections that are shown, and their links.
 //! 3. [`html`]: their html.
 #![tactic(auto)]
 
