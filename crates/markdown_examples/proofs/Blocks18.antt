@@ -1,7 +1,7 @@
--- Examples 426 to 449, computed.
+-- Examples 426 to 450, computed.
 use Rattle.std.proofs.Common.{◌≡◌, [], ◌∷◌, codes, refl}
 use Rattle.markdown_blocks.specs.declared.containers.Container.TheVariants.{Quote, Item}
-use Rattle.markdown_leaves.specs.declared.parts.Kind.TheVariants.{Paragraph, Heading, Html, Definitions}
+use Rattle.markdown_leaves.specs.declared.parts.Kind.TheVariants.{Paragraph, Heading, Fenced, Html, Table, Definitions}
 use Rattle.markdown_examples.specs.Seen.{opens, closes, leaf, seen}
 use Rattle.markdown_examples.specs.Blocks18.{AreBlocks18}
 use Rattle.markdown_as_html.proofs.Computing.{reading}
@@ -70,7 +70,7 @@ e441 : seen (codes "1. a\n1. b\n\n   4. c\n   4. d\n1. e") ≡ opens (Item 46 1 
 unfolding reading
 e441 = refl
 
-e442 : seen (codes "1. a\n4) b\n4) c") ≡ opens (Item 46 1 3) ∷ leaf Paragraph (codes "a" ∷ []) ∷ closes ∷ opens (Item 41 4 3) ∷ leaf Paragraph (codes "b" ∷ []) ∷ closes ∷ opens (Item 41 4 3) ∷ leaf Paragraph (codes "c" ∷ []) ∷ closes ∷ []
+e442 : seen (codes "1. a\n9) b\n9) c") ≡ opens (Item 46 1 3) ∷ leaf Paragraph (codes "a" ∷ []) ∷ closes ∷ opens (Item 41 9 3) ∷ leaf Paragraph (codes "b" ∷ []) ∷ closes ∷ opens (Item 41 9 3) ∷ leaf Paragraph (codes "c" ∷ []) ∷ closes ∷ []
 unfolding reading
 e442 = refl
 
@@ -90,7 +90,7 @@ e446 : seen (codes "> > a\n>\n> > b\n\n> > c\n> >\n> > d") ≡ opens Quote ∷ o
 unfolding reading
 e446 = refl
 
-e447 : seen (codes "- > a\n  >\n  > b\n\n- c\n-\n\n  d") ≡ opens (Item 45 0 2) ∷ opens Quote ∷ leaf Paragraph (codes "a" ∷ []) ∷ leaf Paragraph (codes "b" ∷ []) ∷ closes ∷ closes ∷ opens (Item 45 0 2) ∷ leaf Paragraph (codes "c" ∷ []) ∷ closes ∷ opens (Item 45 0 2) ∷ closes ∷ leaf Paragraph (codes "d" ∷ []) ∷ []
+e447 : seen (codes "- > a\n  >\n  > b\n\n- c\n-\n\n  d\n```\ne\n```\nf") ≡ opens (Item 45 0 2) ∷ opens Quote ∷ leaf Paragraph (codes "a" ∷ []) ∷ leaf Paragraph (codes "b" ∷ []) ∷ closes ∷ closes ∷ opens (Item 45 0 2) ∷ leaf Paragraph (codes "c" ∷ []) ∷ closes ∷ opens (Item 45 0 2) ∷ closes ∷ leaf Paragraph (codes "d" ∷ []) ∷ leaf Fenced ([] ∷ codes "e" ∷ []) ∷ leaf Paragraph (codes "f" ∷ []) ∷ []
 unfolding reading
 e447 = refl
 
@@ -98,9 +98,13 @@ e448 : seen (codes "-\n\n\n- a\n-\n\nb") ≡ opens (Item 45 0 2) ∷ closes ∷ 
 unfolding reading
 e448 = refl
 
-e449 : seen (codes "-\n  <!-- a -->\n\n  <!-- b -->\n- c") ≡ opens (Item 45 0 2) ∷ leaf Html (codes "<!-- a -->" ∷ []) ∷ leaf Html (codes "<!-- b -->" ∷ []) ∷ closes ∷ opens (Item 45 0 2) ∷ leaf Paragraph (codes "c" ∷ []) ∷ closes ∷ []
+e449 : seen (codes "> | [a](/u) | b |\n> |-|:-:|\n> | c | <http://x> |\n\n> - | d |\n>   |-|") ≡ opens Quote ∷ leaf (Table 2) (codes "| [a](/u) | b |" ∷ codes "|-|:-:|" ∷ codes "| c | <http://x> |" ∷ []) ∷ closes ∷ opens Quote ∷ opens (Item 45 0 2) ∷ leaf (Table 1) (codes "| d |" ∷ codes "|-|" ∷ []) ∷ closes ∷ closes ∷ []
 unfolding reading
 e449 = refl
 
+e450 : seen (codes "-\n  <!-- a -->\n\n  <!-- b -->\n- c") ≡ opens (Item 45 0 2) ∷ leaf Html (codes "<!-- a -->" ∷ []) ∷ leaf Html (codes "<!-- b -->" ∷ []) ∷ closes ∷ opens (Item 45 0 2) ∷ leaf Paragraph (codes "c" ∷ []) ∷ closes ∷ []
+unfolding reading
+e450 = refl
+
 pub blocks18 : AreBlocks18
-blocks18 = record { e426 = e426; e427 = e427; e428 = e428; e429 = e429; e430 = e430; e431 = e431; e432 = e432; e433 = e433; e434 = e434; e435 = e435; e436 = e436; e437 = e437; e438 = e438; e439 = e439; e440 = e440; e441 = e441; e442 = e442; e443 = e443; e444 = e444; e445 = e445; e446 = e446; e447 = e447; e448 = e448; e449 = e449 }
+blocks18 = record { e426 = e426; e427 = e427; e428 = e428; e429 = e429; e430 = e430; e431 = e431; e432 = e432; e433 = e433; e434 = e434; e435 = e435; e436 = e436; e437 = e437; e438 = e438; e439 = e439; e440 = e440; e441 = e441; e442 = e442; e443 = e443; e444 = e444; e445 = e445; e446 = e446; e447 = e447; e448 = e448; e449 = e449; e450 = e450 }

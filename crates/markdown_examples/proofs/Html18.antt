@@ -1,4 +1,4 @@
--- Examples 426 to 449, computed.
+-- Examples 426 to 450, computed.
 use Rattle.std.proofs.Common.{codes, refl}
 use Rattle.markdown_as_html.specs.Prints.{IsPrinted}
 use Rattle.markdown_as_html.proofs.Computing.{reading}
@@ -68,7 +68,7 @@ e441 : IsPrinted (codes "1. a\n1. b\n\n   4. c\n   4. d\n1. e") (codes "<ol>\n<l
 unfolding reading
 e441 = refl
 
-e442 : IsPrinted (codes "1. a\n4) b\n4) c") (codes "<ol>\n<li>a</li>\n</ol>\n<ol start=\"4\">\n<li>b</li>\n<li>c</li>\n</ol>\n")
+e442 : IsPrinted (codes "1. a\n9) b\n9) c") (codes "<ol>\n<li>a</li>\n</ol>\n<ol start=\"9\">\n<li>b</li>\n<li>c</li>\n</ol>\n")
 unfolding reading
 e442 = refl
 
@@ -88,7 +88,7 @@ e446 : IsPrinted (codes "> > a\n>\n> > b\n\n> > c\n> >\n> > d") (codes "<blockqu
 unfolding reading
 e446 = refl
 
-e447 : IsPrinted (codes "- > a\n  >\n  > b\n\n- c\n-\n\n  d") (codes "<ul>\n<li>\n<blockquote>\n<p>a</p>\n<p>b</p>\n</blockquote>\n</li>\n<li>\n<p>c</p>\n</li>\n<li></li>\n</ul>\n<p>d</p>\n")
+e447 : IsPrinted (codes "- > a\n  >\n  > b\n\n- c\n-\n\n  d\n```\ne\n```\nf") (codes "<ul>\n<li>\n<blockquote>\n<p>a</p>\n<p>b</p>\n</blockquote>\n</li>\n<li>\n<p>c</p>\n</li>\n<li></li>\n</ul>\n<p>d</p>\n<pre><code>e\n</code></pre>\n<p>f</p>\n")
 unfolding reading
 e447 = refl
 
@@ -96,9 +96,13 @@ e448 : IsPrinted (codes "-\n\n\n- a\n-\n\nb") (codes "<ul>\n<li></li>\n<li>\n<p>
 unfolding reading
 e448 = refl
 
-e449 : IsPrinted (codes "-\n  <!-- a -->\n\n  <!-- b -->\n- c") (codes "<ul>\n<li>\n<!-- a -->\n<!-- b -->\n</li>\n<li>\n<p>c</p>\n</li>\n</ul>\n")
+e449 : IsPrinted (codes "> | [a](/u) | b |\n> |-|:-:|\n> | c | <http://x> |\n\n> - | d |\n>   |-|") (codes "<blockquote>\n<table>\n<thead>\n<tr>\n<th><a href=\"/u\">a</a></th>\n<th align=\"center\">b</th>\n</tr>\n</thead>\n<tbody>\n<tr>\n<td>c</td>\n<td align=\"center\"><a href=\"http://x\">http://x</a></td>\n</tr>\n</tbody>\n</table>\n</blockquote>\n<blockquote>\n<ul>\n<li>\n<table>\n<thead>\n<tr>\n<th>d</th>\n</tr>\n</thead>\n</table>\n</li>\n</ul>\n</blockquote>\n")
 unfolding reading
 e449 = refl
 
+e450 : IsPrinted (codes "-\n  <!-- a -->\n\n  <!-- b -->\n- c") (codes "<ul>\n<li>\n<!-- a -->\n<!-- b -->\n</li>\n<li>\n<p>c</p>\n</li>\n</ul>\n")
+unfolding reading
+e450 = refl
+
 pub printed18 : ArePrinted18
-printed18 = record { e426 = e426; e427 = e427; e428 = e428; e429 = e429; e430 = e430; e431 = e431; e432 = e432; e433 = e433; e434 = e434; e435 = e435; e436 = e436; e437 = e437; e438 = e438; e439 = e439; e440 = e440; e441 = e441; e442 = e442; e443 = e443; e444 = e444; e445 = e445; e446 = e446; e447 = e447; e448 = e448; e449 = e449 }
+printed18 = record { e426 = e426; e427 = e427; e428 = e428; e429 = e429; e430 = e430; e431 = e431; e432 = e432; e433 = e433; e434 = e434; e435 = e435; e436 = e436; e437 = e437; e438 = e438; e439 = e439; e440 = e440; e441 = e441; e442 = e442; e443 = e443; e444 = e444; e445 = e445; e446 = e446; e447 = e447; e448 = e448; e449 = e449; e450 = e450 }

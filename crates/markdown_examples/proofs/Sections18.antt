@@ -1,9 +1,11 @@
--- Examples 426 to 449, computed.
+-- Examples 426 to 450, computed.
 use Rattle.std.proofs.Common.{◌≡◌, [], ◌∷◌, codes, true, false, refl}
-use Rattle.mad_sections.specs.declared.gutters.Gutter.TheVariants.{Bar, AlertBar, Bullet, Number, Task}
+use Rattle.mad_sections.specs.declared.gutters.Gutter.TheVariants.{Bar, AlertBar, Bullet, Number, Task, Code}
 use Rattle.mad_sections.specs.declared.gutters.Alert.TheVariants.{Note, Tip, Important, Warning, Caution}
 use Rattle.mad_md.specs.declared.composite.CompositeStyle.TheVariants.{Paragraph, Header}
-use Rattle.markdown_examples.specs.Rows.{plain, flagged, row, behind, blank}
+use Rattle.mad_md.specs.declared.alignment.Alignment.TheVariants.{Unspecified, Center}
+use Rattle.mad_md.specs.Lines.{table_rule}
+use Rattle.markdown_examples.specs.Rows.{plain, flagged, row, code_row, cells, behind, table_behind, blank}
 use Rattle.markdown_reader.specs.Mapping.{link_at}
 use Rattle.markdown_reader.specs.Markdown.{printable_sections, unmarked_links}
 use Rattle.markdown_examples.specs.Sections18.{AreSections18}
@@ -81,7 +83,7 @@ e441 : printable_sections (codes "1. a\n1. b\n\n   4. c\n   4. d\n1. e") ≡ beh
 unfolding sections
 e441 = refl
 
-e442 : printable_sections (codes "1. a\n4) b\n4) c") ≡ behind (Number 1 ∷ []) 1 (row Paragraph (plain (codes "a") ∷ []) ∷ []) ∷ behind (Number 4 ∷ []) 1 (row Paragraph (plain (codes "b") ∷ []) ∷ []) ∷ behind (Number 5 ∷ []) 1 (row Paragraph (plain (codes "c") ∷ []) ∷ []) ∷ []
+e442 : printable_sections (codes "1. a\n9) b\n9) c") ≡ behind (Number 1 ∷ []) 1 (row Paragraph (plain (codes "a") ∷ []) ∷ []) ∷ behind (Number 9 ∷ []) 1 (row Paragraph (plain (codes "b") ∷ []) ∷ []) ∷ behind (Number 10 ∷ []) 1 (row Paragraph (plain (codes "c") ∷ []) ∷ []) ∷ []
 unfolding sections
 e442 = refl
 
@@ -101,7 +103,7 @@ e446 : printable_sections (codes "> > a\n>\n> > b\n\n> > c\n> >\n> > d") ≡ beh
 unfolding sections
 e446 = refl
 
-e447 : printable_sections (codes "- > a\n  >\n  > b\n\n- c\n-\n\n  d") ≡ behind (Bullet ∷ Bar ∷ []) 2 (row Paragraph (plain (codes "a") ∷ []) ∷ []) ∷ blank (Bullet ∷ Bar ∷ []) ∷ behind (Bullet ∷ Bar ∷ []) 0 (row Paragraph (plain (codes "b") ∷ []) ∷ []) ∷ blank [] ∷ behind (Bullet ∷ []) 1 (row Paragraph (plain (codes "c") ∷ []) ∷ []) ∷ behind (Bullet ∷ []) 1 (row Paragraph ([]) ∷ []) ∷ blank [] ∷ behind [] 0 (row Paragraph (plain (codes "d") ∷ []) ∷ []) ∷ []
+e447 : printable_sections (codes "- > a\n  >\n  > b\n\n- c\n-\n\n  d\n```\ne\n```\nf") ≡ behind (Bullet ∷ Bar ∷ []) 2 (row Paragraph (plain (codes "a") ∷ []) ∷ []) ∷ blank (Bullet ∷ Bar ∷ []) ∷ behind (Bullet ∷ Bar ∷ []) 0 (row Paragraph (plain (codes "b") ∷ []) ∷ []) ∷ blank [] ∷ behind (Bullet ∷ []) 1 (row Paragraph (plain (codes "c") ∷ []) ∷ []) ∷ behind (Bullet ∷ []) 1 (row Paragraph ([]) ∷ []) ∷ blank [] ∷ behind [] 0 (row Paragraph (plain (codes "d") ∷ []) ∷ []) ∷ blank [] ∷ behind (Code ∷ []) 1 (code_row (plain (codes "e") ∷ []) ∷ []) ∷ blank [] ∷ behind [] 0 (row Paragraph (plain (codes "f") ∷ []) ∷ []) ∷ []
 unfolding sections
 e447 = refl
 
@@ -109,9 +111,17 @@ e448 : printable_sections (codes "-\n\n\n- a\n-\n\nb") ≡ behind (Bullet ∷ []
 unfolding sections
 e448 = refl
 
-e449 : printable_sections (codes "-\n  <!-- a -->\n\n  <!-- b -->\n- c") ≡ behind (Bullet ∷ []) 1 (row Paragraph ([]) ∷ []) ∷ blank [] ∷ behind (Bullet ∷ []) 1 (row Paragraph (plain (codes "c") ∷ []) ∷ []) ∷ []
+e449 : printable_sections (codes "> | [a](/u) | b |\n> |-|:-:|\n> | c | <http://x> |\n\n> - | d |\n>   |-|") ≡ table_behind (Bar ∷ []) 1 (table_rule (Unspecified ∷ Center ∷ []) ∷ cells ((flagged true false false false true (codes "a") ∷ []) ∷ (flagged true false false false false (codes "b") ∷ []) ∷ []) ∷ table_rule (Unspecified ∷ Center ∷ []) ∷ cells ((plain (codes "c") ∷ []) ∷ (flagged false false false false true (codes "http://x") ∷ []) ∷ []) ∷ table_rule (Unspecified ∷ Center ∷ []) ∷ []) ∷ blank [] ∷ table_behind (Bar ∷ Bullet ∷ []) 2 (table_rule (Unspecified ∷ []) ∷ cells ((flagged true false false false false (codes "d") ∷ []) ∷ []) ∷ table_rule (Unspecified ∷ []) ∷ []) ∷ []
 unfolding sections
 e449 = refl
 
+l449 : unmarked_links (codes "> | [a](/u) | b |\n> |-|:-:|\n> | c | <http://x> |\n\n> - | d |\n>   |-|") ≡ link_at 0 (codes "/u") ∷ link_at 0 (codes "http://x") ∷ []
+unfolding sections
+l449 = refl
+
+e450 : printable_sections (codes "-\n  <!-- a -->\n\n  <!-- b -->\n- c") ≡ behind (Bullet ∷ []) 1 (row Paragraph ([]) ∷ []) ∷ blank [] ∷ behind (Bullet ∷ []) 1 (row Paragraph (plain (codes "c") ∷ []) ∷ []) ∷ []
+unfolding sections
+e450 = refl
+
 pub sections18 : AreSections18
-sections18 = record { e426 = e426; e427 = e427; e428 = e428; l428 = l428; e429 = e429; e430 = e430; e431 = e431; e432 = e432; e433 = e433; e434 = e434; e435 = e435; l435 = l435; e436 = e436; e437 = e437; e438 = e438; e439 = e439; e440 = e440; e441 = e441; e442 = e442; e443 = e443; e444 = e444; e445 = e445; e446 = e446; e447 = e447; e448 = e448; e449 = e449 }
+sections18 = record { e426 = e426; e427 = e427; e428 = e428; l428 = l428; e429 = e429; e430 = e430; e431 = e431; e432 = e432; e433 = e433; e434 = e434; e435 = e435; l435 = l435; e436 = e436; e437 = e437; e438 = e438; e439 = e439; e440 = e440; e441 = e441; e442 = e442; e443 = e443; e444 = e444; e445 = e445; e446 = e446; e447 = e447; e448 = e448; e449 = e449; l449 = l449; e450 = e450 }

@@ -1,7 +1,7 @@
--- Examples 426 to 449: what one sees of their blocks.
+-- Examples 426 to 450: what one sees of their blocks.
 use Rattle.std.specs.Prelude.{◌≡◌, [], ◌∷◌, codes}
 use Rattle.markdown_blocks.specs.declared.containers.Container.TheVariants.{Quote, Item}
-use Rattle.markdown_leaves.specs.declared.parts.Kind.TheVariants.{Paragraph, Heading, Html, Definitions}
+use Rattle.markdown_leaves.specs.declared.parts.Kind.TheVariants.{Paragraph, Heading, Fenced, Html, Table, Definitions}
 use Rattle.markdown_examples.specs.Seen.{opens, closes, leaf, seen}
 
 pub record AreBlocks18 : Type 0 where
@@ -21,11 +21,12 @@ pub record AreBlocks18 : Type 0 where
   pub e439 : seen (codes "> [!CAUTION]\n>\n> a\n\n- [!NOTE]\n  b") ≡ opens Quote ∷ leaf Paragraph (codes "[!CAUTION]" ∷ []) ∷ leaf Paragraph (codes "a" ∷ []) ∷ closes ∷ opens (Item 45 0 2) ∷ leaf Paragraph (codes "[!NOTE]" ∷ codes "b" ∷ []) ∷ closes ∷ []
   pub e440 : seen (codes "- > [!WARNING]\n  > a\n  >\n  > b\n\n[!NOTE]") ≡ opens (Item 45 0 2) ∷ opens Quote ∷ leaf Paragraph (codes "[!WARNING]" ∷ codes "a" ∷ []) ∷ leaf Paragraph (codes "b" ∷ []) ∷ closes ∷ closes ∷ leaf Paragraph (codes "[!NOTE]" ∷ []) ∷ []
   pub e441 : seen (codes "1. a\n1. b\n\n   4. c\n   4. d\n1. e") ≡ opens (Item 46 1 3) ∷ leaf Paragraph (codes "a" ∷ []) ∷ closes ∷ opens (Item 46 1 3) ∷ leaf Paragraph (codes "b" ∷ []) ∷ opens (Item 46 4 3) ∷ leaf Paragraph (codes "c" ∷ []) ∷ closes ∷ opens (Item 46 4 3) ∷ leaf Paragraph (codes "d" ∷ []) ∷ closes ∷ closes ∷ opens (Item 46 1 3) ∷ leaf Paragraph (codes "e" ∷ []) ∷ closes ∷ []
-  pub e442 : seen (codes "1. a\n4) b\n4) c") ≡ opens (Item 46 1 3) ∷ leaf Paragraph (codes "a" ∷ []) ∷ closes ∷ opens (Item 41 4 3) ∷ leaf Paragraph (codes "b" ∷ []) ∷ closes ∷ opens (Item 41 4 3) ∷ leaf Paragraph (codes "c" ∷ []) ∷ closes ∷ []
+  pub e442 : seen (codes "1. a\n9) b\n9) c") ≡ opens (Item 46 1 3) ∷ leaf Paragraph (codes "a" ∷ []) ∷ closes ∷ opens (Item 41 9 3) ∷ leaf Paragraph (codes "b" ∷ []) ∷ closes ∷ opens (Item 41 9 3) ∷ leaf Paragraph (codes "c" ∷ []) ∷ closes ∷ []
   pub e443 : seen (codes "1. a\n\n[x]: y\n\n1. b\n<!-- c -->\n1. d") ≡ opens (Item 46 1 3) ∷ leaf Paragraph (codes "a" ∷ []) ∷ closes ∷ leaf Definitions (codes "[x]: y" ∷ []) ∷ opens (Item 46 1 3) ∷ leaf Paragraph (codes "b" ∷ []) ∷ closes ∷ leaf Html (codes "<!-- c -->" ∷ []) ∷ opens (Item 46 1 3) ∷ leaf Paragraph (codes "d" ∷ []) ∷ closes ∷ []
   pub e444 : seen (codes "1. a\n>\n1. b\n- c\n1. d") ≡ opens (Item 46 1 3) ∷ leaf Paragraph (codes "a" ∷ []) ∷ closes ∷ opens Quote ∷ closes ∷ opens (Item 46 1 3) ∷ leaf Paragraph (codes "b" ∷ []) ∷ closes ∷ opens (Item 45 0 2) ∷ leaf Paragraph (codes "c" ∷ []) ∷ closes ∷ opens (Item 46 1 3) ∷ leaf Paragraph (codes "d" ∷ []) ∷ closes ∷ []
   pub e445 : seen (codes "- a\n\n  b\n\n> - c\n>\n>   d") ≡ opens (Item 45 0 2) ∷ leaf Paragraph (codes "a" ∷ []) ∷ leaf Paragraph (codes "b" ∷ []) ∷ closes ∷ opens Quote ∷ opens (Item 45 0 2) ∷ leaf Paragraph (codes "c" ∷ []) ∷ leaf Paragraph (codes "d" ∷ []) ∷ closes ∷ closes ∷ []
   pub e446 : seen (codes "> > a\n>\n> > b\n\n> > c\n> >\n> > d") ≡ opens Quote ∷ opens Quote ∷ leaf Paragraph (codes "a" ∷ []) ∷ closes ∷ opens Quote ∷ leaf Paragraph (codes "b" ∷ []) ∷ closes ∷ closes ∷ opens Quote ∷ opens Quote ∷ leaf Paragraph (codes "c" ∷ []) ∷ leaf Paragraph (codes "d" ∷ []) ∷ closes ∷ closes ∷ []
-  pub e447 : seen (codes "- > a\n  >\n  > b\n\n- c\n-\n\n  d") ≡ opens (Item 45 0 2) ∷ opens Quote ∷ leaf Paragraph (codes "a" ∷ []) ∷ leaf Paragraph (codes "b" ∷ []) ∷ closes ∷ closes ∷ opens (Item 45 0 2) ∷ leaf Paragraph (codes "c" ∷ []) ∷ closes ∷ opens (Item 45 0 2) ∷ closes ∷ leaf Paragraph (codes "d" ∷ []) ∷ []
+  pub e447 : seen (codes "- > a\n  >\n  > b\n\n- c\n-\n\n  d\n```\ne\n```\nf") ≡ opens (Item 45 0 2) ∷ opens Quote ∷ leaf Paragraph (codes "a" ∷ []) ∷ leaf Paragraph (codes "b" ∷ []) ∷ closes ∷ closes ∷ opens (Item 45 0 2) ∷ leaf Paragraph (codes "c" ∷ []) ∷ closes ∷ opens (Item 45 0 2) ∷ closes ∷ leaf Paragraph (codes "d" ∷ []) ∷ leaf Fenced ([] ∷ codes "e" ∷ []) ∷ leaf Paragraph (codes "f" ∷ []) ∷ []
   pub e448 : seen (codes "-\n\n\n- a\n-\n\nb") ≡ opens (Item 45 0 2) ∷ closes ∷ opens (Item 45 0 2) ∷ leaf Paragraph (codes "a" ∷ []) ∷ closes ∷ opens (Item 45 0 2) ∷ closes ∷ leaf Paragraph (codes "b" ∷ []) ∷ []
-  pub e449 : seen (codes "-\n  <!-- a -->\n\n  <!-- b -->\n- c") ≡ opens (Item 45 0 2) ∷ leaf Html (codes "<!-- a -->" ∷ []) ∷ leaf Html (codes "<!-- b -->" ∷ []) ∷ closes ∷ opens (Item 45 0 2) ∷ leaf Paragraph (codes "c" ∷ []) ∷ closes ∷ []
+  pub e449 : seen (codes "> | [a](/u) | b |\n> |-|:-:|\n> | c | <http://x> |\n\n> - | d |\n>   |-|") ≡ opens Quote ∷ leaf (Table 2) (codes "| [a](/u) | b |" ∷ codes "|-|:-:|" ∷ codes "| c | <http://x> |" ∷ []) ∷ closes ∷ opens Quote ∷ opens (Item 45 0 2) ∷ leaf (Table 1) (codes "| d |" ∷ codes "|-|" ∷ []) ∷ closes ∷ closes ∷ []
+  pub e450 : seen (codes "-\n  <!-- a -->\n\n  <!-- b -->\n- c") ≡ opens (Item 45 0 2) ∷ leaf Html (codes "<!-- a -->" ∷ []) ∷ leaf Html (codes "<!-- b -->" ∷ []) ∷ closes ∷ opens (Item 45 0 2) ∷ leaf Paragraph (codes "c" ∷ []) ∷ closes ∷ []

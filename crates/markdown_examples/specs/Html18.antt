@@ -1,4 +1,4 @@
--- Examples 426 to 449: each text with its html.
+-- Examples 426 to 450: each text with its html.
 use Rattle.std.specs.Prelude.{codes}
 use Rattle.markdown_as_html.specs.Prints.{IsPrinted}
 
@@ -19,11 +19,12 @@ pub record ArePrinted18 : Type 0 where
   pub e439 : IsPrinted (codes "> [!CAUTION]\n>\n> a\n\n- [!NOTE]\n  b") (codes "<blockquote>\n<p>[!CAUTION]</p>\n<p>a</p>\n</blockquote>\n<ul>\n<li>[!NOTE]\nb</li>\n</ul>\n")
   pub e440 : IsPrinted (codes "- > [!WARNING]\n  > a\n  >\n  > b\n\n[!NOTE]") (codes "<ul>\n<li>\n<blockquote>\n<p>[!WARNING]\na</p>\n<p>b</p>\n</blockquote>\n</li>\n</ul>\n<p>[!NOTE]</p>\n")
   pub e441 : IsPrinted (codes "1. a\n1. b\n\n   4. c\n   4. d\n1. e") (codes "<ol>\n<li>\n<p>a</p>\n</li>\n<li>\n<p>b</p>\n<ol start=\"4\">\n<li>c</li>\n<li>d</li>\n</ol>\n</li>\n<li>\n<p>e</p>\n</li>\n</ol>\n")
-  pub e442 : IsPrinted (codes "1. a\n4) b\n4) c") (codes "<ol>\n<li>a</li>\n</ol>\n<ol start=\"4\">\n<li>b</li>\n<li>c</li>\n</ol>\n")
+  pub e442 : IsPrinted (codes "1. a\n9) b\n9) c") (codes "<ol>\n<li>a</li>\n</ol>\n<ol start=\"9\">\n<li>b</li>\n<li>c</li>\n</ol>\n")
   pub e443 : IsPrinted (codes "1. a\n\n[x]: y\n\n1. b\n<!-- c -->\n1. d") (codes "<ol>\n<li>a</li>\n</ol>\n<ol>\n<li>b</li>\n</ol>\n<!-- c -->\n<ol>\n<li>d</li>\n</ol>\n")
   pub e444 : IsPrinted (codes "1. a\n>\n1. b\n- c\n1. d") (codes "<ol>\n<li>a</li>\n</ol>\n<blockquote>\n</blockquote>\n<ol>\n<li>b</li>\n</ol>\n<ul>\n<li>c</li>\n</ul>\n<ol>\n<li>d</li>\n</ol>\n")
   pub e445 : IsPrinted (codes "- a\n\n  b\n\n> - c\n>\n>   d") (codes "<ul>\n<li>\n<p>a</p>\n<p>b</p>\n</li>\n</ul>\n<blockquote>\n<ul>\n<li>\n<p>c</p>\n<p>d</p>\n</li>\n</ul>\n</blockquote>\n")
   pub e446 : IsPrinted (codes "> > a\n>\n> > b\n\n> > c\n> >\n> > d") (codes "<blockquote>\n<blockquote>\n<p>a</p>\n</blockquote>\n<blockquote>\n<p>b</p>\n</blockquote>\n</blockquote>\n<blockquote>\n<blockquote>\n<p>c</p>\n<p>d</p>\n</blockquote>\n</blockquote>\n")
-  pub e447 : IsPrinted (codes "- > a\n  >\n  > b\n\n- c\n-\n\n  d") (codes "<ul>\n<li>\n<blockquote>\n<p>a</p>\n<p>b</p>\n</blockquote>\n</li>\n<li>\n<p>c</p>\n</li>\n<li></li>\n</ul>\n<p>d</p>\n")
+  pub e447 : IsPrinted (codes "- > a\n  >\n  > b\n\n- c\n-\n\n  d\n```\ne\n```\nf") (codes "<ul>\n<li>\n<blockquote>\n<p>a</p>\n<p>b</p>\n</blockquote>\n</li>\n<li>\n<p>c</p>\n</li>\n<li></li>\n</ul>\n<p>d</p>\n<pre><code>e\n</code></pre>\n<p>f</p>\n")
   pub e448 : IsPrinted (codes "-\n\n\n- a\n-\n\nb") (codes "<ul>\n<li></li>\n<li>\n<p>a</p>\n</li>\n<li></li>\n</ul>\n<p>b</p>\n")
-  pub e449 : IsPrinted (codes "-\n  <!-- a -->\n\n  <!-- b -->\n- c") (codes "<ul>\n<li>\n<!-- a -->\n<!-- b -->\n</li>\n<li>\n<p>c</p>\n</li>\n</ul>\n")
+  pub e449 : IsPrinted (codes "> | [a](/u) | b |\n> |-|:-:|\n> | c | <http://x> |\n\n> - | d |\n>   |-|") (codes "<blockquote>\n<table>\n<thead>\n<tr>\n<th><a href=\"/u\">a</a></th>\n<th align=\"center\">b</th>\n</tr>\n</thead>\n<tbody>\n<tr>\n<td>c</td>\n<td align=\"center\"><a href=\"http://x\">http://x</a></td>\n</tr>\n</tbody>\n</table>\n</blockquote>\n<blockquote>\n<ul>\n<li>\n<table>\n<thead>\n<tr>\n<th>d</th>\n</tr>\n</thead>\n</table>\n</li>\n</ul>\n</blockquote>\n")
+  pub e450 : IsPrinted (codes "-\n  <!-- a -->\n\n  <!-- b -->\n- c") (codes "<ul>\n<li>\n<!-- a -->\n<!-- b -->\n</li>\n<li>\n<p>c</p>\n</li>\n</ul>\n")

@@ -1,9 +1,11 @@
--- Examples 426 to 449: their sections and links.
+-- Examples 426 to 450: their sections and links.
 use Rattle.std.specs.Prelude.{◌≡◌, [], ◌∷◌, codes, true, false}
-use Rattle.mad_sections.specs.declared.gutters.Gutter.TheVariants.{Bar, AlertBar, Bullet, Number, Task}
+use Rattle.mad_sections.specs.declared.gutters.Gutter.TheVariants.{Bar, AlertBar, Bullet, Number, Task, Code}
 use Rattle.mad_sections.specs.declared.gutters.Alert.TheVariants.{Note, Tip, Important, Warning, Caution}
 use Rattle.mad_md.specs.declared.composite.CompositeStyle.TheVariants.{Paragraph, Header}
-use Rattle.markdown_examples.specs.Rows.{plain, flagged, row, behind, blank}
+use Rattle.mad_md.specs.declared.alignment.Alignment.TheVariants.{Unspecified, Center}
+use Rattle.mad_md.specs.Lines.{table_rule}
+use Rattle.markdown_examples.specs.Rows.{plain, flagged, row, code_row, cells, behind, table_behind, blank}
 use Rattle.markdown_reader.specs.Mapping.{link_at}
 use Rattle.markdown_reader.specs.Markdown.{printable_sections, unmarked_links}
 
@@ -26,11 +28,13 @@ pub record AreSections18 : Type 0 where
   pub e439 : printable_sections (codes "> [!CAUTION]\n>\n> a\n\n- [!NOTE]\n  b") ≡ behind (AlertBar Caution ∷ []) 1 (row Paragraph (flagged true false false false false (codes "CAUTION") ∷ []) ∷ []) ∷ blank (AlertBar Caution ∷ []) ∷ behind (AlertBar Caution ∷ []) 0 (row Paragraph (plain (codes "a") ∷ []) ∷ []) ∷ blank [] ∷ behind (Bullet ∷ []) 1 (row Paragraph (plain (codes "[!NOTE] b") ∷ []) ∷ []) ∷ []
   pub e440 : printable_sections (codes "- > [!WARNING]\n  > a\n  >\n  > b\n\n[!NOTE]") ≡ behind (Bullet ∷ AlertBar Warning ∷ []) 2 (row Paragraph (flagged true false false false false (codes "WARNING") ∷ []) ∷ row Paragraph (plain (codes "a") ∷ []) ∷ []) ∷ blank (Bullet ∷ AlertBar Warning ∷ []) ∷ behind (Bullet ∷ AlertBar Warning ∷ []) 0 (row Paragraph (plain (codes "b") ∷ []) ∷ []) ∷ blank [] ∷ behind [] 0 (row Paragraph (plain (codes "[!NOTE]") ∷ []) ∷ []) ∷ []
   pub e441 : printable_sections (codes "1. a\n1. b\n\n   4. c\n   4. d\n1. e") ≡ behind (Number 1 ∷ []) 1 (row Paragraph (plain (codes "a") ∷ []) ∷ []) ∷ behind (Number 2 ∷ []) 1 (row Paragraph (plain (codes "b") ∷ []) ∷ []) ∷ blank [] ∷ behind (Number 2 ∷ Number 4 ∷ []) 1 (row Paragraph (plain (codes "c") ∷ []) ∷ []) ∷ behind (Number 2 ∷ Number 5 ∷ []) 1 (row Paragraph (plain (codes "d") ∷ []) ∷ []) ∷ behind (Number 3 ∷ []) 1 (row Paragraph (plain (codes "e") ∷ []) ∷ []) ∷ []
-  pub e442 : printable_sections (codes "1. a\n4) b\n4) c") ≡ behind (Number 1 ∷ []) 1 (row Paragraph (plain (codes "a") ∷ []) ∷ []) ∷ behind (Number 4 ∷ []) 1 (row Paragraph (plain (codes "b") ∷ []) ∷ []) ∷ behind (Number 5 ∷ []) 1 (row Paragraph (plain (codes "c") ∷ []) ∷ []) ∷ []
+  pub e442 : printable_sections (codes "1. a\n9) b\n9) c") ≡ behind (Number 1 ∷ []) 1 (row Paragraph (plain (codes "a") ∷ []) ∷ []) ∷ behind (Number 9 ∷ []) 1 (row Paragraph (plain (codes "b") ∷ []) ∷ []) ∷ behind (Number 10 ∷ []) 1 (row Paragraph (plain (codes "c") ∷ []) ∷ []) ∷ []
   pub e443 : printable_sections (codes "1. a\n\n[x]: y\n\n1. b\n<!-- c -->\n1. d") ≡ behind (Number 1 ∷ []) 1 (row Paragraph (plain (codes "a") ∷ []) ∷ []) ∷ blank [] ∷ behind (Number 1 ∷ []) 1 (row Paragraph (plain (codes "b") ∷ []) ∷ []) ∷ behind (Number 1 ∷ []) 1 (row Paragraph (plain (codes "d") ∷ []) ∷ []) ∷ []
   pub e444 : printable_sections (codes "1. a\n>\n1. b\n- c\n1. d") ≡ behind (Number 1 ∷ []) 1 (row Paragraph (plain (codes "a") ∷ []) ∷ []) ∷ behind (Number 1 ∷ []) 1 (row Paragraph (plain (codes "b") ∷ []) ∷ []) ∷ behind (Bullet ∷ []) 1 (row Paragraph (plain (codes "c") ∷ []) ∷ []) ∷ behind (Number 1 ∷ []) 1 (row Paragraph (plain (codes "d") ∷ []) ∷ []) ∷ []
   pub e445 : printable_sections (codes "- a\n\n  b\n\n> - c\n>\n>   d") ≡ behind (Bullet ∷ []) 1 (row Paragraph (plain (codes "a") ∷ []) ∷ []) ∷ blank [] ∷ behind (Bullet ∷ []) 0 (row Paragraph (plain (codes "b") ∷ []) ∷ []) ∷ blank [] ∷ behind (Bar ∷ Bullet ∷ []) 2 (row Paragraph (plain (codes "c") ∷ []) ∷ []) ∷ blank (Bar ∷ []) ∷ behind (Bar ∷ Bullet ∷ []) 0 (row Paragraph (plain (codes "d") ∷ []) ∷ []) ∷ []
   pub e446 : printable_sections (codes "> > a\n>\n> > b\n\n> > c\n> >\n> > d") ≡ behind (Bar ∷ Bar ∷ []) 2 (row Paragraph (plain (codes "a") ∷ []) ∷ []) ∷ blank (Bar ∷ []) ∷ behind (Bar ∷ Bar ∷ []) 1 (row Paragraph (plain (codes "b") ∷ []) ∷ []) ∷ blank [] ∷ behind (Bar ∷ Bar ∷ []) 2 (row Paragraph (plain (codes "c") ∷ []) ∷ []) ∷ blank (Bar ∷ Bar ∷ []) ∷ behind (Bar ∷ Bar ∷ []) 0 (row Paragraph (plain (codes "d") ∷ []) ∷ []) ∷ []
-  pub e447 : printable_sections (codes "- > a\n  >\n  > b\n\n- c\n-\n\n  d") ≡ behind (Bullet ∷ Bar ∷ []) 2 (row Paragraph (plain (codes "a") ∷ []) ∷ []) ∷ blank (Bullet ∷ Bar ∷ []) ∷ behind (Bullet ∷ Bar ∷ []) 0 (row Paragraph (plain (codes "b") ∷ []) ∷ []) ∷ blank [] ∷ behind (Bullet ∷ []) 1 (row Paragraph (plain (codes "c") ∷ []) ∷ []) ∷ behind (Bullet ∷ []) 1 (row Paragraph ([]) ∷ []) ∷ blank [] ∷ behind [] 0 (row Paragraph (plain (codes "d") ∷ []) ∷ []) ∷ []
+  pub e447 : printable_sections (codes "- > a\n  >\n  > b\n\n- c\n-\n\n  d\n```\ne\n```\nf") ≡ behind (Bullet ∷ Bar ∷ []) 2 (row Paragraph (plain (codes "a") ∷ []) ∷ []) ∷ blank (Bullet ∷ Bar ∷ []) ∷ behind (Bullet ∷ Bar ∷ []) 0 (row Paragraph (plain (codes "b") ∷ []) ∷ []) ∷ blank [] ∷ behind (Bullet ∷ []) 1 (row Paragraph (plain (codes "c") ∷ []) ∷ []) ∷ behind (Bullet ∷ []) 1 (row Paragraph ([]) ∷ []) ∷ blank [] ∷ behind [] 0 (row Paragraph (plain (codes "d") ∷ []) ∷ []) ∷ blank [] ∷ behind (Code ∷ []) 1 (code_row (plain (codes "e") ∷ []) ∷ []) ∷ blank [] ∷ behind [] 0 (row Paragraph (plain (codes "f") ∷ []) ∷ []) ∷ []
   pub e448 : printable_sections (codes "-\n\n\n- a\n-\n\nb") ≡ behind (Bullet ∷ []) 1 (row Paragraph ([]) ∷ []) ∷ blank [] ∷ behind (Bullet ∷ []) 1 (row Paragraph (plain (codes "a") ∷ []) ∷ []) ∷ behind (Bullet ∷ []) 1 (row Paragraph ([]) ∷ []) ∷ blank [] ∷ behind [] 0 (row Paragraph (plain (codes "b") ∷ []) ∷ []) ∷ []
-  pub e449 : printable_sections (codes "-\n  <!-- a -->\n\n  <!-- b -->\n- c") ≡ behind (Bullet ∷ []) 1 (row Paragraph ([]) ∷ []) ∷ blank [] ∷ behind (Bullet ∷ []) 1 (row Paragraph (plain (codes "c") ∷ []) ∷ []) ∷ []
+  pub e449 : printable_sections (codes "> | [a](/u) | b |\n> |-|:-:|\n> | c | <http://x> |\n\n> - | d |\n>   |-|") ≡ table_behind (Bar ∷ []) 1 (table_rule (Unspecified ∷ Center ∷ []) ∷ cells ((flagged true false false false true (codes "a") ∷ []) ∷ (flagged true false false false false (codes "b") ∷ []) ∷ []) ∷ table_rule (Unspecified ∷ Center ∷ []) ∷ cells ((plain (codes "c") ∷ []) ∷ (flagged false false false false true (codes "http://x") ∷ []) ∷ []) ∷ table_rule (Unspecified ∷ Center ∷ []) ∷ []) ∷ blank [] ∷ table_behind (Bar ∷ Bullet ∷ []) 2 (table_rule (Unspecified ∷ []) ∷ cells ((flagged true false false false false (codes "d") ∷ []) ∷ []) ∷ table_rule (Unspecified ∷ []) ∷ []) ∷ []
+  pub l449 : unmarked_links (codes "> | [a](/u) | b |\n> |-|:-:|\n> | c | <http://x> |\n\n> - | d |\n>   |-|") ≡ link_at 0 (codes "/u") ∷ link_at 0 (codes "http://x") ∷ []
+  pub e450 : printable_sections (codes "-\n  <!-- a -->\n\n  <!-- b -->\n- c") ≡ behind (Bullet ∷ []) 1 (row Paragraph ([]) ∷ []) ∷ blank [] ∷ behind (Bullet ∷ []) 1 (row Paragraph (plain (codes "c") ∷ []) ∷ []) ∷ []

@@ -1,4 +1,4 @@
-//! Examples of Markdown, as theorems: 449 texts of our own, computed.
+//! Examples of Markdown, as theorems: 450 texts of our own, computed.
 //!
 //! In the order of the work:
 //!

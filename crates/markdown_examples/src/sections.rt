@@ -121,7 +121,7 @@ pub fn examples_17()
     ensures { AreSections17 }
 {}
 
-/// The sections and links of examples 426 to 449.
+/// The sections and links of examples 426 to 450.
 #[tactic(auto, using(crate::proofs::Sections18::sections18))]
 pub fn examples_18()
     ensures { AreSections18 }
