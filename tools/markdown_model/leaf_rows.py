@@ -215,7 +215,7 @@ def code_rows(lines: list[Normal], width: int | None) -> list[Row]:
     """Rows of code, each as wide as the widest line, or as the room."""
     code = [line.composite.compounds for line in lines]
     widest = max(map(row_columns, code))
-    place = widest if width is None else min(widest, width)
+    place = widest if width is None or width < 3 else min(widest, width)
     return [placed(row, place, Align.LEFT) for line in code for row in wrap(line, width)]
 
 

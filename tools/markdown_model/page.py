@@ -1,6 +1,6 @@
 """The rows of a text's page at a width, in a skin without styles: python3 -m markdown_model.page [--tags] [--sections] WIDTH FILE ..
 
-A width of 0 is none. With --sections it writes the sections that are shown there, a table that has no room as a list. With --tags, tags of html set
+WIDTH is a number or `none`. With --sections it writes the sections that are shown there, a table that has no room as a list. With --tags, tags of html set
 flags, which the library doesn't read.
 """
 from __future__ import annotations
@@ -10,9 +10,9 @@ import gzip
 from pathlib import Path
 
 from . import dump
-from .leaf_rows import Cells, Row, columns, fits_as_table, layout, table_of
-from .lines import EMPTY, Compound, Line, paragraph
-from .sections import Gutter, Section, sections_of
+from .leaf_rows import Cells, Row, columns, fits_as_table, layout, placed, table_of
+from .lines import EMPTY, Align, Compound, Line, paragraph
+from .sections import CODE_SIDES, Gutter, Section, sections_of
 
 PageRow = tuple[str, Row]
 
@@ -62,30 +62,44 @@ def section_rows(width: int | None, section: Section) -> list[PageRow]:
     return [(first if k == 0 else rest, row) for k, row in enumerate(layout(room(width, section.gutters), section.lines))]
 
 
+def boxed_rows(width: int | None, section: Section) -> list[PageRow]:
+    """The same where code has a background: of the two columns of code's gutter one is behind the row, and the row fills what is between them."""
+    rows = section_rows(width, section)
+    columns_left = room(width, section.gutters)
+    if gutters_shown(width, section.gutters)[-1:] != [CODE_SIDES]:
+        return rows
+    return [(front[:-1], placed(row, columns_left or 0, Align.LEFT) + [Compound(" ")]) for front, row in rows]
+
+
 def shown_sections(width: int | None, sections: list[Section]) -> list[Section]:
     return [u for s in sections for u in unfolded(width, s)]
 
 
-def texts(width: int | None, sections: list[Section]) -> list[str]:
+def texts(width: int | None, sections: list[Section], boxes: bool = False) -> list[str]:
     """The rows of a page, as texts."""
-    return [front + "".join(c.src for c in row) for s in shown_sections(width, sections) for front, row in section_rows(width, s)]
+    rows_of = boxed_rows if boxes else section_rows
+    return [front + "".join(c.src for c in row) for s in shown_sections(width, sections) for front, row in rows_of(width, s)]
 
 
-def page(source: str, width: int | None, tags: bool = False) -> list[str]:
-    return texts(width, sections_of(source, tags))
+def page(source: str, width: int | None, tags: bool = False, streamed: bool = False, boxes: bool = False) -> list[str]:
+    return texts(width, sections_of(source, tags, streamed), boxes)
+
+
+def width_of(word: str) -> int | None:
+    return None if word == "none" else int(word)
 
 
 def main() -> None:
     parser = argparse.ArgumentParser(usage="python3 -m markdown_model.page [--tags] [--sections] WIDTH FILE ..")
     parser.add_argument("--tags", action="store_true")
     parser.add_argument("--sections", action="store_true")
-    parser.add_argument("width", type=int)
+    parser.add_argument("width", type=width_of)
     parser.add_argument("files", nargs="+", type=Path)
     given = parser.parse_args()
     for path in given.files:
         raw = path.read_bytes()
         sections = sections_of((gzip.decompress(raw) if path.suffix == ".gz" else raw).decode("utf-8", "replace"), given.tags)
-        rows = dump.picture(shown_sections(given.width or None, sections)) if given.sections else texts(given.width or None, sections)
+        rows = dump.picture(shown_sections(given.width, sections)) if given.sections else texts(given.width, sections)
         print("\n".join(rows))
 
 

@@ -5,13 +5,13 @@
 from __future__ import annotations
 
 import re
-from bisect import bisect_left
+from bisect import bisect_left, bisect_right
 from collections.abc import Callable, Iterator
 from dataclasses import dataclass, field, replace
 
 from . import leaves, tags
 from .blocks import Node, cells_of, lines_of, read_blocks, runs_of
-from .html import definitions, text_of_leaf
+from .html import define, definitions, text_of_leaf
 from .leaves import Row, cell_runs, compounds, expanded, html_rows, links_of
 from .lines import CODE, EMPTY, PARAGRAPH, Align, Composite, Compound, HorizontalRule, Line, Normal, TableRow, TableRule, header, paragraph
 from .steady import steady
@@ -92,10 +92,11 @@ class Open:
 @dataclass
 class Mapping:
     """`open` are the containers that are open; of the last `fresh` nothing is shown yet. `last` is the leaf that was shown last, and the containers that
-    it was in. With `tags`, tags of html set flags."""
+    it was in. With `tags`, tags of html set flags. With `streamed`, a leaf knows the definitions up to it alone, as in a text that comes in pieces."""
 
     source: str
     tags: bool = False
+    streamed: bool = False
     sections: list[Section] = field(default_factory=list)
     links: list[tuple[int, str]] = field(default_factory=list)
     open: list[Open] = field(default_factory=list)
@@ -105,11 +106,8 @@ class Mapping:
     def __post_init__(self) -> None:
         self.runs: Callable[[str, dict], list[Row]] = tags.runs_of_leaf if self.tags else leaves.runs_of_leaf
         doc = read_blocks(self.source)
-        self.defs = definitions(doc)
-        inside = {n for x in html_leaves(doc) for n in range(x.first, x.last + 1)}
-        ends = quote_ends(doc)
-        blank = [n for n, x in enumerate(lines_of(self.source), 1) if not x.strip(" \t>") and n not in inside]
-        self.blank_lines = [(n, ends.get(n, len(self.source))) for n in blank]
+        self.defs = {} if self.streamed else definitions(doc)
+        self.blank_lines = blank_lines(self.source, doc)
         self.walk(doc)
 
     # ---- containers
@@ -136,7 +134,9 @@ class Mapping:
     # ---- leaves
 
     def show(self, node: Node) -> None:
-        if node.kind == "html":
+        if node.kind == "def":
+            define(self.defs, node)
+        elif node.kind == "html":
             for part in self.html_parts(node):
                 self.put(*part)
         elif node.kind == "para" and self.fresh:
@@ -207,27 +207,32 @@ class Mapping:
         self.last = node, list(self.open)
 
     def apart(self, a: Node, b: Node) -> bool:
-        """Whether a blank row is between two neighbours that are shown: where the source has a blank line (but for quote signs) that is in no
-        quote which ends before the second, and beside headings, code, tables and rules."""
-        between = self.blank_lines[bisect_left(self.blank_lines, (a.last + 1,)):bisect_left(self.blank_lines, (b.first,))]
-        return any(end >= b.first for _, end in between) or a.kind in LARGE or b.kind in LARGE
+        """Whether a blank row is between two neighbours that are shown: where a blank line is, and beside headings, code, tables and rules."""
+        between = bisect_left(self.blank_lines, b.first) - bisect_right(self.blank_lines, a.last)
+        return between > 0 or a.kind in LARGE or b.kind in LARGE
 
 
-def quote_ends(node: Node) -> dict[int, int]:
-    """Of each line in a quote the last line of the innermost quote that it is in."""
+def blank_lines(source: str, doc: Node) -> list[int]:
+    """The blank lines, but for quote signs, those of html apart. One in a quote counts where the next block is in that quote too."""
+    blocks = list(blocks_in(doc))
+    inside = {n for x in blocks if x.kind == "html" for n in range(x.first, x.last + 1)}
     ends: dict[int, int] = {}
-    for c in node.children:
-        if c.kind == "quote":
-            ends.update((n, c.last) for n in range(c.first, c.last + 1))
-        ends.update(quote_ends(c))
-    return ends
+    for x in blocks:  # an inner quote comes after those around it
+        if x.kind == "quote":
+            ends.update((n, x.last) for n in range(x.first, x.last + 1))
+    starts = sorted({x.first for x in blocks})
+
+    def counts(n: int) -> bool:
+        at = bisect_right(starts, n)
+        return n not in ends or at < len(starts) and starts[at] <= ends[n]
+
+    return [n for n, x in enumerate(lines_of(source), 1) if not x.strip(" \t>") and n not in inside and counts(n)]
 
 
-def html_leaves(node: Node) -> Iterator[Node]:
-    for c in node.children:
-        if c.kind == "html":
-            yield c
-        yield from html_leaves(c)
+def blocks_in(node: Node) -> Iterator[Node]:
+    for child in node.children:
+        yield child
+        yield from blocks_in(child)
 
 
 # ------------------------------------------------------------------ of a whole text
@@ -238,8 +243,8 @@ def behind_mark(source: str) -> str:
     return source.removeprefix("\ufeff")
 
 
-def mapping_of(source: str, tags: bool = False) -> Mapping:
-    return Mapping(behind_mark(source), tags)
+def mapping_of(source: str, tags: bool = False, streamed: bool = False) -> Mapping:
+    return Mapping(behind_mark(source), tags, streamed)
 
 
 def steadied(line: Line) -> Line:
@@ -252,9 +257,9 @@ def steadied(line: Line) -> Line:
     return TableRow([one(cell) for cell in line.cells]) if isinstance(line, TableRow) else line
 
 
-def sections_of(source: str, tags: bool = False) -> list[Section]:
+def sections_of(source: str, tags: bool = False, streamed: bool = False) -> list[Section]:
     """The sections of a text, steady."""
-    return [replace(s, lines=[steadied(x) for x in s.lines]) for s in mapping_of(source, tags).sections]
+    return [replace(s, lines=[steadied(x) for x in s.lines]) for s in mapping_of(source, tags, streamed).sections]
 
 
 def links_in(source: str) -> list[tuple[int, str]]:

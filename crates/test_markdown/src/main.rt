@@ -7,7 +7,7 @@
 //! 3. [`inlines`]: `inlines`, the inlines of a text.
 //! 4. [`pieces`]: `pieces`, the inlines of a text's leaves.
 //! 5. [`shown`]: `sections`, the sections that are shown of a text, and `links`, its links.
-//! 6. [`pages`]: `page W`, the rows of a text at a width.
+//! 6. [`pages`]: `page W`, the rows of a text at a width; `page none`, without one. `boxes W`, the same where code has a background.
 //!
 //! In a text `▪` is a byte order mark.
 //!
@@ -38,11 +38,17 @@ impl Calls for MarkdownCalls {
             "pieces" => pieces::draw_leaves(alloc, text),
             "links" => shown::draw_links(alloc, text),
             "sections" => shown::draw_sections(alloc, text),
-            _ => match call.strip_prefix("page ") {
-                Some(width) => pages::draw_page(alloc, width, text),
-                None => inlines::draw_inlines(alloc, call, text),
-            },
+            _ => answer_at(alloc, call, text),
         }
+    }
+}
+
+// The call of a page, or of inlines.
+fn answer_at(alloc: Global, call: &str, text: &str) -> Result<String, AllocError> {
+    match call.split_once(' ') {
+        Some(("page", width)) => pages::draw_page(alloc, width, text),
+        Some(("boxes", width)) => pages::draw_boxes(alloc, width, text),
+        _ => inlines::draw_inlines(alloc, call, text),
     }
 }
 
