@@ -7,14 +7,17 @@ from __future__ import annotations
 
 import argparse
 import gzip
+from dataclasses import replace
 from pathlib import Path
 
 from . import dump
 from .leaf_rows import Cells, Row, columns, fits_as_table, layout, placed, table_of
 from .lines import EMPTY, Align, Compound, Line, paragraph
-from .sections import CODE_SIDES, Gutter, Section, sections_of
+from .sections import BULLET, CODE_SIDES, DONE, OPEN, Gutter, Section, hanging, sections_of
 
 PageRow = tuple[str, Row]
+LOOKS = ("page", "boxes", "ascii")
+ASCII = {gutter: hanging(gutter.name, gutter.term, sign) for gutter, sign in ((BULLET, "*"), (OPEN, "[ ]"), (DONE, "[x]"))}
 
 
 def gutters_shown(width: int | None, gutters: list[Gutter]) -> list[Gutter]:
@@ -40,7 +43,7 @@ def unfolded(width: int | None, section: Section) -> list[Section]:
         return [section]
     said = bool(table.rows) and all(2 * head_length(head.compounds) <= columns_left for head in table.heads)
     items = [item_lines(table.heads, row) for row in table.rows] if said else [item_lines([], row) for row in [table.heads, *table.rows]]
-    return [Section(section.gutters + section.items[-1:], section.fresh + 1 if k == 0 else 1, lines) for k, lines in enumerate(items)]
+    return [replace(section, gutters=section.gutters + [section.bullet], fresh=section.fresh + 1 if k == 0 else 1, lines=lines) for k, lines in enumerate(items)]
 
 
 def head_length(row: Row) -> int:
@@ -49,8 +52,11 @@ def head_length(row: Row) -> int:
 
 
 def item_lines(heads: Cells, row: Cells) -> list[Line]:
-    labels = [head.compounds + [Compound(": ")] if head.compounds else [] for head in heads] + [[]] * len(row)
-    return [paragraph(label + cell.compounds) for label, cell in zip(labels, row) if cell.compounds] or [EMPTY]
+    def label(column: int) -> Row:
+        head = heads[column].compounds if column < len(heads) else []
+        return head + [Compound(": ")] if head else []
+
+    return [paragraph(label(k) + cell.compounds) for k, cell in enumerate(row) if cell.compounds] or [EMPTY]
 
 
 def section_rows(width: int | None, section: Section) -> list[PageRow]:
@@ -75,14 +81,20 @@ def shown_sections(width: int | None, sections: list[Section]) -> list[Section]:
     return [u for s in sections for u in unfolded(width, s)]
 
 
-def texts(width: int | None, sections: list[Section], boxes: bool = False) -> list[str]:
-    """The rows of a page, as texts."""
-    rows_of = boxed_rows if boxes else section_rows
+def texts(width: int | None, sections: list[Section], look: str = "page") -> list[str]:
+    """The rows of a page, as texts. In the look `boxes` code has a background, in `ascii` bullets are ASCII."""
+    rows_of = boxed_rows if look == "boxes" else section_rows
+    if look == "ascii":
+        sections = list(map(in_ascii, sections))
     return [front + "".join(c.src for c in row) for s in shown_sections(width, sections) for front, row in rows_of(width, s)]
 
 
-def page(source: str, width: int | None, tags: bool = False, streamed: bool = False, boxes: bool = False) -> list[str]:
-    return texts(width, sections_of(source, tags, streamed), boxes)
+def in_ascii(section: Section) -> Section:
+    return replace(section, gutters=[ASCII.get(g, g) for g in section.gutters], bullet=ASCII[BULLET])
+
+
+def page(source: str, width: int | None, look: str = "page", tags: bool = False, streamed: bool = False) -> list[str]:
+    return texts(width, sections_of(source, tags, streamed), look)
 
 
 def width_of(word: str) -> int | None:

@@ -63,15 +63,17 @@ CODE_SIDES = Gutter("=", "Code", "  ", "  ")
 
 @dataclass(frozen=True)
 class Section:
-    """Lines behind gutters, the outermost first; the last `fresh` of these begin with it. A table may be shown as a list, whose items are behind `items`."""
+    """Lines behind gutters, the outermost first; the last `fresh` of these begin with it. A table may be shown as a list, whose items have the bullet."""
 
     gutters: list[Gutter]
     fresh: int
     lines: list[Line]
+    bullet: Gutter = BULLET
 
     @property
     def items(self) -> list[Gutter] | None:
-        return self.gutters + [BULLET] if isinstance(self.lines[0], TableRule) else None
+        """What the items of a table's list are behind."""
+        return self.gutters + [self.bullet] if isinstance(self.lines[0], TableRule) else None
 
 
 # ------------------------------------------------------------------ from blocks to sections

@@ -17,6 +17,13 @@ fn rows_in(alloc: Global, skin: &MadSkin, width: &str, text: &str) -> Result<Str
     String::from_str(alloc, rows)
 }
 
+/// The rows of a text where the bullet is ASCII, and so are the boxes of tasks.
+pub(crate) fn draw_ascii(alloc: Global, width: &str, text: &str) -> Result<String, AllocError> {
+    let mut skin = MadSkin::no_style();
+    skin.bullet.set_char('*');
+    rows_in(alloc, &skin, width, text)
+}
+
 /// The rows of a text in a skin without styles.
 pub(crate) fn draw_page(alloc: Global, width: &str, text: &str) -> Result<String, AllocError> {
     rows_in(alloc, &MadSkin::no_style(), width, text)
