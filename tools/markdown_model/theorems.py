@@ -10,7 +10,7 @@ from __future__ import annotations
 import json
 import re
 import sys
-from collections.abc import Callable
+from collections.abc import Callable, Iterator
 from typing import NamedTuple
 
 from .blocks import read_blocks
@@ -61,8 +61,8 @@ def seen(children):
             yield f"leaf {kind_of(node)} ({listed(alone(literal(line)) for line in kept)})"
 
 
-def blocks_row(text):
-    return f"seen {literal(text)} ≡ {listed(seen(read_blocks(text).children))}"
+def blocks_rows(number, text):
+    yield f"e{number}", f"seen {literal(text)} ≡ {listed(seen(read_blocks(text).children))}"
 
 
 # ---- sections
@@ -100,8 +100,16 @@ def section(it):
     return f"{'behind' if it.items is None else 'table_behind'} {gutters} {it.fresh} ({listed(map(line, it.lines))})"
 
 
-def sections_row(text):
-    return f"printable_sections {literal(text)} ≡ {listed(map(section, Mapping(text).sections))}"
+def link(section, address):
+    return f"link_at {section} {literal(address)}"
+
+
+def sections_rows(number, text):
+    """The sections of a text, and its links, if it has some."""
+    mapping = Mapping(text)
+    yield f"e{number}", f"printable_sections {literal(text)} ≡ {listed(map(section, mapping.sections))}"
+    if mapping.links:
+        yield f"l{number}", f"unmarked_links {literal(text)} ≡ {listed(link(*it) for it in mapping.links)}"
 
 
 # ---- files
@@ -140,29 +148,30 @@ def sections_uses(rows):
     return ", true, false", "".join(variants(path, rows) for path in list(VARIANTS)[2:]) + use(
         "Rattle.mad_md.specs.Lines", named(["table_rule", "horizontal_rule"], rows)) + use(
         "Rattle.markdown_examples.specs.Rows", named(words, rows)) + use(
-        "Rattle.markdown_reader.specs.Markdown", ["printable_sections"])
+        "Rattle.markdown_reader.specs.Mapping", named(["link_at"], rows)) + use(
+        "Rattle.markdown_reader.specs.Markdown", named(["printable_sections", "unmarked_links"], rows))
 
 
-def group_files(part, number, first, rows):
+def group_files(part, number, first, texts):
     """The statements of a group, and their proofs."""
-    title = f"-- Examples {first} to {first + len(rows) - 1}"
-    names = [f"e{first + k}" for k in range(len(rows))]
-    prelude, others = part.uses(rows)
+    title = f"-- Examples {first} to {first + len(texts) - 1}"
+    named_rows = [row for k, text in enumerate(texts, first) for row in part.rows_of(k, text)]
+    prelude, others = part.uses([row for _, row in named_rows])
     module, statement, proof = f"{part.name}{number}", f"Are{part.name}{number}", f"{part.name.lower()}{number}"
-    record = f"pub record {statement} : Type 0 where\n" + "".join(f"  pub {name} : {row}\n" for name, row in zip(names, rows))
+    record = f"pub record {statement} : Type 0 where\n" + "".join(f"  pub {name} : {row}\n" for name, row in named_rows)
     yield f"specs/{module}.antt", (
         f"{title}: {part.said}.\nuse Rattle.std.specs.Prelude.{{◌≡◌, [], ◌∷◌, codes{prelude}}}\n{others}\n{record}")
-    proofs = "".join(f"{name} : {row}\nunfolding {part.unfolded}\n{name} = refl\n\n" for name, row in zip(names, rows))
+    proofs = "".join(f"{name} : {row}\nunfolding {part.unfolded}\n{name} = refl\n\n" for name, row in named_rows)
     yield f"proofs/{module}.antt", (
         f"{title}, computed.\nuse Rattle.std.proofs.Common.{{◌≡◌, [], ◌∷◌, codes{prelude}, refl}}\n{others}"
         + use(f"Rattle.markdown_examples.specs.{module}", [statement]) + use(f"Rattle.{part.computing}.proofs.Computing", [part.unfolded])
-        + f"\n{proofs}pub {proof} : {statement}\n{proof} = record {{ {'; '.join(f'{name} = {name}' for name in names)} }}\n")
+        + f"\n{proofs}pub {proof} : {statement}\n{proof} = record {{ {'; '.join(f'{name} = {name}' for name, _ in named_rows)} }}\n")
 
 
 class Part(NamedTuple):
     """What is said of the examples: blocks or sections."""
     name: str
-    row_of: Callable[[str], str]
+    rows_of: Callable[[int, str], Iterator[tuple[str, str]]]
     uses: Callable[[list[str]], tuple[str, str]]
     said: str
     computing: str
@@ -172,19 +181,18 @@ class Part(NamedTuple):
 
 
 PARTS = [
-    Part("Blocks", blocks_row, blocks_uses, "what one sees of their blocks", "markdown_as_html", "reading", "What the blocks of examples {} are.", "The blocks of examples."),
-    Part("Sections", sections_row, sections_uses, "their sections", "markdown_examples", "sections", "The sections of examples {}.", "The sections that are shown of examples."),
+    Part("Blocks", blocks_rows, blocks_uses, "what one sees of their blocks", "markdown_as_html", "reading", "What the blocks of examples {} are.", "The blocks of examples."),
+    Part("Sections", sections_rows, sections_uses, "their sections and links", "markdown_examples", "sections", "The sections and links of examples {}.", "The sections that are shown of examples, and their links."),
 ]
 
 
 def part_files(part, texts):
-    rows = [part.row_of(text) for text in texts]
-    starts = range(0, len(rows), PER)
+    starts = range(0, len(texts), PER)
     for number, at in enumerate(starts, 1):
-        yield from group_files(part, number, at + 1, rows[at:at + PER])
+        yield from group_files(part, number, at + 1, texts[at:at + PER])
     name, proof = part.name, part.name.lower()
     laws = "".join(
-        f"\n/// {part.law.format(f'{at + 1} to {min(at + PER, len(rows))}')}\n#[tactic(auto, using(crate::proofs::{name}{k}::{proof}{k}))]\n"
+        f"\n/// {part.law.format(f'{at + 1} to {min(at + PER, len(texts))}')}\n#[tactic(auto, using(crate::proofs::{name}{k}::{proof}{k}))]\n"
         f"pub fn examples_{k}()\n    ensures {{ Are{name}{k} }}\n{{}}\n" for k, at in enumerate(starts, 1))
     ghosts = "".join(f"ghost use Rattle.markdown_examples.specs.{name}{k}.{{Are{name}{k}}};\n" for k in range(1, len(starts) + 1))
     yield f"src/{proof}.rt", f"//! {part.head}\n\n{ghosts}{laws}"

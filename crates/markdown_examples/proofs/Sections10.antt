@@ -4,7 +4,8 @@ use Rattle.mad_sections.specs.declared.gutters.Gutter.TheVariants.{Bar, Bullet, 
 use Rattle.mad_md.specs.declared.composite.CompositeStyle.TheVariants.{Paragraph, Header}
 use Rattle.mad_md.specs.Lines.{horizontal_rule}
 use Rattle.markdown_examples.specs.Rows.{plain, flagged, row, code_row, behind, blank}
-use Rattle.markdown_reader.specs.Markdown.{printable_sections}
+use Rattle.markdown_reader.specs.Mapping.{link_at}
+use Rattle.markdown_reader.specs.Markdown.{printable_sections, unmarked_links}
 use Rattle.markdown_examples.specs.Sections10.{AreSections10}
 use Rattle.markdown_examples.proofs.Computing.{sections}
 
@@ -52,6 +53,10 @@ e236 : printable_sections (codes "a[a]<a>Ã©](<http://a>") ≡ behind [] 0 (row
 unfolding sections
 e236 = refl
 
+l236 : unmarked_links (codes "a[a]<a>Ã©](<http://a>") ≡ link_at 0 (codes "http://a") ∷ []
+unfolding sections
+l236 = refl
+
 e237 : printable_sections (codes "Ã©\n===\n## 1. [a]: /u\n") ≡ behind [] 0 (row (Header 1) (plain (codes "Ã©") ∷ []) ∷ []) ∷ blank [] ∷ behind [] 0 (row (Header 2) (plain (codes "1. [a]: /u") ∷ []) ∷ []) ∷ []
 unfolding sections
 e237 = refl
@@ -67,6 +72,10 @@ e239 = refl
 e240 : printable_sections (codes "&#35;!<http://a><div>") ≡ behind [] 0 (row Paragraph (plain (codes "#!") ∷ flagged false false false false true (codes "http://a") ∷ []) ∷ []) ∷ []
 unfolding sections
 e240 = refl
+
+l240 : unmarked_links (codes "&#35;!<http://a><div>") ≡ link_at 0 (codes "http://a") ∷ []
+unfolding sections
+l240 = refl
 
 e241 : printable_sections (codes "* \n|-|-|\n\n<a>\n---\n===") ≡ behind (Bullet ∷ []) 1 (row Paragraph ([]) ∷ []) ∷ behind [] 0 (row Paragraph (plain (codes "|-|-|") ∷ []) ∷ []) ∷ blank [] ∷ behind [] 0 (row Paragraph (plain (codes "--- ===") ∷ []) ∷ []) ∷ []
 unfolding sections
@@ -104,9 +113,17 @@ e249 : printable_sections (codes "__\n---\n<http://a>~2) ") ≡ behind [] 0 (row
 unfolding sections
 e249 = refl
 
+l249 : unmarked_links (codes "__\n---\n<http://a>~2) ") ≡ link_at 2 (codes "http://a") ∷ []
+unfolding sections
+l249 = refl
+
 e250 : printable_sections (codes "__http://x|-|\n---\n---") ≡ behind [] 0 (row (Header 2) (plain (codes "__") ∷ flagged false false false false true (codes "http://x|-|") ∷ []) ∷ []) ∷ blank [] ∷ behind [] 0 (horizontal_rule ∷ []) ∷ []
 unfolding sections
 e250 = refl
 
+l250 : unmarked_links (codes "__http://x|-|\n---\n---") ≡ link_at 0 (codes "http://x|-|") ∷ []
+unfolding sections
+l250 = refl
+
 pub sections10 : AreSections10
-sections10 = record { e226 = e226; e227 = e227; e228 = e228; e229 = e229; e230 = e230; e231 = e231; e232 = e232; e233 = e233; e234 = e234; e235 = e235; e236 = e236; e237 = e237; e238 = e238; e239 = e239; e240 = e240; e241 = e241; e242 = e242; e243 = e243; e244 = e244; e245 = e245; e246 = e246; e247 = e247; e248 = e248; e249 = e249; e250 = e250 }
+sections10 = record { e226 = e226; e227 = e227; e228 = e228; e229 = e229; e230 = e230; e231 = e231; e232 = e232; e233 = e233; e234 = e234; e235 = e235; e236 = e236; l236 = l236; e237 = e237; e238 = e238; e239 = e239; e240 = e240; l240 = l240; e241 = e241; e242 = e242; e243 = e243; e244 = e244; e245 = e245; e246 = e246; e247 = e247; e248 = e248; e249 = e249; l249 = l249; e250 = e250; l250 = l250 }

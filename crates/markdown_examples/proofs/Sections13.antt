@@ -5,7 +5,8 @@ use Rattle.mad_md.specs.declared.composite.CompositeStyle.TheVariants.{Paragraph
 use Rattle.mad_md.specs.declared.alignment.Alignment.TheVariants.{Unspecified}
 use Rattle.mad_md.specs.Lines.{table_rule, horizontal_rule}
 use Rattle.markdown_examples.specs.Rows.{plain, flagged, row, code_row, cells, behind, table_behind, blank}
-use Rattle.markdown_reader.specs.Markdown.{printable_sections}
+use Rattle.markdown_reader.specs.Mapping.{link_at}
+use Rattle.markdown_reader.specs.Markdown.{printable_sections, unmarked_links}
 use Rattle.markdown_examples.specs.Sections13.{AreSections13}
 use Rattle.markdown_examples.proofs.Computing.{sections}
 
@@ -13,13 +14,25 @@ e301 : printable_sections (codes "](/u)\"b <http://a>foofoo</a>") ≡ behind [] 
 unfolding sections
 e301 = refl
 
+l301 : unmarked_links (codes "](/u)\"b <http://a>foofoo</a>") ≡ link_at 0 (codes "http://a") ∷ []
+unfolding sections
+l301 = refl
+
 e302 : printable_sections (codes "&#35;'---\n|-|-|\n|\n\n<http://a>") ≡ behind [] 0 (row Paragraph (plain (codes "#'--- |-|-| |") ∷ []) ∷ []) ∷ blank [] ∷ behind [] 0 (row Paragraph (flagged false false false false true (codes "http://a") ∷ []) ∷ []) ∷ []
 unfolding sections
 e302 = refl
 
+l302 : unmarked_links (codes "&#35;'---\n|-|-|\n|\n\n<http://a>") ≡ link_at 2 (codes "http://a") ∷ []
+unfolding sections
+l302 = refl
+
 e303 : printable_sections (codes "__<http://a>[a]: /u\n*\n|-|-|\n)") ≡ behind [] 0 (row Paragraph (plain (codes "__") ∷ flagged false false false false true (codes "http://a") ∷ plain (codes "[a]: /u * |-|-| )") ∷ []) ∷ []) ∷ []
 unfolding sections
 e303 = refl
+
+l303 : unmarked_links (codes "__<http://a>[a]: /u\n*\n|-|-|\n)") ≡ link_at 0 (codes "http://a") ∷ []
+unfolding sections
+l303 = refl
 
 e304 : printable_sections (124 ∷ 32 ∷ 97 ∷ 32 ∷ 124 ∷ 32 ∷ 98 ∷ 32 ∷ 124 ∷ 10 ∷ 124 ∷ 45 ∷ 124 ∷ 45 ∷ 124 ∷ 10 ∷ 124 ∷ 32 ∷ 99 ∷ 32 ∷ 124 ∷ 32 ∷ 100 ∷ 32 ∷ 124 ∷ 10 ∷ 62 ∷ 32 ∷ 230 ∷ 166 ∷ 130 ∷ []) ≡ table_behind [] 0 (table_rule (Unspecified ∷ Unspecified ∷ []) ∷ cells ((flagged true false false false false (codes "a") ∷ []) ∷ (flagged true false false false false (codes "b") ∷ []) ∷ []) ∷ table_rule (Unspecified ∷ Unspecified ∷ []) ∷ cells ((plain (codes "c") ∷ []) ∷ (plain (codes "d") ∷ []) ∷ []) ∷ table_rule (Unspecified ∷ Unspecified ∷ []) ∷ []) ∷ blank [] ∷ behind (Bar ∷ []) 1 (row Paragraph (plain (230 ∷ 166 ∷ 130 ∷ []) ∷ []) ∷ []) ∷ []
 unfolding sections
@@ -33,13 +46,25 @@ e306 : printable_sections (codes "[a]: /u\n~## [a]: /u\n  <div>~~~") ≡ behind 
 unfolding sections
 e306 = refl
 
+l306 : unmarked_links (codes "[a]: /u\n~## [a]: /u\n  <div>~~~") ≡ link_at 0 (codes "/u") ∷ []
+unfolding sections
+l306 = refl
+
 e307 : printable_sections (codes "## <http://a>http://x2) \n``````") ≡ behind [] 0 (row (Header 2) (flagged false false false false true (codes "http://a") ∷ plain (codes "http://x2)") ∷ []) ∷ []) ∷ []
 unfolding sections
 e307 = refl
 
+l307 : unmarked_links (codes "## <http://a>http://x2) \n``````") ≡ link_at 0 (codes "http://a") ∷ []
+unfolding sections
+l307 = refl
+
 e308 : printable_sections (codes "http://x\n---\n[a]<div><div>## - ") ≡ behind [] 0 (row (Header 2) (flagged false false false false true (codes "http://x") ∷ []) ∷ []) ∷ blank [] ∷ behind [] 0 (row Paragraph (plain (codes "[a]## -") ∷ []) ∷ []) ∷ []
 unfolding sections
 e308 = refl
+
+l308 : unmarked_links (codes "http://x\n---\n[a]<div><div>## - ") ≡ link_at 0 (codes "http://x") ∷ []
+unfolding sections
+l308 = refl
 
 e309 : printable_sections (codes "| a | b |\n|-|-|\n| c | d |\n# b !") ≡ table_behind [] 0 (table_rule (Unspecified ∷ Unspecified ∷ []) ∷ cells ((flagged true false false false false (codes "a") ∷ []) ∷ (flagged true false false false false (codes "b") ∷ []) ∷ []) ∷ table_rule (Unspecified ∷ Unspecified ∷ []) ∷ cells ((plain (codes "c") ∷ []) ∷ (plain (codes "d") ∷ []) ∷ []) ∷ table_rule (Unspecified ∷ Unspecified ∷ []) ∷ []) ∷ blank [] ∷ behind [] 0 (row (Header 1) (plain (codes "b !") ∷ []) ∷ []) ∷ []
 unfolding sections
@@ -97,6 +122,10 @@ e322 : printable_sections (codes "| a | b |\n|-|-|\n| c | d |\n<http://a>`[a]`")
 unfolding sections
 e322 = refl
 
+l322 : unmarked_links (codes "| a | b |\n|-|-|\n| c | d |\n<http://a>`[a]`") ≡ link_at 0 (codes "http://a") ∷ []
+unfolding sections
+l322 = refl
+
 e323 : printable_sections (codes "1. | a | b |\n|-|-|\n| c | d |\n*   [a]: /u\n]") ≡ behind (Number 1 ∷ []) 1 (row Paragraph (plain (codes "| a | b | |-|-| | c | d |") ∷ []) ∷ []) ∷ behind (Bullet ∷ []) 1 (row Paragraph (plain (codes "]") ∷ []) ∷ []) ∷ []
 unfolding sections
 e323 = refl
@@ -109,5 +138,9 @@ e325 : printable_sections (codes "* \n===\n~<http://a>| a | b |\n|-|-|\n| c | d 
 unfolding sections
 e325 = refl
 
+l325 : unmarked_links (codes "* \n===\n~<http://a>| a | b |\n|-|-|\n| c | d |\n") ≡ link_at 1 (codes "http://a") ∷ []
+unfolding sections
+l325 = refl
+
 pub sections13 : AreSections13
-sections13 = record { e301 = e301; e302 = e302; e303 = e303; e304 = e304; e305 = e305; e306 = e306; e307 = e307; e308 = e308; e309 = e309; e310 = e310; e311 = e311; e312 = e312; e313 = e313; e314 = e314; e315 = e315; e316 = e316; e317 = e317; e318 = e318; e319 = e319; e320 = e320; e321 = e321; e322 = e322; e323 = e323; e324 = e324; e325 = e325 }
+sections13 = record { e301 = e301; l301 = l301; e302 = e302; l302 = l302; e303 = e303; l303 = l303; e304 = e304; e305 = e305; e306 = e306; l306 = l306; e307 = e307; l307 = l307; e308 = e308; l308 = l308; e309 = e309; e310 = e310; e311 = e311; e312 = e312; e313 = e313; e314 = e314; e315 = e315; e316 = e316; e317 = e317; e318 = e318; e319 = e319; e320 = e320; e321 = e321; e322 = e322; l322 = l322; e323 = e323; e324 = e324; e325 = e325; l325 = l325 }

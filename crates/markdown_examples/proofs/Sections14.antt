@@ -5,7 +5,8 @@ use Rattle.mad_md.specs.declared.composite.CompositeStyle.TheVariants.{Paragraph
 use Rattle.mad_md.specs.declared.alignment.Alignment.TheVariants.{Unspecified, Left, Center, Right}
 use Rattle.mad_md.specs.Lines.{table_rule}
 use Rattle.markdown_examples.specs.Rows.{plain, flagged, row, cells, behind, table_behind, blank}
-use Rattle.markdown_reader.specs.Markdown.{printable_sections}
+use Rattle.markdown_reader.specs.Mapping.{link_at}
+use Rattle.markdown_reader.specs.Markdown.{printable_sections, unmarked_links}
 use Rattle.markdown_examples.specs.Sections14.{AreSections14}
 use Rattle.markdown_examples.proofs.Computing.{sections}
 
@@ -16,6 +17,10 @@ e326 = refl
 e327 : printable_sections (codes "Ã©[a]\n\n[a]: /u\n<a>| a | b |\n|-|-|\n| c | d |\n_") ≡ behind [] 0 (row Paragraph (plain (codes "Ã©") ∷ flagged false false false false true (codes "a") ∷ []) ∷ []) ∷ blank [] ∷ behind [] 0 (row Paragraph (plain (codes "| a | b | |-|-| | c | d | _") ∷ []) ∷ []) ∷ []
 unfolding sections
 e327 = refl
+
+l327 : unmarked_links (codes "Ã©[a]\n\n[a]: /u\n<a>| a | b |\n|-|-|\n| c | d |\n_") ≡ link_at 0 (codes "/u") ∷ []
+unfolding sections
+l327 = refl
 
 e328 : printable_sections (codes "<a>[a]: /u\n\n| a | b |\n|-|-|\n| c | d |\n<div><!--") ≡ behind [] 0 (row Paragraph (plain (codes "[a]: /u") ∷ []) ∷ []) ∷ blank [] ∷ table_behind [] 0 (table_rule (Unspecified ∷ Unspecified ∷ []) ∷ cells ((flagged true false false false false (codes "a") ∷ []) ∷ (flagged true false false false false (codes "b") ∷ []) ∷ []) ∷ table_rule (Unspecified ∷ Unspecified ∷ []) ∷ cells ((plain (codes "c") ∷ []) ∷ (plain (codes "d") ∷ []) ∷ []) ∷ table_rule (Unspecified ∷ Unspecified ∷ []) ∷ []) ∷ []
 unfolding sections
@@ -110,4 +115,4 @@ unfolding sections
 e350 = refl
 
 pub sections14 : AreSections14
-sections14 = record { e326 = e326; e327 = e327; e328 = e328; e329 = e329; e330 = e330; e331 = e331; e332 = e332; e333 = e333; e334 = e334; e335 = e335; e336 = e336; e337 = e337; e338 = e338; e339 = e339; e340 = e340; e341 = e341; e342 = e342; e343 = e343; e344 = e344; e345 = e345; e346 = e346; e347 = e347; e348 = e348; e349 = e349; e350 = e350 }
+sections14 = record { e326 = e326; e327 = e327; l327 = l327; e328 = e328; e329 = e329; e330 = e330; e331 = e331; e332 = e332; e333 = e333; e334 = e334; e335 = e335; e336 = e336; e337 = e337; e338 = e338; e339 = e339; e340 = e340; e341 = e341; e342 = e342; e343 = e343; e344 = e344; e345 = e345; e346 = e346; e347 = e347; e348 = e348; e349 = e349; e350 = e350 }

@@ -4,7 +4,8 @@ use Rattle.mad_sections.specs.declared.gutters.Gutter.TheVariants.{Bar, Bullet, 
 use Rattle.mad_md.specs.declared.composite.CompositeStyle.TheVariants.{Paragraph, Header}
 use Rattle.mad_md.specs.Lines.{horizontal_rule}
 use Rattle.markdown_examples.specs.Rows.{plain, flagged, row, behind, blank}
-use Rattle.markdown_reader.specs.Markdown.{printable_sections}
+use Rattle.markdown_reader.specs.Mapping.{link_at}
+use Rattle.markdown_reader.specs.Markdown.{printable_sections, unmarked_links}
 use Rattle.markdown_examples.specs.Sections5.{AreSections5}
 use Rattle.markdown_examples.proofs.Computing.{sections}
 
@@ -39,6 +40,10 @@ e107 = refl
 e108 : printable_sections (codes "+ \n- http://x") ≡ behind (Bullet ∷ []) 1 (row Paragraph ([]) ∷ []) ∷ behind (Bullet ∷ []) 1 (row Paragraph (flagged false false false false true (codes "http://x") ∷ []) ∷ []) ∷ []
 unfolding sections
 e108 = refl
+
+l108 : unmarked_links (codes "+ \n- http://x") ≡ link_at 1 (codes "http://x") ∷ []
+unfolding sections
+l108 = refl
 
 e109 : printable_sections (codes ".<a>\n---\n:|-|") ≡ behind [] 0 (row (Header 2) (plain (codes ".") ∷ []) ∷ []) ∷ blank [] ∷ behind [] 0 (row Paragraph (plain (codes ":|-|") ∷ []) ∷ []) ∷ []
 unfolding sections
@@ -109,4 +114,4 @@ unfolding sections
 e125 = refl
 
 pub sections5 : AreSections5
-sections5 = record { e101 = e101; e102 = e102; e103 = e103; e104 = e104; e105 = e105; e106 = e106; e107 = e107; e108 = e108; e109 = e109; e110 = e110; e111 = e111; e112 = e112; e113 = e113; e114 = e114; e115 = e115; e116 = e116; e117 = e117; e118 = e118; e119 = e119; e120 = e120; e121 = e121; e122 = e122; e123 = e123; e124 = e124; e125 = e125 }
+sections5 = record { e101 = e101; e102 = e102; e103 = e103; e104 = e104; e105 = e105; e106 = e106; e107 = e107; e108 = e108; l108 = l108; e109 = e109; e110 = e110; e111 = e111; e112 = e112; e113 = e113; e114 = e114; e115 = e115; e116 = e116; e117 = e117; e118 = e118; e119 = e119; e120 = e120; e121 = e121; e122 = e122; e123 = e123; e124 = e124; e125 = e125 }

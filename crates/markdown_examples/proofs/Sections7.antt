@@ -4,7 +4,8 @@ use Rattle.mad_sections.specs.declared.gutters.Gutter.TheVariants.{Bar, Bullet, 
 use Rattle.mad_md.specs.declared.composite.CompositeStyle.TheVariants.{Paragraph, Header}
 use Rattle.mad_md.specs.Lines.{horizontal_rule}
 use Rattle.markdown_examples.specs.Rows.{plain, flagged, row, code_row, behind, blank}
-use Rattle.markdown_reader.specs.Markdown.{printable_sections}
+use Rattle.markdown_reader.specs.Mapping.{link_at}
+use Rattle.markdown_reader.specs.Markdown.{printable_sections, unmarked_links}
 use Rattle.markdown_examples.specs.Sections7.{AreSections7}
 use Rattle.markdown_examples.proofs.Computing.{sections}
 
@@ -52,6 +53,10 @@ e161 : printable_sections (codes "<div>\n\nhttp://x<") ≡ behind [] 0 (row Para
 unfolding sections
 e161 = refl
 
+l161 : unmarked_links (codes "<div>\n\nhttp://x<") ≡ link_at 0 (codes "http://x") ∷ []
+unfolding sections
+l161 = refl
+
 e162 : printable_sections (codes "<div>](/u)(\t  |~") ≡ behind [] 0 (row Paragraph (plain (codes "](/u)( |~") ∷ []) ∷ []) ∷ []
 unfolding sections
 e162 = refl
@@ -79,6 +84,10 @@ e167 = refl
 e168 : printable_sections (codes "]__<http://a>__[") ≡ behind [] 0 (row Paragraph (plain (codes "]") ∷ flagged true false false false true (codes "http://a") ∷ plain (codes "[") ∷ []) ∷ []) ∷ []
 unfolding sections
 e168 = refl
+
+l168 : unmarked_links (codes "]__<http://a>__[") ≡ link_at 0 (codes "http://a") ∷ []
+unfolding sections
+l168 = refl
 
 e169 : printable_sections (codes "_<b\n~~~&#35;<b](") ≡ behind [] 0 (row Paragraph (plain (codes "_<b") ∷ []) ∷ []) ∷ []
 unfolding sections
@@ -109,4 +118,4 @@ unfolding sections
 e175 = refl
 
 pub sections7 : AreSections7
-sections7 = record { e151 = e151; e152 = e152; e153 = e153; e154 = e154; e155 = e155; e156 = e156; e157 = e157; e158 = e158; e159 = e159; e160 = e160; e161 = e161; e162 = e162; e163 = e163; e164 = e164; e165 = e165; e166 = e166; e167 = e167; e168 = e168; e169 = e169; e170 = e170; e171 = e171; e172 = e172; e173 = e173; e174 = e174; e175 = e175 }
+sections7 = record { e151 = e151; e152 = e152; e153 = e153; e154 = e154; e155 = e155; e156 = e156; e157 = e157; e158 = e158; e159 = e159; e160 = e160; e161 = e161; l161 = l161; e162 = e162; e163 = e163; e164 = e164; e165 = e165; e166 = e166; e167 = e167; e168 = e168; l168 = l168; e169 = e169; e170 = e170; e171 = e171; e172 = e172; e173 = e173; e174 = e174; e175 = e175 }

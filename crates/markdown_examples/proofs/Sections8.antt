@@ -4,13 +4,18 @@ use Rattle.mad_sections.specs.declared.gutters.Gutter.TheVariants.{Bar, Bullet, 
 use Rattle.mad_md.specs.declared.composite.CompositeStyle.TheVariants.{Paragraph, Header}
 use Rattle.mad_md.specs.Lines.{horizontal_rule}
 use Rattle.markdown_examples.specs.Rows.{plain, flagged, row, code_row, behind, blank}
-use Rattle.markdown_reader.specs.Markdown.{printable_sections}
+use Rattle.markdown_reader.specs.Mapping.{link_at}
+use Rattle.markdown_reader.specs.Markdown.{printable_sections, unmarked_links}
 use Rattle.markdown_examples.specs.Sections8.{AreSections8}
 use Rattle.markdown_examples.proofs.Computing.{sections}
 
 e176 : printable_sections (codes "* <http://a>## <b") ≡ behind (Bullet ∷ []) 1 (row Paragraph (flagged false false false false true (codes "http://a") ∷ plain (codes "## <b") ∷ []) ∷ []) ∷ []
 unfolding sections
 e176 = refl
+
+l176 : unmarked_links (codes "* <http://a>## <b") ≡ link_at 0 (codes "http://a") ∷ []
+unfolding sections
+l176 = refl
 
 e177 : printable_sections (codes "- ```+ [a]: /u\n](") ≡ behind (Bullet ∷ []) 1 (row Paragraph ([]) ∷ []) ∷ behind [] 0 (row Paragraph (plain (codes "](") ∷ []) ∷ []) ∷ []
 unfolding sections
@@ -47,6 +52,10 @@ e184 = refl
 e185 : printable_sections (codes "__<b__<http://a>~") ≡ behind [] 0 (row Paragraph (flagged true false false false false (codes "<b") ∷ flagged false false false false true (codes "http://a") ∷ plain (codes "~") ∷ []) ∷ []) ∷ []
 unfolding sections
 e185 = refl
+
+l185 : unmarked_links (codes "__<b__<http://a>~") ≡ link_at 0 (codes "http://a") ∷ []
+unfolding sections
+l185 = refl
 
 e186 : printable_sections (102 ∷ 111 ∷ 111 ∷ 226 ∷ 128 ∷ 156 ∷ 50 ∷ 41 ∷ 32 ∷ 49 ∷ 46 ∷ 32 ∷ 10 ∷ 45 ∷ 45 ∷ 45 ∷ 10 ∷ 43 ∷ 32 ∷ []) ≡ behind [] 0 (row (Header 2) (plain (102 ∷ 111 ∷ 111 ∷ 226 ∷ 128 ∷ 156 ∷ 50 ∷ 41 ∷ 32 ∷ 49 ∷ 46 ∷ []) ∷ []) ∷ []) ∷ blank [] ∷ behind (Bullet ∷ []) 1 (row Paragraph ([]) ∷ []) ∷ []
 unfolding sections
@@ -92,6 +101,10 @@ e196 : printable_sections (codes "<http://a><a>](|-|") ≡ behind [] 0 (row Para
 unfolding sections
 e196 = refl
 
+l196 : unmarked_links (codes "<http://a><a>](|-|") ≡ link_at 0 (codes "http://a") ∷ []
+unfolding sections
+l196 = refl
+
 e197 : printable_sections (codes ">* 2) - ~~&#35;2) ") ≡ behind (Bar ∷ Bullet ∷ Number 2 ∷ Bullet ∷ []) 4 (row Paragraph (plain (codes "~~#2)") ∷ []) ∷ []) ∷ []
 unfolding sections
 e197 = refl
@@ -109,4 +122,4 @@ unfolding sections
 e200 = refl
 
 pub sections8 : AreSections8
-sections8 = record { e176 = e176; e177 = e177; e178 = e178; e179 = e179; e180 = e180; e181 = e181; e182 = e182; e183 = e183; e184 = e184; e185 = e185; e186 = e186; e187 = e187; e188 = e188; e189 = e189; e190 = e190; e191 = e191; e192 = e192; e193 = e193; e194 = e194; e195 = e195; e196 = e196; e197 = e197; e198 = e198; e199 = e199; e200 = e200 }
+sections8 = record { e176 = e176; l176 = l176; e177 = e177; e178 = e178; e179 = e179; e180 = e180; e181 = e181; e182 = e182; e183 = e183; e184 = e184; e185 = e185; l185 = l185; e186 = e186; e187 = e187; e188 = e188; e189 = e189; e190 = e190; e191 = e191; e192 = e192; e193 = e193; e194 = e194; e195 = e195; e196 = e196; l196 = l196; e197 = e197; e198 = e198; e199 = e199; e200 = e200 }

@@ -4,7 +4,8 @@ use Rattle.mad_sections.specs.declared.gutters.Gutter.TheVariants.{Bar, Bullet, 
 use Rattle.mad_md.specs.declared.composite.CompositeStyle.TheVariants.{Paragraph, Header}
 use Rattle.mad_md.specs.Lines.{horizontal_rule}
 use Rattle.markdown_examples.specs.Rows.{plain, flagged, row, code_row, behind, blank}
-use Rattle.markdown_reader.specs.Markdown.{printable_sections}
+use Rattle.markdown_reader.specs.Mapping.{link_at}
+use Rattle.markdown_reader.specs.Markdown.{printable_sections, unmarked_links}
 use Rattle.markdown_examples.specs.Sections9.{AreSections9}
 use Rattle.markdown_examples.proofs.Computing.{sections}
 
@@ -80,6 +81,10 @@ e218 : printable_sections (60 ∷ 104 ∷ 116 ∷ 116 ∷ 112 ∷ 58 ∷ 47 ∷ 
 unfolding sections
 e218 = refl
 
+l218 : unmarked_links (60 ∷ 104 ∷ 116 ∷ 116 ∷ 112 ∷ 58 ∷ 47 ∷ 47 ∷ 97 ∷ 62 ∷ 226 ∷ 128 ∷ 156 ∷ 92 ∷ 42 ∷ 46 ∷ 10 ∷ 45 ∷ 45 ∷ 45 ∷ 10 ∷ []) ≡ link_at 0 (codes "http://a") ∷ []
+unfolding sections
+l218 = refl
+
 e219 : printable_sections (codes "> \n\n\n|-|-|\n\n\n&#35;>") ≡ behind [] 0 (row Paragraph (plain (codes "|-|-|") ∷ []) ∷ []) ∷ blank [] ∷ behind [] 0 (row Paragraph (plain (codes "#>") ∷ []) ∷ []) ∷ []
 unfolding sections
 e219 = refl
@@ -87,6 +92,10 @@ e219 = refl
 e220 : printable_sections (codes ">[a]: /u\nb **[](/u)") ≡ behind (Bar ∷ []) 1 (row Paragraph (plain (codes "b **") ∷ []) ∷ []) ∷ []
 unfolding sections
 e220 = refl
+
+l220 : unmarked_links (codes ">[a]: /u\nb **[](/u)") ≡ link_at 0 (codes "/u") ∷ []
+unfolding sections
+l220 = refl
 
 e221 : printable_sections (95 ∷ 91 ∷ 10 ∷ 61 ∷ 61 ∷ 61 ∷ 10 ∷ 96 ∷ 96 ∷ 96 ∷ 114 ∷ 115 ∷ 10 ∷ 42 ∷ 42 ∷ 102 ∷ 111 ∷ 111 ∷ 226 ∷ 128 ∷ 156 ∷ []) ≡ behind [] 0 (row (Header 1) (plain (codes "_[") ∷ []) ∷ []) ∷ blank [] ∷ behind (Code ∷ []) 1 (code_row (plain (42 ∷ 42 ∷ 102 ∷ 111 ∷ 111 ∷ 226 ∷ 128 ∷ 156 ∷ []) ∷ []) ∷ []) ∷ []
 unfolding sections
@@ -100,6 +109,10 @@ e223 : printable_sections (codes "\n---\n</a>\t__http://x") ≡ behind [] 0 (hor
 unfolding sections
 e223 = refl
 
+l223 : unmarked_links (codes "\n---\n</a>\t__http://x") ≡ link_at 2 (codes "http://x") ∷ []
+unfolding sections
+l223 = refl
+
 e224 : printable_sections (codes "\n|-|-|\n<div>```<div>") ≡ behind [] 0 (row Paragraph (plain (codes "|-|-|") ∷ []) ∷ []) ∷ behind [] 0 (row Paragraph (plain (codes "```") ∷ []) ∷ []) ∷ []
 unfolding sections
 e224 = refl
@@ -108,5 +121,9 @@ e225 : printable_sections (codes "# <http://a>http://x") ≡ behind [] 0 (row (H
 unfolding sections
 e225 = refl
 
+l225 : unmarked_links (codes "# <http://a>http://x") ≡ link_at 0 (codes "http://a") ∷ []
+unfolding sections
+l225 = refl
+
 pub sections9 : AreSections9
-sections9 = record { e201 = e201; e202 = e202; e203 = e203; e204 = e204; e205 = e205; e206 = e206; e207 = e207; e208 = e208; e209 = e209; e210 = e210; e211 = e211; e212 = e212; e213 = e213; e214 = e214; e215 = e215; e216 = e216; e217 = e217; e218 = e218; e219 = e219; e220 = e220; e221 = e221; e222 = e222; e223 = e223; e224 = e224; e225 = e225 }
+sections9 = record { e201 = e201; e202 = e202; e203 = e203; e204 = e204; e205 = e205; e206 = e206; e207 = e207; e208 = e208; e209 = e209; e210 = e210; e211 = e211; e212 = e212; e213 = e213; e214 = e214; e215 = e215; e216 = e216; e217 = e217; e218 = e218; l218 = l218; e219 = e219; e220 = e220; l220 = l220; e221 = e221; e222 = e222; e223 = e223; l223 = l223; e224 = e224; e225 = e225; l225 = l225 }

@@ -1,4 +1,4 @@
--- Examples 51 to 75: their sections.
+-- Examples 51 to 75: their sections and links.
 use Rattle.std.specs.Prelude.{◌≡◌, [], ◌∷◌, codes, true, false}
 use Rattle.mad_sections.specs.declared.gutters.Gutter.TheVariants.{Bar, Bullet, Number, Code}
 use Rattle.mad_md.specs.declared.composite.CompositeStyle.TheVariants.{Paragraph, Header}

@@ -1,10 +1,11 @@
--- Examples 101 to 125: their sections.
+-- Examples 101 to 125: their sections and links.
 use Rattle.std.specs.Prelude.{◌≡◌, [], ◌∷◌, codes, true, false}
 use Rattle.mad_sections.specs.declared.gutters.Gutter.TheVariants.{Bar, Bullet, Number}
 use Rattle.mad_md.specs.declared.composite.CompositeStyle.TheVariants.{Paragraph, Header}
 use Rattle.mad_md.specs.Lines.{horizontal_rule}
 use Rattle.markdown_examples.specs.Rows.{plain, flagged, row, behind, blank}
-use Rattle.markdown_reader.specs.Markdown.{printable_sections}
+use Rattle.markdown_reader.specs.Mapping.{link_at}
+use Rattle.markdown_reader.specs.Markdown.{printable_sections, unmarked_links}
 
 pub record AreSections5 : Type 0 where
   pub e101 : printable_sections (codes "\\*> \n===\n2) ") ≡ behind [] 0 (row (Header 1) (plain (codes "*>") ∷ []) ∷ []) ∷ blank [] ∷ behind (Number 2 ∷ []) 1 (row Paragraph ([]) ∷ []) ∷ []
@@ -15,6 +16,7 @@ pub record AreSections5 : Type 0 where
   pub e106 : printable_sections (codes "*  <!--\\\n\na* ") ≡ behind (Bullet ∷ []) 1 (row Paragraph ([]) ∷ []) ∷ behind [] 0 (row Paragraph (plain (codes "a*") ∷ []) ∷ []) ∷ []
   pub e107 : printable_sections (codes "* ```__```'\na") ≡ behind (Bullet ∷ []) 1 (row Paragraph (flagged false false true false false (codes "__") ∷ plain (codes "' a") ∷ []) ∷ []) ∷ []
   pub e108 : printable_sections (codes "+ \n- http://x") ≡ behind (Bullet ∷ []) 1 (row Paragraph ([]) ∷ []) ∷ behind (Bullet ∷ []) 1 (row Paragraph (flagged false false false false true (codes "http://x") ∷ []) ∷ []) ∷ []
+  pub l108 : unmarked_links (codes "+ \n- http://x") ≡ link_at 1 (codes "http://x") ∷ []
   pub e109 : printable_sections (codes ".<a>\n---\n:|-|") ≡ behind [] 0 (row (Header 2) (plain (codes ".") ∷ []) ∷ []) ∷ blank [] ∷ behind [] 0 (row Paragraph (plain (codes ":|-|") ∷ []) ∷ []) ∷ []
   pub e110 : printable_sections (codes "2) [a]: /u\n# ") ≡ behind (Number 2 ∷ []) 1 (row Paragraph ([]) ∷ []) ∷ []
   pub e111 : printable_sections (codes "<!--Ã©~<a>\n\n\\!") ≡ []
