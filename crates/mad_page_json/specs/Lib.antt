@@ -1,0 +1,5 @@
+pub mod Lookups
+pub mod Named
+pub mod PageReading
+pub mod PageWriting
+pub mod Parts
