@@ -46,7 +46,7 @@ e435 : seen (codes "- [x] [b]\n\n[b]: /u\n[x]: /v") ≡ opens (Item 45 0 2) ∷ 
 unfolding reading
 e435 = refl
 
-e436 : seen (codes "> [!NOTE]\n> a\n> b\n\n> [!tip]  \n> c") ≡ opens Quote ∷ leaf Paragraph (codes "[!NOTE]" ∷ codes "a" ∷ codes "b" ∷ []) ∷ closes ∷ opens Quote ∷ leaf Paragraph (codes "[!tip]  " ∷ codes "c" ∷ []) ∷ closes ∷ []
+e436 : seen (codes "> [!NOTE]\n> a\n> [b](/u)\n\n> [!tip]  \n> c\n\n[!note]: /v") ≡ opens Quote ∷ leaf Paragraph (codes "[!NOTE]" ∷ codes "a" ∷ codes "[b](/u)" ∷ []) ∷ closes ∷ opens Quote ∷ leaf Paragraph (codes "[!tip]  " ∷ codes "c" ∷ []) ∷ closes ∷ leaf Definitions (codes "[!note]: /v" ∷ []) ∷ []
 unfolding reading
 e436 = refl
 

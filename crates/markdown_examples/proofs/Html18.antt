@@ -44,7 +44,7 @@ e435 : IsPrinted (codes "- [x] [b]\n\n[b]: /u\n[x]: /v") (codes "<ul>\n<li><a hr
 unfolding reading
 e435 = refl
 
-e436 : IsPrinted (codes "> [!NOTE]\n> a\n> b\n\n> [!tip]  \n> c") (codes "<blockquote>\n<p>[!NOTE]\na\nb</p>\n</blockquote>\n<blockquote>\n<p>[!tip]<br />\nc</p>\n</blockquote>\n")
+e436 : IsPrinted (codes "> [!NOTE]\n> a\n> [b](/u)\n\n> [!tip]  \n> c\n\n[!note]: /v") (codes "<blockquote>\n<p><a href=\"/v\">!NOTE</a>\na\n<a href=\"/u\">b</a></p>\n</blockquote>\n<blockquote>\n<p>[!tip]<br />\nc</p>\n</blockquote>\n")
 unfolding reading
 e436 = refl
 

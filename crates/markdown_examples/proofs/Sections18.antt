@@ -59,9 +59,13 @@ l435 : unmarked_links (codes "- [x] [b]\n\n[b]: /u\n[x]: /v") ≡ link_at 0 (cod
 unfolding sections
 l435 = refl
 
-e436 : printable_sections (codes "> [!NOTE]\n> a\n> b\n\n> [!tip]  \n> c") ≡ behind (AlertBar Note ∷ []) 1 (row Paragraph (flagged true false false false false (codes "NOTE") ∷ []) ∷ row Paragraph (plain (codes "a b") ∷ []) ∷ []) ∷ blank [] ∷ behind (AlertBar Tip ∷ []) 1 (row Paragraph (flagged true false false false false (codes "TIP") ∷ []) ∷ row Paragraph (plain (codes "c") ∷ []) ∷ []) ∷ []
+e436 : printable_sections (codes "> [!NOTE]\n> a\n> [b](/u)\n\n> [!tip]  \n> c\n\n[!note]: /v") ≡ behind (AlertBar Note ∷ []) 1 (row Paragraph (flagged true false false false false (codes "NOTE") ∷ []) ∷ row Paragraph (plain (codes "a ") ∷ flagged false false false false true (codes "b") ∷ []) ∷ []) ∷ blank [] ∷ behind (AlertBar Tip ∷ []) 1 (row Paragraph (flagged true false false false false (codes "TIP") ∷ []) ∷ row Paragraph (plain (codes "c") ∷ []) ∷ []) ∷ []
 unfolding sections
 e436 = refl
+
+l436 : unmarked_links (codes "> [!NOTE]\n> a\n> [b](/u)\n\n> [!tip]  \n> c\n\n[!note]: /v") ≡ link_at 0 (codes "/u") ∷ []
+unfolding sections
+l436 = refl
 
 e437 : printable_sections (codes "> [!Important]\n\n> [!WARNING] a") ≡ behind (AlertBar Important ∷ []) 1 (row Paragraph (flagged true false false false false (codes "IMPORTANT") ∷ []) ∷ []) ∷ blank [] ∷ behind (Bar ∷ []) 1 (row Paragraph (plain (codes "[!WARNING] a") ∷ []) ∷ []) ∷ []
 unfolding sections
@@ -124,4 +128,4 @@ unfolding sections
 e450 = refl
 
 pub sections18 : AreSections18
-sections18 = record { e426 = e426; e427 = e427; e428 = e428; l428 = l428; e429 = e429; e430 = e430; e431 = e431; e432 = e432; e433 = e433; e434 = e434; e435 = e435; l435 = l435; e436 = e436; e437 = e437; e438 = e438; e439 = e439; e440 = e440; e441 = e441; e442 = e442; e443 = e443; e444 = e444; e445 = e445; e446 = e446; e447 = e447; e448 = e448; e449 = e449; l449 = l449; e450 = e450 }
+sections18 = record { e426 = e426; e427 = e427; e428 = e428; l428 = l428; e429 = e429; e430 = e430; e431 = e431; e432 = e432; e433 = e433; e434 = e434; e435 = e435; l435 = l435; e436 = e436; l436 = l436; e437 = e437; e438 = e438; e439 = e439; e440 = e440; e441 = e441; e442 = e442; e443 = e443; e444 = e444; e445 = e445; e446 = e446; e447 = e447; e448 = e448; e449 = e449; l449 = l449; e450 = e450 }

@@ -15,7 +15,7 @@ pub record AreBlocks18 : Type 0 where
   pub e433 : seen (codes "- a\n\n  [x] b\n\n- - [ ] c\n  - > [x] d") ≡ opens (Item 45 0 2) ∷ leaf Paragraph (codes "a" ∷ []) ∷ leaf Paragraph (codes "[x] b" ∷ []) ∷ closes ∷ opens (Item 45 0 2) ∷ opens (Item 45 0 2) ∷ leaf Paragraph (codes "[ ] c" ∷ []) ∷ closes ∷ opens (Item 45 0 2) ∷ opens Quote ∷ leaf Paragraph (codes "[x] d" ∷ []) ∷ closes ∷ closes ∷ closes ∷ []
   pub e434 : seen (codes "- [x] <!-- c -->\n- # [x] a\n- \\[x] b") ≡ opens (Item 45 0 2) ∷ leaf Paragraph (codes "[x] <!-- c -->" ∷ []) ∷ closes ∷ opens (Item 45 0 2) ∷ leaf (Heading 1) (codes "[x] a" ∷ []) ∷ closes ∷ opens (Item 45 0 2) ∷ leaf Paragraph (codes "\\[x] b" ∷ []) ∷ closes ∷ []
   pub e435 : seen (codes "- [x] [b]\n\n[b]: /u\n[x]: /v") ≡ opens (Item 45 0 2) ∷ leaf Paragraph (codes "[x] [b]" ∷ []) ∷ closes ∷ leaf Definitions (codes "[b]: /u" ∷ codes "[x]: /v" ∷ []) ∷ []
-  pub e436 : seen (codes "> [!NOTE]\n> a\n> b\n\n> [!tip]  \n> c") ≡ opens Quote ∷ leaf Paragraph (codes "[!NOTE]" ∷ codes "a" ∷ codes "b" ∷ []) ∷ closes ∷ opens Quote ∷ leaf Paragraph (codes "[!tip]  " ∷ codes "c" ∷ []) ∷ closes ∷ []
+  pub e436 : seen (codes "> [!NOTE]\n> a\n> [b](/u)\n\n> [!tip]  \n> c\n\n[!note]: /v") ≡ opens Quote ∷ leaf Paragraph (codes "[!NOTE]" ∷ codes "a" ∷ codes "[b](/u)" ∷ []) ∷ closes ∷ opens Quote ∷ leaf Paragraph (codes "[!tip]  " ∷ codes "c" ∷ []) ∷ closes ∷ leaf Definitions (codes "[!note]: /v" ∷ []) ∷ []
   pub e437 : seen (codes "> [!Important]\n\n> [!WARNING] a") ≡ opens Quote ∷ leaf Paragraph (codes "[!Important]" ∷ []) ∷ closes ∷ opens Quote ∷ leaf Paragraph (codes "[!WARNING] a" ∷ []) ∷ closes ∷ []
   pub e438 : seen (codes "> a\n>\n> [!NOTE]") ≡ opens Quote ∷ leaf Paragraph (codes "a" ∷ []) ∷ leaf Paragraph (codes "[!NOTE]" ∷ []) ∷ closes ∷ []
   pub e439 : seen (codes "> [!CAUTION]\n>\n> a\n\n- [!NOTE]\n  b") ≡ opens Quote ∷ leaf Paragraph (codes "[!CAUTION]" ∷ []) ∷ leaf Paragraph (codes "a" ∷ []) ∷ closes ∷ opens (Item 45 0 2) ∷ leaf Paragraph (codes "[!NOTE]" ∷ codes "b" ∷ []) ∷ closes ∷ []

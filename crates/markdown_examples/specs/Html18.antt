@@ -13,7 +13,7 @@ pub record ArePrinted18 : Type 0 where
   pub e433 : IsPrinted (codes "- a\n\n  [x] b\n\n- - [ ] c\n  - > [x] d") (codes "<ul>\n<li>\n<p>a</p>\n<p>[x] b</p>\n</li>\n<li>\n<ul>\n<li>[ ] c</li>\n<li>\n<blockquote>\n<p>[x] d</p>\n</blockquote>\n</li>\n</ul>\n</li>\n</ul>\n")
   pub e434 : IsPrinted (codes "- [x] <!-- c -->\n- # [x] a\n- \\[x] b") (codes "<ul>\n<li>[x] <!-- c --></li>\n<li>\n<h1>[x] a</h1>\n</li>\n<li>[x] b</li>\n</ul>\n")
   pub e435 : IsPrinted (codes "- [x] [b]\n\n[b]: /u\n[x]: /v") (codes "<ul>\n<li><a href=\"/v\">x</a> <a href=\"/u\">b</a></li>\n</ul>\n")
-  pub e436 : IsPrinted (codes "> [!NOTE]\n> a\n> b\n\n> [!tip]  \n> c") (codes "<blockquote>\n<p>[!NOTE]\na\nb</p>\n</blockquote>\n<blockquote>\n<p>[!tip]<br />\nc</p>\n</blockquote>\n")
+  pub e436 : IsPrinted (codes "> [!NOTE]\n> a\n> [b](/u)\n\n> [!tip]  \n> c\n\n[!note]: /v") (codes "<blockquote>\n<p><a href=\"/v\">!NOTE</a>\na\n<a href=\"/u\">b</a></p>\n</blockquote>\n<blockquote>\n<p>[!tip]<br />\nc</p>\n</blockquote>\n")
   pub e437 : IsPrinted (codes "> [!Important]\n\n> [!WARNING] a") (codes "<blockquote>\n<p>[!Important]</p>\n</blockquote>\n<blockquote>\n<p>[!WARNING] a</p>\n</blockquote>\n")
   pub e438 : IsPrinted (codes "> a\n>\n> [!NOTE]") (codes "<blockquote>\n<p>a</p>\n<p>[!NOTE]</p>\n</blockquote>\n")
   pub e439 : IsPrinted (codes "> [!CAUTION]\n>\n> a\n\n- [!NOTE]\n  b") (codes "<blockquote>\n<p>[!CAUTION]</p>\n<p>a</p>\n</blockquote>\n<ul>\n<li>[!NOTE]\nb</li>\n</ul>\n")
