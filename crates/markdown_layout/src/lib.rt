@@ -10,4 +10,4 @@ pub mod page_writing;
 pub mod writing;
 
 pub use page_writing::{append_page_row, append_section};
-pub use writing::{write_markdown_on, write_page_on};
+pub use writing::{markdown_skin, write_markdown_on, write_page_on};

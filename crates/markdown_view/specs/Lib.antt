@@ -1,0 +1,3 @@
+pub mod AreaRows
+pub mod MarkdownViews
+pub mod WiderPages
