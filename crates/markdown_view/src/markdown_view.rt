@@ -43,7 +43,7 @@ pub struct MarkdownView<'m> {
     scroll: usize,
 }
 
-impl Model for MarkdownView<'_> {
+impl<'m> Model for MarkdownView<'m> {
     ghost use Rattle.std.specs.Prelude.{◌-◌, Some, map};
     ghost use Rattle.mad_page_rows.specs.Faces.{has_ascii_boxes};
     ghost use Rattle.mad_pages.specs.PageLayouts.{IsPageAt};
