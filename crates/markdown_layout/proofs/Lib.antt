@@ -1,5 +1,8 @@
-mod BoxLemmas
+mod DrawnLemmas
+mod LookLemmas
+mod MarkLemmas
 mod WrittenLemmas
 pub mod CellLemmas
+pub mod KeptLemmas
 pub mod NestedRowLemmas
 pub mod ShownLemmas
