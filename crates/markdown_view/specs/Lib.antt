@@ -1,3 +1,1 @@
-pub mod AreaRows
 pub mod MarkdownViews
-pub mod WiderPages

@@ -1,12 +1,15 @@
 -- Views of Markdown texts: what they are of, what is drawn of them, and what is shown.
-use Rattle.std.specs.Prelude.{◌≡◌, ◌≢◌, ℕ, ◌-◌, ◌≤◌, ◌==◌, true, false, List, length, map, Option, Some, IfSome, if◌then◌else◌}
+use Rattle.std.specs.Prelude.{◌≡◌, ℕ, ◌-◌, ◌≤◌, ◌==◌, List, drop, length, map, Option, Some, None, IfSome, if◌then◌else◌}
 use Rattle.std.specs.List.{AllByRecursion}
 use Rattle.mad_measure.specs.declared.area.Area.{Area}
+use Rattle.mad_style.specs.StyledChars.{styled_char}
+use Rattle.mad_style.specs.declared.compound_styles.CompoundStyle.{CompoundStyle}
+use Rattle.mad_style.specs.declared.scroll_bars.ScrollBarStyle.{ScrollBarStyle}
+use Rattle.mad_term.specs.Trace.{Trace, TookWith}
 use Rattle.mad_draw.specs.BarsApart.{AreShownBeside, panes_beside, panes_bytes}
 use Rattle.mad_draw.specs.BesideBar.{IsBarShown, bar_beside}
 use Rattle.mad_draw.specs.Pieces.{RowPiece}
 use Rattle.mad_draw.specs.declared.scroll_bars.ScrollBar.{ScrollBar}
-use Rattle.mad_style.specs.declared.scroll_bars.ScrollBarStyle.{ScrollBarStyle}
 use Rattle.mad_rows.specs.RowStyles.{line_rules}
 use Rattle.mad_rows.specs.declared.row_skin.RowSkin.{RowSkin}
 use Rattle.mad_sections.specs.Sections.{SectionContent}
@@ -16,10 +19,10 @@ use Rattle.mad_pages.specs.declared.page_rows.PageRow.{PageRow}
 use Rattle.mad_page_rows.specs.FaceLaws.{AreFacesShown}
 use Rattle.mad_page_rows.specs.Faces.{has_ascii_boxes}
 use Rattle.mad_page_rows.specs.PageFits.{KeepsRoom, sections_at}
-use Rattle.mad_term.specs.Trace.{Trace, TookWith}
-use Rattle.markdown_view.specs.AreaRows.{rows_beside}
+use Rattle.markdown_layout.specs.DrawnMarkdown.{placed_rows}
+use Rattle.markdown_layout.specs.KeptPremises.{AreMarksShown, IsTypedSection, KeepPremises, PageHasRoom}
 
--- A view: its area, what rows show of its skin, how its bar looks, the sections of its text, their rows, and how many of these are above the area.
+-- A view: its area, what rows show of its skin, how its bar looks, the sections of its text, the rows of these, and how many of the rows are above the area.
 pub record ViewContent : Type 0 where
   pub area : Area
   pub skin : RowSkin
@@ -30,16 +33,24 @@ pub record ViewContent : Type 0 where
 
 -- ---- what it is of
 
--- its rows are those of its page, a column narrower than its area
+-- the columns of its rows: all of its area's but the last
+abbrev pub page_columns : Area → ℕ
+page_columns area = area.width - 1
+
+-- the rows are those of a page in an area
+abbrev pub AreRowsIn : RowSkin → Area → List SectionContent → List PageRow → Type 0
+AreRowsIn skin area page rows = IsPageAt (line_rules skin) (has_ascii_boxes skin) (Some (page_columns area)) page (map row_content rows)
+
+-- its rows are those of its page in its area
 abbrev pub IsLaidOut : ViewContent → Type 0
-IsLaidOut view = IsPageAt (line_rules view.skin) (has_ascii_boxes view.skin) (Some (view.area.width - 1)) view.page (map row_content view.rows)
+IsLaidOut view = AreRowsIn view.skin view.area view.page view.rows
 
--- it is another view with these rows laid out anew, from the first on
-pub record IsLaidAnew (other view : ViewContent) : Type 0 where
+-- It is laid out anew, and shown from its first row on; all else is as here.
+pub record IsLaidAnew (here view : ViewContent) : Type 0 where
   pub laid_out : IsLaidOut view
-  pub others : view ≡ record other { rows = view.rows; scroll = 0 }
+  pub others : view ≡ record here { rows = view.rows; scroll = 0 }
 
--- in an area of another width it is laid out anew, and of the same width it stays
+-- In an area of another width it is laid out anew. In one of the same width it stays as it is.
 abbrev pub IsResized : Area → ViewContent → ViewContent → Type 0
 IsResized area old new = if area.width == old.area.width then new ≡ record old { area = area } else IsLaidAnew (record old { area = area }) new
 
@@ -49,25 +60,51 @@ IsResized area old new = if area.width == old.area.width then new ≡ record old
 abbrev pub bar_of : ViewContent → Option ScrollBar
 bar_of view = bar_beside view.area view.scroll (length view.rows) view.bar
 
--- what its area shows in a row, without the bar: the page's rows from the scroll on
-abbrev pub rows_of : ViewContent → ℕ → List RowPiece
-rows_of view = rows_beside view.skin (bar_of view) view.rows view.scroll view.area
+-- blanks beside an area, in the place of a bar
+abbrev pub blank_bar : CompoundStyle → Area → ScrollBar
+blank_bar style area = record { style = record { track = styled_char style 32; thumb = styled_char style 32 }; top = area.top; thumb = (0, 0) }
 
--- what is written of it
+-- a bar, or blanks where there is none
+abbrev pub bar_or_blanks : Option ScrollBar → ScrollBar → ScrollBar
+bar_or_blanks (Some bar) blanks = bar
+bar_or_blanks None blanks = blanks
+
+-- what its area's last column shows: its bar, or blanks in the paragraph's style
+abbrev pub last_column_of : ViewContent → ScrollBar
+last_column_of view = bar_or_blanks (bar_of view) (blank_bar view.skin.paragraph.compound_style view.area)
+
+-- what its area shows in each row but for the last column: the page's rows from the scroll on, past the last one spaces
+abbrev pub rows_of : ViewContent → ℕ → List RowPiece
+rows_of view = placed_rows view.skin (page_columns view.area) (drop view.scroll view.rows)
+
+-- what is written of it: its rows, and then its last column
 abbrev pub view_bytes : ViewContent → List ℕ
-view_bytes view = panes_bytes (panes_beside (bar_of view) (rows_of view) view.area)
+view_bytes view = panes_bytes (panes_beside (Some (last_column_of view)) (rows_of view) view.area)
 
 -- ---- what is shown
 
--- What a view has to keep: its area has four columns, the sections that are shown keep the premises, and the characters of gutters and of the bar, if
--- there is one, take one column each.
-pub record KeepsViewPremises (view : ViewContent) : Type 0 where
+-- What a plain terminal shows of it: its rows from the scroll on, and beside them its bar, if it has one. No cell outside its area changes.
+abbrev pub IsShown : ViewContent → Trace → Trace → Type 0
+IsShown view old new = TookWith old new (AreShownBeside (Some (last_column_of view)) (rows_of view) view.area)
+
+-- its area has four columns, and its bar's characters take one each, if it has a bar
+pub record IsShownBeside (view : ViewContent) : Type 0 where
   pub wide : 4 ≤ view.area.width
-  pub faces : AreFacesShown view.skin
-  pub page : AllByRecursion (KeepsRoom view.skin (view.area.width - 1)) (sections_at view.skin (view.area.width - 1) view.page)
   pub bar : IfSome (bar_of view) (IsBarShown view.area.width)
 
--- What a plain terminal shows that reads what was written of a view that keeps the premises: the rows of its page from its scroll on, and beside them
--- its bar. No cell outside the area changes, and the pen is plain again.
-abbrev pub ShowsView : ViewContent → Trace → Trace → Type 0
-ShowsView view old new = KeepsViewPremises view → TookWith old new (AreShownBeside (bar_of view) (rows_of view) view.area)
+-- it is shown where the sections that are shown keep the premises, and the characters of gutters take one column each
+abbrev pub ShowsKeptView : ViewContent → Trace → Trace → Type 0
+ShowsKeptView view old new =
+    IsShownBeside view → AreFacesShown view.skin → AllByRecursion (KeepsRoom view.skin (page_columns view.area)) (sections_at view.skin (page_columns view.area) view.page) → IsShown view old new
+
+-- Of a text that keeps the premises of texts it is shown, where each mark of the skin takes a column, and the sections that are shown have room.
+abbrev pub ShowsReadView : ViewContent → Trace → Trace → Type 0
+ShowsReadView view old new =
+    IsShownBeside view → KeepPremises view.page → AreMarksShown view.skin → PageHasRoom view.skin (page_columns view.area) view.page → IsShown view old new
+
+-- ---- what its fields keep
+
+-- its rows are those of its page, and its sections are as their types promise
+pub record IsSoundView (skin : RowSkin) (area : Area) (page : List SectionContent) (rows : List PageRow) : Type 0 where
+  pub laid_out : AreRowsIn skin area page rows
+  pub typed : AllByRecursion IsTypedSection page

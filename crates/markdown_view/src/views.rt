@@ -1,38 +1,34 @@
 //! A text of Markdown in an area.
 
-ghost use Rattle.std.specs.Prelude.{◌≡◌, ◌≢◌, ◌↔◌, ◌-◌, IfOk, IsTrue, OnErr, OnOk, Some, length, map};
-ghost use Rattle.mad_layout.specs.declared.skin.MadSkin.{MadSkin};
+ghost use Rattle.std.specs.Prelude.{◌≡◌, ◌≢◌, ◌↔◌, ◌-◌, IfOk, IsTrue, OnErr, OnOk, Some, drop, length};
 ghost use Rattle.mad_measure.specs.Areas.{IsWithinLimits};
 ghost use Rattle.mad_measure.specs.Thumbs.{scrollbar_at};
-ghost use Rattle.mad_page_rows.specs.Faces.{has_ascii_boxes};
-ghost use Rattle.mad_pages.specs.PageLayouts.{IsPageAt};
-ghost use Rattle.mad_pages.specs.PageRows.{row_content};
-ghost use Rattle.mad_rows.specs.RowStyles.{line_rules};
 ghost use Rattle.mad_term.specs.Draws.{Draws};
 ghost use Rattle.mad_view.specs.Scrolls.{pages_in_lines, scroll_within, scrolled_by, scrolled_down};
 ghost use Rattle.mad_view.specs.ViewKeys.{scrolled_by_key};
 ghost use Rattle.markdown_layout.specs.WrittenPages.{markdown_skin};
 ghost use Rattle.markdown_reader.specs.MarkdownSays.{markdown_says};
-ghost use Rattle.markdown_view.specs.MarkdownViews.{IsLaidAnew, IsLaidOut, IsResized, ShowsView, view_bytes};
+ghost use Rattle.markdown_view.specs.MarkdownViews.{IsLaidAnew, IsLaidOut, IsResized, IsSoundView, ShowsKeptView, ShowsReadView, last_column_of, page_columns, view_bytes};
 
-use crate::page_rows::draw_from;
-use mad_draw::ScrollBar;
+use mad_draw::{ScrollBar, draw_rows_beside};
 use mad_layout::MadSkin;
 use mad_measure::Area;
-use mad_page_rows::has_ascii_boxes;
+use mad_page_rows::{PageTextRows, has_ascii_boxes};
 use mad_pages::{PageRow, lay_page};
 use mad_rows::RowSkin;
-use mad_style::ScrollBarStyle;
+use mad_style::{ScrollBarStyle, StyledChar};
 use mad_term::{Error, KeyCode, KeyCombination, KeyEvent, KeyModifiers, Out};
 use mad_view::scrolls::{pages_in_lines, scroll_within, scrolled_by, scrolled_down};
 use markdown_layout::markdown_skin;
+use markdown_layout::typed_pages::typed_page;
 use markdown_reader::Markdown;
 use std::alloc::{AllocError, Global};
 use std::marker::Model;
 
-/// A text of Markdown in an area of the screen, as a page: it shows as many rows as the area has, beside a scroll bar.
+/// A text of Markdown in an area of the screen, as a page: it shows as many rows as the area has. The area's last column is the scroll bar's.
 ///
-/// The page is laid out once, a column narrower than the area, and anew where the area's width changes. So drawing takes the time of what is shown.
+/// The page is laid out once, in the other columns, and anew where their count changes. So drawing takes the time of what is shown, and scrolling
+/// takes no memory.
 #[derive(Drop)]
 pub struct MarkdownView<'m> {
     markdown: &'m Markdown,
@@ -44,19 +40,14 @@ pub struct MarkdownView<'m> {
 }
 
 impl<'m> Model for MarkdownView<'m> {
-    ghost use Rattle.std.specs.Prelude.{◌-◌, Some, map};
-    ghost use Rattle.mad_page_rows.specs.Faces.{has_ascii_boxes};
-    ghost use Rattle.mad_pages.specs.PageLayouts.{IsPageAt};
-    ghost use Rattle.mad_pages.specs.PageRows.{row_content};
-    ghost use Rattle.mad_rows.specs.RowStyles.{line_rules};
     ghost use Rattle.markdown_reader.specs.MarkdownSays.{markdown_says};
-    ghost use Rattle.markdown_view.specs.MarkdownViews.{ViewContent};
+    ghost use Rattle.markdown_view.specs.MarkdownViews.{IsSoundView, ViewContent};
 
     ghost Value = { ViewContent };
 
     ghost view = { λ v. record { area = v.area; skin = v.skin; bar = v.bar; page = markdown_says v.markdown.now; rows = v.rows.items; scroll = v.scroll } };
 
-    ghost invariant = { λ v. IsPageAt (line_rules v.skin) (has_ascii_boxes v.skin) (Some (v.area.width - 1)) (markdown_says v.markdown.now) (map row_content v.rows.items) };
+    ghost invariant = { λ v. IsSoundView v.skin v.area (markdown_says v.markdown.now) v.rows.items };
 }
 
 impl<'m> MarkdownView<'m> {
@@ -76,7 +67,7 @@ impl<'m> MarkdownView<'m> {
         ensures { IfOk result (λ view. IsLaidAnew (record { area = area; skin = markdown_skin skin.now; bar = skin.now.scrollbar; page = markdown_says markdown.entry.now; rows = view.rows; scroll = 0 }) view) }
     {
         let row_skin = markdown_skin(skin);
-        let rows = laid_out(alloc, markdown, &row_skin, area.width)?;
+        let rows = laid_out(alloc, markdown, &row_skin, &area)?;
         Ok(MarkdownView {
             markdown,
             area,
@@ -97,7 +88,7 @@ impl<'m> MarkdownView<'m> {
         ensures err { OnErr result (self.new ≡ self.old) }
     {
         let alloc = *self.rows.allocator();
-        let rows = laid_out(alloc, markdown, &self.skin, self.area.width)?;
+        let rows = laid_out(alloc, markdown, &self.skin, &self.area)?;
         self.markdown = markdown;
         self.rows = rows;
         self.scroll = 0;
@@ -118,7 +109,7 @@ impl<'m> MarkdownView<'m> {
             return Ok(());
         }
         let alloc = *self.rows.allocator();
-        let rows = laid_out(alloc, self.markdown, &self.skin, area.width)?;
+        let rows = laid_out(alloc, self.markdown, &self.skin, area)?;
         self.area = *area;
         self.rows = rows;
         self.scroll = 0;
@@ -255,8 +246,8 @@ impl<'m> MarkdownView<'m> {
         moved
     }
 
-    /// Draws the rows of the page in the area, that of the view's scroll first, and a scroll bar in the area's last column, where the page has more
-    /// rows than the area. Past the last row there are spaces in the paragraph's style. Nothing is flushed, and the view is not changed.
+    /// Draws the rows of the page in the area, that of the view's scroll first, and past the last one spaces. In the area's last column there is a
+    /// scroll bar, where the page has more rows than the area, and else blanks. Nothing is flushed, and the view is not changed.
     ///
     /// The area's right and bottom have to fit a `u16`. What it shows is promised from four columns on.
     ///
@@ -267,32 +258,70 @@ impl<'m> MarkdownView<'m> {
         requires { IsWithinLimits self.now.area }
         ensures laid_out { IsLaidOut self.now }
         ensures writes { Draws (O.seen out.old) (view_bytes self.now) result (O.seen out.new) }
-        ensures shown { OnOk result (ShowsView self.now (O.seen out.old) (O.seen out.new)) }
+
+        // What a plain terminal shows that reads it, where the sections that are shown keep the premises of drawing.
+        ensures shown { OnOk result (ShowsKeptView self.now (O.seen out.old) (O.seen out.new)) }
+
+        // The same of a text that was read: nothing is asked of it but room.
+        ensures read { OnOk result (ShowsReadView self.now (O.seen out.old) (O.seen out.new)) }
     {
         let alloc = *self.rows.allocator();
-        let bar = ScrollBar::beside(&self.area, self.scroll, self.rows.len(), self.bar);
-        draw_from(
-            alloc,
-            out,
-            &self.skin,
-            bar,
-            &self.rows,
-            self.scroll,
-            &self.area,
-        )
+        let bar = self.last_column();
+        let shown = PageTextRows {
+            skin: &self.skin,
+            rows: rows_from(&self.rows, self.scroll),
+            width: page_columns(&self.area),
+        };
+        draw_rows_beside(alloc, out, &shown, Some(bar), &self.area)
+    }
+
+    // What the area's last column shows: the scroll bar, or blanks.
+    fn last_column(&self) -> ScrollBar
+        ensures { result ≡ last_column_of self.now }
+    {
+        match ScrollBar::beside(&self.area, self.scroll, self.rows.len(), self.bar) {
+            Some(bar) => bar,
+            None => {
+                let blank = StyledChar::new(self.skin.paragraph.compound_style, ' ');
+                ScrollBar {
+                    style: ScrollBarStyle {
+                        track: blank,
+                        thumb: blank,
+                    },
+                    top: self.area.top,
+                    thumb: (0, 0),
+                }
+            }
+        }
     }
 }
 
-// The rows of a text's page, a column narrower than a width.
+// The rows of a text's page in an area.
 fn laid_out<'m>(
     alloc: Global,
     markdown: &'m Markdown,
     skin: &RowSkin,
-    width: u16,
+    area: &Area,
 ) -> Result<Vec<PageRow<'m>>, AllocError>
-    ensures { IfOk result (λ rows. IsPageAt (line_rules skin.now) (has_ascii_boxes skin.now) (Some (width - 1)) (markdown_says markdown.entry.now) (map row_content rows.items)) }
+    ensures { IfOk result (λ rows. IsSoundView skin.now area.now (markdown_says markdown.entry.now) rows.items) }
 {
     let page = markdown.page(alloc)?;
-    let columns = usize::from(width).saturating_sub(1);
-    lay_page(alloc, skin, page, Some(columns), has_ascii_boxes(skin))
+    // Nothing is done: this only says what types promise.
+    typed_page(&page);
+    let columns = Some(page_columns(area));
+    lay_page(alloc, skin, page, columns, has_ascii_boxes(skin))
+}
+
+// The columns of a page in an area.
+fn page_columns(area: &Area) -> usize
+    ensures { result ≡ page_columns area.now }
+{
+    usize::from(area.width).saturating_sub(1)
+}
+
+// The rows from one on; past the last one none.
+fn rows_from<'a, 's>(rows: &'a [PageRow<'s>], first: usize) -> &'a [PageRow<'s>]
+    ensures { result.now ≡ drop first rows.entry.now }
+{
+    &rows[first.min(rows.len())..]
 }
