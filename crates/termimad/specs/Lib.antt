@@ -245,10 +245,10 @@ pub use Rattle.mad_page_rows.specs.AreaRows as PageAreaRows
 pub use Rattle.mad_page_rows.specs.FaceLaws
 pub use Rattle.mad_page_rows.specs.Faces
 pub use Rattle.mad_page_rows.specs.PageFits
+pub use Rattle.markdown_layout.specs.DrawnMarkdown
+pub use Rattle.markdown_layout.specs.KeptPremises
 pub use Rattle.markdown_layout.specs.WrittenPages
-pub use Rattle.markdown_view.specs.AreaRows as ViewAreaRows
 pub use Rattle.markdown_view.specs.MarkdownViews
-pub use Rattle.markdown_view.specs.WiderPages
 pub use Rattle.markdown_reader.specs.Markdown
 pub use Rattle.markdown_reader.specs.MarkdownSays
 pub use Rattle.markdown_reader.specs.Printed

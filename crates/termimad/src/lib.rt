@@ -49,8 +49,7 @@ pub mod pages {
     pub use mad_page_rows::{PageTextRows, PlacedPageRows, laws};
     pub use mad_pages::{PageRow, lay_page};
     pub use mad_sections::Alert;
-    pub use markdown_layout::markdown_skin;
-    pub use markdown_view::laws as view_laws;
+    pub use markdown_layout::{draw_page, lay_markdown, markdown_skin, read_drawable};
 }
 
 /// Laws of the widths of a table's columns.
@@ -271,6 +270,7 @@ pub use mad_view::TextView;
 pub use mad_view::draw_views;
 pub use mad_widths::TblFit;
 pub use mad_widths::TblFitResult;
+pub use markdown_layout::draw_markdown;
 pub use markdown_layout::write_markdown_on;
 pub use markdown_layout::write_page_on;
 pub use markdown_reader::Link;
