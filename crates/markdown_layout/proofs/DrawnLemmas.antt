@@ -1,7 +1,6 @@
 -- What an area shows of a page.
 use Rattle.std.proofs.Common.{◌≡◌, ℕ, zero, suc, ◌-◌, ◌^◌, ◌<◌, ◌≤◌, List, [], ◌∷◌, map, Result, Ok, Err, OnOk, sym, subst, arith}
 use Rattle.std.specs.List.{AllByRecursion}
-use Rattle.mad_style.specs.declared.kinds.CompositeKind.TheVariants.{ListItem, OrderedListItem, Quote}
 use Rattle.mad_term.specs.Trace.{Trace, TookWith}
 use Rattle.mad_measure.specs.declared.area.Area.{Area}
 use Rattle.mad_draw.specs.DrawnRows.{AreRowsShown, FillArea}
@@ -11,11 +10,10 @@ use Rattle.mad_rows.specs.declared.row_skin.RowSkin.{RowSkin}
 use Rattle.mad_sections.specs.Sections.{SectionContent}
 use Rattle.mad_pages.specs.PageRows.{row_content}
 use Rattle.mad_pages.specs.declared.page_rows.PageRow.{PageRow}
-use Rattle.mad_page_rows.specs.FaceLaws.{AreFacesShown}
 use Rattle.mad_page_rows.specs.PageFits.{AllFill}
 use Rattle.mad_page_rows.proofs.FitLemmas.{pages_fill}
 use Rattle.markdown_layout.specs.DrawnMarkdown.{placed_rows, ArePageOf, ShowsKept, ShowsMarkdown}
-use Rattle.markdown_layout.specs.KeptPremises.{AreMarksShown, IsTypedSection, KeepPremises}
+use Rattle.markdown_layout.specs.KeptPremises.{IsTypedSection, KeepPremises}
 
 -- each row of a page fills its place, and so do spaces
 fills_at : (skin : RowSkin) (width : ℕ) (rows : List PageRow) (y : ℕ) → AllFill skin width (map row_content rows) → FillsRow width (placed_rows skin width rows y)
@@ -31,15 +29,11 @@ shown_kept {T} {E} (Ok x) skin page area rows old new bound laid h = λ three fa
     (rows, laid, h (λ y inside. fills_at skin area.width rows y fill))
 shown_kept {T} {E} (Err x) skin page area rows old new bound laid h = tt
 
--- the marks of a skin among which are the characters of gutters
-faces_of : (skin : RowSkin) → AreMarksShown skin → AreFacesShown skin
-faces_of skin marks = record { bar = marks.prefixes Quote; bullet = marks.prefixes (ListItem 0); suffix = marks.prefixes (OrderedListItem 0 0); page = marks.signs }
-
--- Markdown that was read is shown, where it has room
+-- Markdown that was read is shown
 pub shown_read : {T E : Type 0} (r : Result T E) (skin : RowSkin) (source said page : List SectionContent) (area : Area) (old new : Trace) → said ≡ source → page ≡ said → KeepPremises said → AllByRecursion IsTypedSection page
     → OnOk r (3 ≤ area.width → ShowsKept skin page area old new) → OnOk r (3 ≤ area.width → ShowsMarkdown skin source area old new)
 shown_read {T} {E} (Ok x) skin source said page area old new says same keeps typed h = λ three.
     subst (λ (s : List SectionContent). ShowsMarkdown skin s area old new) says
     (subst (λ (s : List SectionContent). ShowsMarkdown skin s area old new) same
-    (λ marks room. h three (faces_of skin marks) (subst KeepPremises (sym same) keeps typed skin area.width marks room)))
+    (λ marks. h three marks.faces (subst KeepPremises (sym same) keeps typed skin area.width three marks)))
 shown_read {T} {E} (Err x) skin source said page area old new says same keeps typed h = tt

@@ -1,6 +1,7 @@
 mod DrawnLemmas
 mod LookLemmas
 mod MarkLemmas
+mod WideColumns
 mod WrittenLemmas
 pub mod CellLemmas
 pub mod KeptLemmas

@@ -18,7 +18,7 @@ use Rattle.mad_page_rows.specs.AreaRows.{row_shown}
 use Rattle.mad_page_rows.specs.FaceLaws.{AreFacesShown}
 use Rattle.mad_page_rows.specs.Faces.{has_ascii_boxes}
 use Rattle.mad_page_rows.specs.PageFits.{KeepsRoom, sections_at}
-use Rattle.markdown_layout.specs.KeptPremises.{AreMarksShown, PageHasRoom}
+use Rattle.markdown_layout.specs.KeptPremises.{AreMarksShown}
 
 -- the rows of a page in a place of so many columns, each by its number; past the last one spaces
 abbrev pub placed_rows : RowSkin → ℕ → List PageRow → ℕ → List RowPiece
@@ -47,6 +47,6 @@ ShowsPage skin page area old new =
 abbrev pub ShowsKept : RowSkin → List SectionContent → Area → Trace → Trace → Type 0
 ShowsKept skin page area old new = AreFacesShown skin → AllByRecursion (KeepsRoom skin area.width) (sections_at skin area.width page) → ShowsPage skin page area old new
 
--- it shows them, whatever the text says, where each mark of the skin takes a column, and the sections that are shown have room
+-- it shows them, whatever the text says, where each mark of the skin takes a column
 abbrev pub ShowsMarkdown : RowSkin → List SectionContent → Area → Trace → Trace → Type 0
-ShowsMarkdown skin page area old new = AreMarksShown skin → PageHasRoom skin area.width page → ShowsPage skin page area old new
+ShowsMarkdown skin page area old new = AreMarksShown skin → ShowsPage skin page area old new

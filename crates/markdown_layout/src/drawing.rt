@@ -26,13 +26,13 @@ use mad_term::{Error, Out};
 use markdown_reader::Markdown;
 use std::alloc::{AllocError, Global};
 
-/// Reads a text as [`Markdown::read`] does. Its sections keep the premises of drawing that speak of texts: no control character, and each
-/// widthless character is no whitespace and follows a non-blank one in its compound.
+/// Reads a text as [`Markdown::read`] does. Its sections keep the premises of drawing that speak of texts: no control character, each
+/// widthless character is no whitespace and follows a non-blank one in its compound, and from three columns on all have room.
 ///
 /// # Errors
 ///
 /// Out of memory is the only error.
-#[tactic(auto, using(crate::proofs::KeptLemmas::keep))]
+#[tactic(auto, using(crate::proofs::KeptLemmas::read_keeps))]
 pub fn read_drawable(alloc: Global, source: &str) -> Result<Markdown, AllocError>
     ensures sections { IfOk result (λ read. markdown_says read ≡ markdown_sections source.now) }
     ensures premises { IfOk result (λ read. KeepPremises (markdown_says read)) }
@@ -78,7 +78,7 @@ pub fn draw_markdown<O: Out>(
     requires { IsWithinLimits area.now }
     ensures writes { DrawsPage (markdown_skin skin.now) (markdown_sections markdown.now) area.now (O.seen out.old) result (O.seen out.new) }
 
-    // Nothing is asked of the text but room.
+    // What a plain terminal shows that reads it. Nothing is asked of the text.
     ensures shown { OnOk result (3 ≤ area.now.width → ShowsMarkdown (markdown_skin skin.now) (markdown_sections markdown.now) area.now (O.seen out.old) (O.seen out.new)) }
 {
     let read = read_drawable(alloc, markdown)?;
