@@ -20,7 +20,7 @@ use Rattle.mad_page_rows.specs.FaceLaws.{AreFacesShown}
 use Rattle.mad_page_rows.specs.Faces.{has_ascii_boxes}
 use Rattle.mad_page_rows.specs.PageFits.{KeepsRoom, sections_at}
 use Rattle.markdown_layout.specs.DrawnMarkdown.{placed_rows}
-use Rattle.markdown_layout.specs.KeptPremises.{AreMarksShown, IsTypedSection, KeepPremises, PageHasRoom}
+use Rattle.markdown_layout.specs.KeptPremises.{AreMarksShown, IsTypedSection, KeepPremises}
 
 -- A view: its area, what rows show of its skin, how its bar looks, the sections of its text, the rows of these, and how many of the rows are above the area.
 pub record ViewContent : Type 0 where
@@ -97,10 +97,9 @@ abbrev pub ShowsKeptView : ViewContent → Trace → Trace → Type 0
 ShowsKeptView view old new =
     IsShownBeside view → AreFacesShown view.skin → AllByRecursion (KeepsRoom view.skin (page_columns view.area)) (sections_at view.skin (page_columns view.area) view.page) → IsShown view old new
 
--- Of a text that keeps the premises of texts it is shown, where each mark of the skin takes a column, and the sections that are shown have room.
+-- Of a text that was read it is shown, whatever it says, where each mark of the skin takes a column.
 abbrev pub ShowsReadView : ViewContent → Trace → Trace → Type 0
-ShowsReadView view old new =
-    IsShownBeside view → KeepPremises view.page → AreMarksShown view.skin → PageHasRoom view.skin (page_columns view.area) view.page → IsShown view old new
+ShowsReadView view old new = IsShownBeside view → KeepPremises view.page → AreMarksShown view.skin → IsShown view old new
 
 -- ---- what its fields keep
 

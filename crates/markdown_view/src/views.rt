@@ -262,7 +262,7 @@ impl<'m> MarkdownView<'m> {
         // What a plain terminal shows that reads it, where the sections that are shown keep the premises of drawing.
         ensures shown { OnOk result (ShowsKeptView self.now (O.seen out.old) (O.seen out.new)) }
 
-        // The same of a text that was read: nothing is asked of it but room.
+        // The same of a text that `read_drawable` gives: nothing is asked of it.
         ensures read { OnOk result (ShowsReadView self.now (O.seen out.old) (O.seen out.new)) }
     {
         let alloc = *self.rows.allocator();

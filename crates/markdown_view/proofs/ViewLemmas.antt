@@ -1,0 +1,58 @@
+-- What is shown of a view.
+use Rattle.std.proofs.Common.{◌≡◌, ℕ, zero, suc, ◌-◌, ◌^◌, ◌<◌, ◌≤◌, List, [], ◌∷◌, map, drop, Option, Some, None, IfSome, Result, Ok, Err, OnOk, refl, ap, ◌∙◌, sym, subst, arith}
+use Rattle.std.specs.List.{AllByRecursion}
+use Rattle.mad_term.specs.Trace.{Trace, TookWith}
+use Rattle.mad_measure.specs.declared.area.Area.{Area}
+use Rattle.mad_style.specs.declared.compound_styles.CompoundStyle.{CompoundStyle}
+use Rattle.mad_draw.specs.BarsApart.{AreShownBeside, FillBeside}
+use Rattle.mad_draw.specs.BesideBar.{IsBarShown}
+use Rattle.mad_draw.specs.Pieces.{RowPiece}
+use Rattle.mad_draw.specs.declared.scroll_bars.ScrollBar.{ScrollBar}
+use Rattle.mad_rows.specs.declared.row_skin.RowSkin.{RowSkin}
+use Rattle.mad_pages.specs.PageRows.{row_content}
+use Rattle.mad_pages.specs.declared.page_rows.PageRow.{PageRow}
+use Rattle.mad_page_rows.specs.FaceLaws.{AreFacesShown}
+use Rattle.mad_page_rows.specs.PageFits.{AllFill, KeepsRoom, sections_at}
+use Rattle.mad_page_rows.proofs.FitLemmas.{pages_fill}
+use Rattle.markdown_layout.specs.DrawnMarkdown.{placed_rows}
+use Rattle.markdown_layout.specs.KeptPremises.{IsTypedSection}
+use Rattle.markdown_layout.proofs.DrawnLemmas.{fills_at}
+use Rattle.markdown_view.specs.MarkdownViews.{ViewContent, IsLaidOut, IsShownBeside, ShowsKeptView, ShowsReadView, bar_of, bar_or_blanks, blank_bar, last_column_of, page_columns, rows_of}
+
+-- the rows from one on fill their places, where all do
+dropped_fill : (skin : RowSkin) (width n : ℕ) (rows : List PageRow) → AllFill skin width (map row_content rows) → AllFill skin width (map row_content (drop n rows))
+dropped_fill skin width zero rows h = h
+dropped_fill skin width (suc n) [] h = h
+dropped_fill skin width (suc n) (row ∷ rows) h = dropped_fill skin width n rows h.1
+
+-- a bar whose characters take a column each, and so do blanks
+column_shown : (bar : Option ScrollBar) (style : CompoundStyle) (area : Area) → 4 ≤ area.width → IfSome bar (IsBarShown area.width) → IsBarShown area.width (bar_or_blanks bar (blank_bar style area))
+column_shown (Some bar) style area wide h = h
+column_shown None style area wide h = record { column = omega (arith, wide); track = record { printed = tt; one = refl }; thumb = record { printed = tt; one = refl } }
+
+-- a view's rows fill their columns, and its last column is shown
+view_fills : (view : ViewContent) → view.area.width < 2 ^ 16 → IsLaidOut view → IsShownBeside view → AreFacesShown view.skin
+    → AllByRecursion (KeepsRoom view.skin (page_columns view.area)) (sections_at view.skin (page_columns view.area) view.page) → FillBeside (Some (last_column_of view)) (rows_of view) view.area
+view_fills view bound laid beside faces keeps =
+    let width : ℕ = page_columns view.area in
+    let fill : AllFill view.skin width (map row_content view.rows) = pages_fill view.skin width view.page (map row_content view.rows) (omega (arith, beside.wide)) (omega (arith, bound)) faces keeps laid in
+    record {
+      column = column_shown (bar_of view) view.skin.paragraph.compound_style view.area beside.wide beside.bar;
+      rows = λ y inside. fills_at view.skin width (drop view.scroll view.rows) y (dropped_fill view.skin width view.scroll view.rows fill);
+    }
+
+-- rows that were drawn beside a bar are shown, where their sections keep the premises
+pub shown_kept : {T E : Type 0} (r : Result T E) (view : ViewContent) (bar : ScrollBar) (rows : List PageRow) (width : ℕ) (old new : Trace) → view.area.width < 2 ^ 16 → IsLaidOut view → bar ≡ last_column_of view → rows ≡ drop view.scroll view.rows
+    → width ≡ page_columns view.area
+    → OnOk r (FillBeside (Some bar) (placed_rows view.skin width rows) view.area → TookWith old new (AreShownBeside (Some bar) (placed_rows view.skin width rows) view.area)) → OnOk r (ShowsKeptView view old new)
+shown_kept {T} {E} (Ok x) view bar rows width old new bound laid bar_is rows_are width_is h = λ beside faces keeps.
+    let same : placed_rows view.skin width rows ≡ rows_of view = ap (λ (n : ℕ). placed_rows view.skin n rows) width_is ∙ ap (λ (rs : List PageRow). placed_rows view.skin (page_columns view.area) rs) rows_are in
+    let drawn = subst (λ (b : ScrollBar). FillBeside (Some b) (rows_of view) view.area → TookWith old new (AreShownBeside (Some b) (rows_of view) view.area)) bar_is
+      (subst (λ (row : ℕ → List RowPiece). FillBeside (Some bar) row view.area → TookWith old new (AreShownBeside (Some bar) row view.area)) same h) in
+    drawn (view_fills view bound laid beside faces keeps)
+shown_kept {T} {E} (Err x) view bar rows width old new bound laid bar_is rows_are width_is h = tt
+
+-- and so are those of a text that was read
+pub shown_read : {T E : Type 0} (r : Result T E) (view : ViewContent) (old new : Trace) → AllByRecursion IsTypedSection view.page → OnOk r (ShowsKeptView view old new) → OnOk r (ShowsReadView view old new)
+shown_read {T} {E} (Ok x) view old new typed h = λ beside keeps marks. h beside marks.faces (keeps typed view.skin (page_columns view.area) (omega (arith, beside.wide)) marks)
+shown_read {T} {E} (Err x) view old new typed h = tt
