@@ -1,7 +1,8 @@
 -- What is shown of a view.
-use Rattle.std.proofs.Common.{◌≡◌, ℕ, zero, suc, ◌-◌, ◌^◌, ◌<◌, ◌≤◌, List, [], ◌∷◌, map, drop, Option, Some, None, IfSome, Result, Ok, Err, OnOk, refl, ap, ◌∙◌, sym, subst, arith}
+use Rattle.std.proofs.Common.{◌≡◌, ℕ, zero, suc, ◌^◌, ◌<◌, ◌≤◌, List, [], ◌∷◌, map, drop, Option, Some, None, IfSome, Result, Ok, Err, OnOk, ap, ◌∙◌, sym, subst, arith}
 use Rattle.std.specs.List.{AllByRecursion}
 use Rattle.mad_term.specs.Trace.{Trace, TookWith}
+use Rattle.mad_measure.specs.Areas.{IsWithinLimits}
 use Rattle.mad_measure.specs.declared.area.Area.{Area}
 use Rattle.mad_style.specs.declared.compound_styles.CompoundStyle.{CompoundStyle}
 use Rattle.mad_draw.specs.BarsApart.{AreShownBeside, FillBeside}
@@ -49,17 +50,25 @@ view_fills view bound laid beside faces keeps =
     }
 
 -- rows that were drawn beside a bar are shown, where their sections keep the premises
-pub shown_kept : {T E : Type 0} (r : Result T E) (view : ViewContent) (bar : ScrollBar) (rows : List PageRow) (width : ℕ) (old new : Trace) → view.area.width < 2 ^ 16 → IsLaidOut view → bar ≡ last_column_of view → rows ≡ drop view.scroll view.rows
-    → width ≡ page_columns view.area
-    → OnOk r (FillBeside (Some bar) (placed_rows view.skin width rows) view.area → TookWith old new (AreShownBeside (Some bar) (placed_rows view.skin width rows) view.area)) → OnOk r (ShowsKeptView view old new)
-shown_kept {T} {E} (Ok x) view bar rows width old new bound laid bar_is rows_are width_is h = λ beside faces keeps.
+kept_shown : (view : ViewContent) (rows : List PageRow) (width : ℕ) (old new : Trace) → IsWithinLimits view.area → IsLaidOut view → rows ≡ drop view.scroll view.rows → width ≡ page_columns view.area
+    → (FillBeside (Some (last_column_of view)) (placed_rows view.skin width rows) view.area → TookWith old new (AreShownBeside (Some (last_column_of view)) (placed_rows view.skin width rows) view.area)) → ShowsKeptView view old new
+kept_shown view rows width old new limits laid rows_are width_is h = λ beside faces keeps.
+    let bar : Option ScrollBar = Some (last_column_of view) in
     let same : placed_rows view.skin width rows ≡ rows_of view = ap (λ (n : ℕ). placed_rows view.skin n rows) width_is ∙ ap (λ (rs : List PageRow). placed_rows view.skin (page_columns view.area) rs) rows_are in
-    let drawn = subst (λ (b : ScrollBar). FillBeside (Some b) (rows_of view) view.area → TookWith old new (AreShownBeside (Some b) (rows_of view) view.area)) bar_is
-      (subst (λ (row : ℕ → List RowPiece). FillBeside (Some bar) row view.area → TookWith old new (AreShownBeside (Some bar) row view.area)) same h) in
-    drawn (view_fills view bound laid beside faces keeps)
-shown_kept {T} {E} (Err x) view bar rows width old new bound laid bar_is rows_are width_is h = tt
+    subst (λ (row : ℕ → List RowPiece). FillBeside bar row view.area → TookWith old new (AreShownBeside bar row view.area)) same h (view_fills view (omega (arith, limits.columns)) laid beside faces keeps)
+
+-- so are those of a view, by what its fields say
+pub shown_kept : {T E : Type 0} (r : Result T E) (own view : ViewContent) (bar : ScrollBar) (rows : List PageRow) (width : ℕ) (old new : Trace) → own ≡ view → IsWithinLimits view.area → IsLaidOut own → bar ≡ last_column_of view → rows ≡ drop own.scroll own.rows
+    → width ≡ page_columns own.area
+    → OnOk r (FillBeside (Some bar) (placed_rows own.skin width rows) own.area → TookWith old new (AreShownBeside (Some bar) (placed_rows own.skin width rows) own.area)) → OnOk r (ShowsKeptView view old new)
+shown_kept {T} {E} (Ok x) own view bar rows width old new is limits laid bar_is rows_are width_is h =
+    subst (λ (v : ViewContent). ShowsKeptView v old new) is
+    (kept_shown own rows width old new (subst (λ (v : ViewContent). IsWithinLimits v.area) (sym is) limits) laid rows_are width_is
+    (subst (λ (b : ScrollBar). FillBeside (Some b) (placed_rows own.skin width rows) own.area → TookWith old new (AreShownBeside (Some b) (placed_rows own.skin width rows) own.area)) (bar_is ∙ ap last_column_of (sym is)) h))
+shown_kept {T} {E} (Err x) own view bar rows width old new is limits laid bar_is rows_are width_is h = tt
 
 -- and so are those of a text that was read
-pub shown_read : {T E : Type 0} (r : Result T E) (view : ViewContent) (old new : Trace) → AllByRecursion IsTypedSection view.page → OnOk r (ShowsKeptView view old new) → OnOk r (ShowsReadView view old new)
-shown_read {T} {E} (Ok x) view old new typed h = λ beside keeps marks. h beside marks.faces (keeps typed view.skin (page_columns view.area) (omega (arith, beside.wide)) marks)
-shown_read {T} {E} (Err x) view old new typed h = tt
+pub shown_read : {T E : Type 0} (r : Result T E) (own view : ViewContent) (old new : Trace) → own ≡ view → AllByRecursion IsTypedSection own.page → OnOk r (ShowsKeptView view old new) → OnOk r (ShowsReadView view old new)
+shown_read {T} {E} (Ok x) own view old new is typed h = λ beside keeps marks.
+    h beside marks.faces (keeps (subst (λ (v : ViewContent). AllByRecursion IsTypedSection v.page) is typed) view.skin (page_columns view.area) (omega (arith, beside.wide)) marks)
+shown_read {T} {E} (Err x) own view old new is typed h = tt

@@ -1,5 +1,5 @@
 -- Views of Markdown texts: what they are of, what is drawn of them, and what is shown.
-use Rattle.std.specs.Prelude.{◌≡◌, ℕ, ◌-◌, ◌≤◌, ◌==◌, List, drop, length, map, Option, Some, None, IfSome, if◌then◌else◌}
+use Rattle.std.specs.Prelude.{◌≡◌, ◌≢◌, ℕ, ◌-◌, ◌≤◌, List, drop, length, map, Option, Some, None, IfSome}
 use Rattle.std.specs.List.{AllByRecursion}
 use Rattle.mad_measure.specs.declared.area.Area.{Area}
 use Rattle.mad_style.specs.StyledChars.{styled_char}
@@ -50,9 +50,10 @@ pub record IsLaidAnew (here view : ViewContent) : Type 0 where
   pub laid_out : IsLaidOut view
   pub others : view ≡ record here { rows = view.rows; scroll = 0 }
 
--- In an area of another width it is laid out anew. In one of the same width it stays as it is.
-abbrev pub IsResized : Area → ViewContent → ViewContent → Type 0
-IsResized area old new = if area.width == old.area.width then new ≡ record old { area = area } else IsLaidAnew (record old { area = area }) new
+-- In an area of the same width it stays as it is. In one of another width it is laid out anew.
+pub record IsResized (area : Area) (old new : ViewContent) : Type 0 where
+  pub same : area.width ≡ old.area.width → new ≡ record old { area = area }
+  pub other : area.width ≢ old.area.width → IsLaidAnew (record old { area = area }) new
 
 -- ---- what is drawn
 
