@@ -17,13 +17,12 @@ use Rattle.mad_style.specs.declared.styled_chars.StyledChar.{StyledChar}
 use Rattle.mad_style.specs.declared.compound_styles.CompoundStyle.{CompoundStyle}
 use Rattle.mad_measure.specs.TextColumns.{columns}
 use Rattle.mad_measure.proofs.AllLemmas.{all_joined}
-use Rattle.mad_draw.specs.Pieces.{RowPiece, IsColumnChar, IsColumnPiece, IsShownPiece, AreShownPieces, FillsRow, pieces_columns, penned_chars, char_piece, char_repeat}
+use Rattle.mad_draw.specs.Pieces.{RowPiece, IsColumnChar, IsShownPiece, FillsRow, pieces_columns, penned_chars, char_piece, char_repeat}
 use Rattle.mad_draw.specs.PennedCells.{penned_cells}
 use Rattle.mad_draw.proofs.CellLemmas.{cells_of_pieces}
 use Rattle.mad_draw.proofs.ColumnChars.{printed_char, column_piece}
 use Rattle.mad_draw.proofs.RunLemmas.{run_shown, run_columns}
 use Rattle.mad_draw.proofs.PieceLemmas.{columns-both, spaces_columns, shown_spaces, pieces_cells, length-pieces_cells}
-use Rattle.mad_rows.specs.Rows.{number_piece, line_pieces}
 use Rattle.mad_rows.specs.RowStyles.{ordered_item_style}
 use Rattle.mad_rows.specs.declared.page_styles.PageStyles.{PageStyles}
 use Rattle.mad_rows.specs.declared.row_skin.RowSkin.{RowSkin}
@@ -34,7 +33,6 @@ use Rattle.mad_sections.specs.declared.gutters.Gutter.TheVariants.{Bar, AlertBar
 use Rattle.mad_sections.specs.declared.gutters.Alert.{Alert}
 use Rattle.mad_sections.specs.declared.gutters.Alert.TheVariants.{Note, Tip, Important, Warning, Caution}
 use Rattle.mad_sections.proofs.Choices.{by_bool}
-use Rattle.mad_pages.specs.PageRows.{RowContent}
 use Rattle.mad_page_rows.specs.FaceLaws.{AreFacesShown, AreSignsShown, IsTypedGutter, front_columns, fronts, FacesFill, RowsFill, CellsAreBehind}
 use Rattle.mad_page_rows.specs.Faces.{has_ascii_boxes, has_boxes, task_box, ascii_box, box_piece, alert_bar, heading_sign, blanks, code_blanks, code_face, first_face, other_face, face, faces, is_code, codes, back_columns, backs, behind_pieces, page_row_pieces}
 

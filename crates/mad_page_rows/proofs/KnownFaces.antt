@@ -6,12 +6,10 @@ use Rattle.mad_style.specs.StyledChars.{char_style}
 use Rattle.mad_style.specs.declared.kinds.CompositeKind.TheVariants.{Header}
 use Rattle.mad_draw.specs.Pieces.{RowPiece, AreKnown, char_piece, char_repeat}
 use Rattle.mad_draw.proofs.PieceLemmas.{char_repeat_known, known_both, spaces_known}
-use Rattle.mad_rows.specs.Rows.{line_pieces, row_pieces}
 use Rattle.mad_rows.specs.RowStyles.{AreKnownSigns, AreKnownStyles}
 use Rattle.mad_rows.specs.declared.page_styles.PageStyles.{PageStyles}
 use Rattle.mad_rows.specs.declared.row_skin.RowSkin.{RowSkin}
 use Rattle.mad_rows.proofs.KnownLemmas.{item_known, line_known}
-use Rattle.mad_sections.specs.Gutters.{gutter_columns, columns_of}
 use Rattle.mad_sections.specs.declared.gutters.Gutter.{Gutter}
 use Rattle.mad_sections.specs.declared.gutters.Gutter.TheVariants.{Bar, AlertBar, Bullet, Number, Task, Code, Signs, Below}
 use Rattle.mad_sections.specs.declared.gutters.Alert.{Alert}
