@@ -252,7 +252,7 @@ pub use Rattle.markdown_view.specs.MarkdownViews
 pub use Rattle.markdown_reader.specs.Markdown
 pub use Rattle.markdown_reader.specs.MarkdownSays
 pub use Rattle.markdown_reader.specs.Printed
-pub use Rattle.markdown_stream.specs.Cuts as MarkdownCuts
+pub use Rattle.markdown_stream.specs.Come as MarkdownComing
 pub use Rattle.markdown_stream.specs.Sources as MarkdownSources
 pub use Rattle.markdown_stream.specs.Streamed as StreamedMarkdown
 pub use Rattle.markdown_stream.specs.Streams as MarkdownStreams
