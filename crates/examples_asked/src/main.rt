@@ -4,11 +4,16 @@
 //! 1. [`question`]: a question that reads its answer.
 //! 2. [`chooser`]: a list that is filtered as one types.
 //! 3. [`list`]: a list that is filtered, sorted, scrolled and chosen from.
+//! 4. [`reader`]: files of Markdown, one of them beside the list of their names.
+//!
+//! [`panel`]: what [`chooser`] and [`reader`] share: keys, and a terminal.
 #![tactic(auto)]
 
 mod chooser;
 mod list;
+mod panel;
 mod question;
+mod reader;
 
 use std::env;
 use std::fs::File;
@@ -25,7 +30,9 @@ fn main(rt: HostRuntime) -> Result<(), Error> {
     println!(rt; "\n--- chooser")?;
     run(&rt, "chooser", File::open(&rt, "chooser.txt")?)?;
     println!(rt; "\n--- list")?;
-    run(&rt, "list", File::open(&rt, "list.txt")?)
+    run(&rt, "list", File::open(&rt, "list.txt")?)?;
+    println!(rt; "\n--- reader")?;
+    run(&rt, "reader", File::open(&rt, "reader.txt")?)
 }
 
 // Runs the example of that name.
@@ -37,6 +44,7 @@ fn run<R: Read + Drop>(rt: &HostRuntime, name: &str, input: R) -> Result<(), Err
         }),
         "chooser" => chooser::run(rt, input),
         "list" => list::run(rt, input),
+        "reader" => reader::run(rt, input),
         _ => Err(unknown()),
     }
 }

@@ -7,7 +7,7 @@
 
 mod keys;
 pub mod mad_view;
-mod scrolls;
+pub mod scrolls;
 pub mod text_view;
 
 pub use mad_view::{MadView, draw_views};

@@ -236,10 +236,23 @@ pub use Rattle.mad_stream.specs.PrintedPieces
 pub use Rattle.mad_stream.specs.Sources as StreamedSources
 pub use Rattle.mad_stream.specs.Streams
 pub use Rattle.mad_stream.specs.TextFronts as StreamedFronts
-pub use Rattle.markdown_layout.specs.WrittenMarkdown
+pub use Rattle.mad_sections.specs.Gutters
+pub use Rattle.mad_sections.specs.Sections
+pub use Rattle.mad_sections.specs.Unfolded
+pub use Rattle.mad_pages.specs.PageLayouts
+pub use Rattle.mad_pages.specs.PageRows
+pub use Rattle.mad_page_rows.specs.AreaRows as PageAreaRows
+pub use Rattle.mad_page_rows.specs.FaceLaws
+pub use Rattle.mad_page_rows.specs.Faces
+pub use Rattle.mad_page_rows.specs.PageFits
+pub use Rattle.markdown_layout.specs.DrawnMarkdown
+pub use Rattle.markdown_layout.specs.KeptPremises
+pub use Rattle.markdown_layout.specs.WrittenPages
+pub use Rattle.markdown_view.specs.MarkdownViews
 pub use Rattle.markdown_reader.specs.Markdown
+pub use Rattle.markdown_reader.specs.MarkdownSays
 pub use Rattle.markdown_reader.specs.Printed
-pub use Rattle.markdown_stream.specs.Cuts as MarkdownCuts
+pub use Rattle.markdown_stream.specs.Come as MarkdownComing
 pub use Rattle.markdown_stream.specs.Sources as MarkdownSources
 pub use Rattle.markdown_stream.specs.Streamed as StreamedMarkdown
 pub use Rattle.markdown_stream.specs.Streams as MarkdownStreams

@@ -1,7 +1,7 @@
 //! Markdown for terminals: the names that a program needs, from the crates that have them.
 //!
 //! Most names are at the top. What a text is, what a terminal takes and shows, and each other subject has a module of its own, with more
-//! names and with laws: [`md`], [`term`], [`keys`], [`screen`], [`frames`], [`draw`], [`wrap`], [`layout`], [`widths`], [`parse`], [`edit`], [`field`], [`list`], [`live`] and [`ask`].
+//! names and with laws: [`md`], [`term`], [`keys`], [`screen`], [`frames`], [`draw`], [`wrap`], [`layout`], [`pages`], [`widths`], [`parse`], [`edit`], [`field`], [`list`], [`live`] and [`ask`].
 #![tactic(auto)]
 
 /// What a terminal takes, and what it shows.
@@ -42,6 +42,14 @@ pub mod wrap {
 /// What laying out asks of a skin. Laws of layouts: texts that keep the premises, tables that fit when they are drawn, and a worked screen.
 pub mod layout {
     pub use mad_layout::{LineSkin, laws};
+}
+
+/// Pages as rows, and laws of these: the columns of what stands in front of a line, and that each row fills its width.
+pub mod pages {
+    pub use mad_page_rows::{PageTextRows, PlacedPageRows, laws};
+    pub use mad_pages::{PageRow, lay_page};
+    pub use mad_sections::Alert;
+    pub use markdown_layout::{draw_page, lay_markdown, markdown_skin, read_drawable};
 }
 
 /// Laws of the widths of a table's columns.
@@ -190,6 +198,9 @@ pub use mad_measure::token_iter;
 pub use mad_measure::tokenize;
 pub use mad_screen::CutOut;
 pub use mad_screen::ScriptSource;
+pub use mad_sections::Gutter;
+pub use mad_sections::Page;
+pub use mad_sections::Section;
 pub use mad_steady::is_steady;
 pub use mad_steady::steady;
 pub use mad_stream::LiveText;
@@ -259,9 +270,12 @@ pub use mad_view::TextView;
 pub use mad_view::draw_views;
 pub use mad_widths::TblFit;
 pub use mad_widths::TblFitResult;
+pub use markdown_layout::draw_markdown;
 pub use markdown_layout::write_markdown_on;
+pub use markdown_layout::write_page_on;
 pub use markdown_reader::Link;
 pub use markdown_reader::Markdown;
 pub use markdown_stream::MarkdownStream;
 pub use markdown_stream::write_markdown_pieces_on;
 pub use markdown_stream::write_markdown_source_on;
+pub use markdown_view::MarkdownView;

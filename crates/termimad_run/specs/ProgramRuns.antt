@@ -8,12 +8,12 @@ use Rattle.mad_term.specs.declared.Error.{Error}
 use Rattle.mad_layout.specs.Headline.{ShowsHeadline}
 use Rattle.mad_layout.specs.InArea.{WritesInArea, ShowsText}
 use Rattle.mad_layout.specs.Inlines.{inline_bytes}
-use Rattle.markdown_reader.specs.Markdown.{markdown_lines}
+use Rattle.markdown_reader.specs.Markdown.{markdown_sections}
 use Rattle.markdown_stream.specs.Sources.{StreamsMarkdown}
 use Rattle.mad_layout.specs.RowSkins.{row_skin}
 use Rattle.mad_stream.specs.LiveSources.{ShowsSource}
 use Rattle.mad_stream.specs.Sources.{StreamsSource}
-use Rattle.markdown_layout.specs.WrittenMarkdown.{markdown_skin, WritesLines}
+use Rattle.markdown_layout.specs.WrittenPages.{markdown_skin, WritesPage}
 use Rattle.mad_layout.specs.WrittenParts.{WritesParts}
 use Rattle.mad_layout.specs.declared.MadSkin.{MadSkin}
 use Rattle.mad_stream.specs.declared.SourceError.{SourceError}
@@ -55,13 +55,13 @@ abbrev pub WritesLine : {T : Type 0} → MadSkin → List ℕ → Trace → Resu
 WritesLine skin line old r new = DrawsSome (IsInlineReading line) (λ items. inline_bytes (row_skin skin) line items ++ (10 ∷ [])) old r new
 
 -- What the output is asked to take of a text. It is the text in its area, or its lines, laid out at a width part by part. Of `markdown`
--- it is what the text is read as, laid out with whole words; of `inline` the line without its end, and a newline.
+-- it is the page that the text is read as, laid out with whole words; of `inline` the line without its end, and a newline.
 abbrev pub WritesCall : {T : Type 0} → MadSkin → Command → List ℕ → Trace → Result T Error → Trace → Type 0
 WritesCall skin (InArea area) text old r new = WritesInArea (row_skin skin) text area old r new
 WritesCall skin (AtWidth width) text old r new = WritesParts (row_skin skin) (Some width) text old r new
-WritesCall skin (AsMarkdown width) text old r new = WritesLines (markdown_skin skin) (Some width) (markdown_lines text) old r new
+WritesCall skin (AsMarkdown width) text old r new = WritesPage (markdown_skin skin) (Some width) (markdown_sections text) old r new
 WritesCall skin (AsItComes width) text old r new = WritesParts (row_skin skin) (Some width) text old r new
-WritesCall skin (MarkdownAsItComes width) text old r new = WritesLines (markdown_skin skin) (Some width) (markdown_lines text) old r new
+WritesCall skin (MarkdownAsItComes width) text old r new = WritesPage (markdown_skin skin) (Some width) (markdown_sections text) old r new
 WritesCall skin (Live width height) text old r new = WritesParts (row_skin skin) (Some width) text old r new
 WritesCall skin Inline text old r new = (line : List ℕ) × IsWithoutLineEnd text line × WritesLine skin line old r new
 

@@ -3,7 +3,7 @@
 use crate::asked::{Asked, numbers_of};
 use crate::refusal::Refusal;
 use crate::skins::skin_of;
-use crate::{mad_views, runs, screens, texts, untrusted};
+use crate::{mad_views, markdown_views, runs, screens, texts, untrusted};
 use std::alloc::Global;
 use termimad::{CutOut, Error};
 use test_rows::devices::Writing;
@@ -57,6 +57,7 @@ impl Writing for Named<'_, '_> {
                 screens::write(self.asked, self.name, out)
             }
             "mad_view" | "mad_view_written" => mad_views::write(self.asked, out),
+            "markdown_view" => markdown_views::write(self.asked, out),
             "flushed_view" => texts::write_view(self.asked, out),
             name => texts::write(self.asked, name, out),
         }
@@ -76,6 +77,7 @@ fn writes(name: &str) -> bool {
             | "thumb"
             | "moves"
             | "mad_moves"
+            | "markdown_moves"
             | "lines"
             | "unwrapped"
             | "raw"

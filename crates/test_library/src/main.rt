@@ -4,7 +4,7 @@
 //! `dark`, `light`, `ascii` or JSON text, or no style where there is no rest. JSON text changes the default skin.
 //!
 //! 1. `asked`: what a call asks for; `skins`: skins and their values; `refusal`: why a call has no answer.
-//! 2. `screens`: pictures of areas and views; `mad_views`: Markdown views; `moves`: what views answer to scrolls and keys; `texts` and
+//! 2. `screens`: pictures of areas and views; `mad_views` and `markdown_views`: Markdown views; `moves`: what views answer to scrolls and keys; `texts` and
 //!    `lines`: what is written of texts and of single lines; `runs`: runs of the program;
 //!    `untrusted`: texts that others wrote; `devices`: devices that fail.
 #![tactic(auto)]
@@ -13,6 +13,7 @@ mod asked;
 mod devices;
 mod lines;
 mod mad_views;
+mod markdown_views;
 mod moves;
 mod refusal;
 mod runs;
@@ -58,6 +59,7 @@ fn answer_of(alloc: Global, call: &str, text: &str) -> Result<String, Refusal> {
         "thumb" => moves::thumb(alloc, words),
         "moves" => moves::of_text_view(alloc, words, text),
         "mad_moves" => moves::of_mad_view(alloc, words, text),
+        "markdown_moves" => moves::of_markdown_view(alloc, words, text),
         "two_views" => mad_views::two_pictured(alloc, words, text),
         "two_views_written" => mad_views::two_written(alloc, words, text),
         "untrusted" => untrusted::answer(alloc, words, text, false),
@@ -101,6 +103,7 @@ fn answer_asked(name: &str, asked: &Asked) -> Result<String, Refusal> {
         "area" | "view" | "scrolled" | "marks" | "beside_bar" => screens::pictured(asked, name),
         "mad_view" => mad_views::pictured(asked),
         "mad_view_written" => mad_views::written(asked),
+        "markdown_view" => markdown_views::pictured(asked),
         "lines" => lines::displayed(asked),
         "unwrapped" => texts::unwrapped(asked),
         "raw" => texts::raw(asked),

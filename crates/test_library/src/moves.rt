@@ -5,6 +5,7 @@
 //! `Shift-Down`.
 
 use crate::asked::{Asked, numbers_of};
+use crate::markdown_views;
 use crate::refusal::Refusal;
 use crate::skins::skin_of;
 use std::alloc::{AllocError, Global};
@@ -47,6 +48,12 @@ pub fn of_mad_view(alloc: Global, words: &str, text: &str) -> Result<String, Ref
     Ok(told)
 }
 
+/// What a view of Markdown as people write it answers to each step, if that has an answer; then its scroll, and the rows of its thumb.
+pub fn of_markdown_view(alloc: Global, words: &str, text: &str) -> Result<String, Refusal> {
+    let (asked, steps) = asked_of(alloc, words, text)?;
+    markdown_views::moved(&asked, steps)
+}
+
 /// The rows of a thumb: of a scroll, the content's lines, the track's rows and its first row.
 pub fn thumb(alloc: Global, words: &str) -> Result<String, Refusal> {
     let [scroll, lines, rows, top, _] = numbers_of(words).0;
@@ -71,14 +78,16 @@ fn asked_of<'a>(
     Ok((asked, steps))
 }
 
-fn push_step(told: &mut String, step: &str, answer: Option<bool>) -> Result<(), AllocError> {
+/// Says a step, and what it was answered.
+pub fn push_step(told: &mut String, step: &str, answer: Option<bool>) -> Result<(), AllocError> {
     match answer {
         Some(answer) => write!(told, "{step}: {answer}, "),
         None => write!(told, "{step}: "),
     }
 }
 
-fn push_thumb(told: &mut String, thumb: Option<(usize, usize)>) -> Result<(), AllocError> {
+/// Says the rows of a thumb.
+pub fn push_thumb(told: &mut String, thumb: Option<(usize, usize)>) -> Result<(), AllocError> {
     match thumb {
         Some((first, last)) => write!(told, "thumb {first} to {last}\n"),
         None => write!(told, "no bar\n"),
@@ -133,8 +142,8 @@ fn move_mad_view(view: &mut MadView, step: &str) -> Result<Option<bool>, AllocEr
     Ok(None)
 }
 
-// The key of a word: a modifier and a hyphen may be in front.
-fn key_of(word: &str) -> KeyEvent {
+/// The key of a word: a modifier and a hyphen may be in front.
+pub fn key_of(word: &str) -> KeyEvent {
     let (modifier, name) = word.split_once('-').unwrap_or(("", word));
     let modifiers = match modifier {
         "Shift" => KeyModifiers::SHIFT,

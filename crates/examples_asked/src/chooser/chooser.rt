@@ -1,20 +1,18 @@
 //! The list, what is typed, and what a key does.
 
 use crate::chooser::cities::{CITIES, City, Having, Name};
+use crate::panel::Panel;
 use std::alloc::{AllocError, Global};
 use termimad::{
     Alignment, Area, Error, InputField, KeyCode, KeyEvent, ListView, ListViewColumn, MadSkin,
     NoOrder, Out,
 };
 
-/// How a chooser goes on after a key.
+// How a chooser goes on after a key.
 #[derive(Clone, Copy, PartialEq, Eq, Debug)]
-pub enum Turn {
-    /// It goes on.
+enum Turn {
     Goes,
-    /// A row was chosen.
     Chosen,
-    /// It was left without one.
     Left,
 }
 
@@ -44,18 +42,6 @@ impl<'k> Chooser<'k> {
         })
     }
 
-    /// Up and Down select, Enter chooses what is selected, Esc leaves; any other key goes to the field, and its text filters the list.
-    pub fn apply(&mut self, key: KeyEvent) -> Result<Turn, AllocError> {
-        match key.code {
-            KeyCode::Up => self.list.try_select_next(true),
-            KeyCode::Down => self.list.try_select_next(false),
-            KeyCode::Enter if self.list.has_selection() => self.turn = Turn::Chosen,
-            KeyCode::Esc => self.turn = Turn::Left,
-            _ => self.type_key(key)?,
-        }
-        Ok(self.turn)
-    }
-
     // What is typed filters the list, and its first row is selected then.
     fn type_key(&mut self, key: KeyEvent) -> Result<(), AllocError> {
         self.field.apply_key_event(key)?;
@@ -65,21 +51,34 @@ impl<'k> Chooser<'k> {
         Ok(())
     }
 
-    /// Whether more keys are to come.
-    pub fn is_open(&self) -> bool {
+    /// The name of the chosen city, if one was chosen.
+    pub fn chosen(&self) -> Option<&'static str> {
+        match self.list.get_selection() {
+            Some(city) if self.turn == Turn::Chosen => Some(city.0),
+            _ => None,
+        }
+    }
+}
+
+impl Panel for Chooser<'_> {
+    // Up and Down select, Enter chooses what is selected, Esc leaves; any other key goes to the field, and its text filters the list.
+    fn apply(&mut self, key: KeyEvent) -> Result<(), Error> {
+        match key.code {
+            KeyCode::Up => self.list.try_select_next(true),
+            KeyCode::Down => self.list.try_select_next(false),
+            KeyCode::Enter if self.list.has_selection() => self.turn = Turn::Chosen,
+            KeyCode::Esc => self.turn = Turn::Left,
+            _ => self.type_key(key)?,
+        }
+        Ok(())
+    }
+
+    fn is_open(&self) -> bool {
         self.turn == Turn::Goes
     }
 
-    /// The name of the selected city.
-    pub fn chosen(&self) -> &'static str {
-        match self.list.get_selection() {
-            Some(city) => city.0,
-            None => "",
-        }
-    }
-
-    /// Draws the field and the list, each where its area is on a screen. Nothing is flushed.
-    pub fn draw<O: Out>(&mut self, alloc: Global, out: &mut O) -> Result<(), Error> {
+    // Draws the field and the list, each where its area is on a screen.
+    fn draw<O: Out>(&mut self, alloc: Global, out: &mut O) -> Result<(), Error> {
         if self.field.area().is_within_limits() {
             self.field.display_on(out)?;
         }

@@ -1,8 +1,9 @@
 //! Screens that show a file of Markdown: all of it, and a pager on it.
 
 use std::alloc::Global;
+use termimad::pages::{draw_page, lay_markdown, markdown_skin};
 use termimad::screen::Screen;
-use termimad::{Area, Error, FmtText, MadSkin, Markdown, ScriptSource, TestTerminal, draw_text_in};
+use termimad::{Area, Error, MadSkin, Markdown, ScriptSource, TestTerminal};
 use termimad_page_run::{Files, Grammar, Sheet, run};
 
 const COLUMNS: u16 = 72;
@@ -15,17 +16,13 @@ const KEYS: &[u8] = b"/disk\r";
 
 /// A screen that shows a whole text.
 pub fn text_screen(alloc: Global, text: &str) -> Result<Screen, Error> {
-    let skin = MadSkin {
-        whole_words: true,
-        ..MadSkin::default()
-    };
+    let skin = markdown_skin(&MadSkin::default());
     let markdown = Markdown::read(alloc, text)?;
-    let text = FmtText::from_text(alloc, &skin, markdown.text(alloc)?, Some(COLUMNS as usize))?;
-    let rows = u16::try_from(text.lines.len()).unwrap_or(u16::MAX);
+    let rows = lay_markdown(alloc, &markdown, &skin, Some(COLUMNS as usize))?;
+    let rows = u16::try_from(rows.len()).unwrap_or(u16::MAX);
     let area = Area::new(0, 0, COLUMNS, rows);
     let mut terminal = TestTerminal::new(alloc, COLUMNS, rows);
-    let shown = skin.row_skin().with_links();
-    draw_text_in(alloc, &mut terminal, &shown, &text, &area, 0, false)?;
+    draw_page(alloc, &mut terminal, &skin, markdown.page(alloc)?, &area)?;
     Ok(terminal.shown(alloc)?)
 }
 
