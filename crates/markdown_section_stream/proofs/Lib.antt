@@ -5,3 +5,5 @@ pub mod KnownLemmas
 pub mod RowLemmas
 pub mod HeldLemmas
 pub mod EarlyLemmas
+pub mod GatheredLemmas
+pub mod ComeLemmas

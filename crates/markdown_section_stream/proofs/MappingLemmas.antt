@@ -4,8 +4,9 @@ use Rattle.std.proofs.lemmas.List.{map-append, length-append}
 use Rattle.mad_md.specs.Lines.{LineContent, horizontal_rule}
 use Rattle.mad_md.specs.declared.composite.CompositeStyle.TheVariants.{Paragraph}
 use Rattle.mad_sections.specs.Sections.{SectionContent}
+use Rattle.mad_sections.specs.declared.gutters.Alert.{Alert}
 use Rattle.mad_sections.specs.declared.gutters.Gutter.{Gutter}
-use Rattle.mad_sections.specs.declared.gutters.Gutter.TheVariants.{Bar, Bullet, Number, Task, Code}
+use Rattle.mad_sections.specs.declared.gutters.Gutter.TheVariants.{Bar, AlertBar, Bullet, Number, Task, Code, Signs, Below}
 use Rattle.markdown_blocks.specs.declared.containers.Container.{Container}
 use Rattle.markdown_blocks.specs.declared.containers.Container.TheVariants.{Quote, Item}
 use Rattle.markdown_marks.specs.Remaining.{Remaining}
@@ -18,11 +19,10 @@ use Rattle.markdown_lines.specs.Leaf.{html_lines}
 use Rattle.markdown_lines.specs.Links.{Defined}
 use Rattle.markdown_lines.specs.Restyled.{restyled, empty_line}
 use Rattle.markdown_lines.specs.Tables.{table_lines}
-use Rattle.markdown_reader.specs.Mapping.{LinkSaid, Mapping, is_item, new_gutter, boxed, is_big, is_spaced, spaced, blank_row, link_at, linked, section_of, with_section, added, put, passed, list_ended, begun, closed, item_ended, nothing_since, ended_by, ended, words, addresses_in, words_shown, task_by, alert_line, alert_by, paragraph_by, heading_style, table_addresses, leaf_shown, shown_part, shown_parts}
+use Rattle.markdown_reader.specs.Mapping.{LinkSaid, Mapping, is_item, new_gutter, with_last, is_big, is_spaced, spaced, blank_row, link_at, linked, section_of, with_section, added, put, passed, list_ended, begun, closed, item_ended, nothing_since, ended_by, ended, words, addresses_in, words_shown, task_by, alert_line, alert_by, paragraph_by, heading_style, table_addresses, leaf_shown, shown_part, shown_parts}
 use Rattle.markdown_reader.specs.Signs.{after_box, box_of, after_line, alert_of}
 use Rattle.markdown_reader.specs.declared.forms.Form.{Form}
 use Rattle.markdown_reader.specs.declared.forms.Form.TheVariants.{Words, Large, Listed, Boxed}
-use Rattle.markdown_reader.specs.declared.signs.Alert.{Alert}
 use Rattle.markdown_section_stream.specs.Laws.{SectionsComeInTurn}
 use Rattle.markdown_section_stream.specs.Streaming.{taken, link_after, shown_after}
 
@@ -100,21 +100,24 @@ words_behind defined bytes ss ls m = put_behind Words (words defined bytes) (add
 
 task_behind : (done : Option Bool) (defined : Defined) (bytes : List ℕ) (ss : List SectionContent) (ls : List LinkSaid) (m : Mapping) → task_by done defined bytes (shown_after ss ls m) ≡ shown_after ss ls (task_by done defined bytes m)
 task_behind None defined bytes ss ls m = words_behind defined bytes ss ls m
-task_behind (Some done) defined bytes ss ls m = words_behind defined (after_box bytes) ss ls (boxed done m)
+task_behind (Some done) defined bytes ss ls m = words_behind defined (after_box bytes) ss ls (with_last (Task done) m)
 
 alert_behind : (alert : Option Alert) (defined : Defined) (bytes : List ℕ) (ss : List SectionContent) (ls : List LinkSaid) (m : Mapping) → alert_by alert defined bytes (shown_after ss ls m) ≡ shown_after ss ls (alert_by alert defined bytes m)
 alert_behind None defined bytes ss ls m = words_behind defined bytes ss ls m
 alert_behind (Some alert) defined bytes ss ls m =
-    put_behind Words (alert_line alert ∷ restyled Paragraph Paragraph (words defined (after_line bytes))) (addresses_in defined (after_line bytes)) ss ls m
+    put_behind Words (alert_line alert ∷ restyled Paragraph Paragraph (words defined (after_line bytes))) (addresses_in defined (after_line bytes)) ss ls (with_last (AlertBar alert) m)
 
 paragraph_behind : (gutter : Option Gutter) (defined : Defined) (bytes : List ℕ) (ss : List SectionContent) (ls : List LinkSaid) (m : Mapping)
     → paragraph_by gutter defined bytes (shown_after ss ls m) ≡ shown_after ss ls (paragraph_by gutter defined bytes m)
 paragraph_behind None defined bytes ss ls m = words_behind defined bytes ss ls m
 paragraph_behind (Some Bar) defined bytes ss ls m = alert_behind (alert_of bytes) defined bytes ss ls m
+paragraph_behind (Some (AlertBar alert)) defined bytes ss ls m = words_behind defined bytes ss ls m
 paragraph_behind (Some Bullet) defined bytes ss ls m = task_behind (box_of bytes) defined bytes ss ls m
 paragraph_behind (Some (Number number)) defined bytes ss ls m = words_behind defined bytes ss ls m
 paragraph_behind (Some (Task done)) defined bytes ss ls m = words_behind defined bytes ss ls m
 paragraph_behind (Some Code) defined bytes ss ls m = words_behind defined bytes ss ls m
+paragraph_behind (Some (Signs level)) defined bytes ss ls m = words_behind defined bytes ss ls m
+paragraph_behind (Some (Below level)) defined bytes ss ls m = words_behind defined bytes ss ls m
 
 leaf_behind : (defined : Defined) (kind : Kind) (lines : List Remaining) (ss : List SectionContent) (ls : List LinkSaid) (m : Mapping)
     → leaf_shown defined kind lines (shown_after ss ls m) ≡ shown_after ss ls (leaf_shown defined kind lines m)

@@ -41,7 +41,7 @@ read_joined (line ∷ lines) later r = read_joined lines later (line_read r line
 -- ---- parts in front
 
 -- these parts were told before
-abbrev told_before : List PartContent → Reading → Reading
+abbrev pub told_before : List PartContent → Reading → Reading
 told_before before r = record r { gathering = behind before r.gathering }
 
 line_behind : (line : List ℕ) (before : List PartContent) (r : Reading) → line_read (told_before before r) line ≡ told_before before (line_read r line)
@@ -61,6 +61,10 @@ end_behind before r =
 -- a reading is its parts, and behind them what goes on
 kept : (r : Reading) → r ≡ told_before (parts_read r) (handed_on r)
 kept r = ap (λ (ps : List PartContent). record r { gathering = record r.gathering { parts = ps } }) (sym (append-nil (parts_read r)))
+
+-- so a line is read
+pub read_behind : (line : List ℕ) (r : Reading) → line_read r line ≡ told_before (parts_read r) (line_read (handed_on r) line)
+read_behind line r = ap (λ (s : Reading). line_read s line) (kept r) ∙ line_behind line (parts_read r) (handed_on r)
 
 -- parts that were handed on stand before those that the next lines tell
 pub hand_on : (lines : List (List ℕ)) (r : Reading) → parts_at_end (lines_read r lines) ≡ parts_read r ++ parts_at_end (lines_read (handed_on r) lines)

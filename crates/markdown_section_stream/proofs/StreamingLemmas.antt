@@ -5,6 +5,7 @@ use Rattle.mad_sections.specs.Sections.{SectionContent}
 use Rattle.markdown_leaves.specs.Parts.{PartContent}
 use Rattle.markdown_reader.specs.Definitions.{part_defined}
 use Rattle.markdown_reader.specs.Mapping.{LinkSaid, Mapping}
+use Rattle.markdown_section_stream.specs.Come.{streamed_after}
 use Rattle.markdown_section_stream.specs.Laws.{CutsDontMatter, CutsDontMatterToLinks}
 use Rattle.markdown_section_stream.specs.Readings.{Reading, lines_read, parts_read, parts_at_end, handed_on}
 use Rattle.markdown_section_stream.specs.Streamed.{Streamed, nothing_streamed, part_streamed, parts_streamed, streamed_sections, streamed_links}
@@ -12,17 +13,16 @@ use Rattle.markdown_section_stream.specs.Streaming.{taken_from, shown_after, Str
 use Rattle.markdown_section_stream.proofs.MappingLemmas.{part_behind, kept}
 use Rattle.markdown_section_stream.proofs.ReadingLemmas.{read_whole, read_joined, hand_on}
 
-abbrev streamed_after : List SectionContent → List LinkSaid → Streamed → Streamed
-streamed_after ss ls s = record s { mapping = shown_after ss ls s.mapping }
-
-parts_behind : (parts : List PartContent) (ss : List SectionContent) (ls : List LinkSaid) (s : Streamed) → parts_streamed parts (streamed_after ss ls s) ≡ streamed_after ss ls (parts_streamed parts s)
+-- sections and links that were shown before change nothing of what parts are shown as
+pub parts_behind : (parts : List PartContent) (ss : List SectionContent) (ls : List LinkSaid) (s : Streamed) → parts_streamed parts (streamed_after ss ls s) ≡ streamed_after ss ls (parts_streamed parts s)
 unfolding parts_streamed
 parts_behind [] ss ls s = refl
 parts_behind (part ∷ parts) ss ls s =
     ap (λ (m : Mapping). parts_streamed parts (record { defined = part_defined s.defined part; mapping = m })) (part_behind (part_defined s.defined part) part ss ls s.mapping)
     ∙ parts_behind parts ss ls (part_streamed part s)
 
-streamed_joined : (parts later : List PartContent) (s : Streamed) → parts_streamed (parts ++ later) s ≡ parts_streamed later (parts_streamed parts s)
+-- parts are shown on behind those before them
+pub streamed_joined : (parts later : List PartContent) (s : Streamed) → parts_streamed (parts ++ later) s ≡ parts_streamed later (parts_streamed parts s)
 unfolding parts_streamed
 streamed_joined [] later s = refl
 streamed_joined (part ∷ parts) later s = streamed_joined parts later (part_streamed part s)

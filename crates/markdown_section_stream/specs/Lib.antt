@@ -4,3 +4,6 @@ pub mod Readings
 pub mod Streaming
 pub mod Known
 pub mod Laws
+pub mod Held
+pub mod Come
+pub mod FirstLine

@@ -37,6 +37,10 @@ parts_read r = r.gathering.parts
 abbrev pub parts_at_end : Reading → List PartContent
 parts_at_end r = (closed (told r.gathering (leaves (length r.state.containers)))).parts
 
+-- without the parts so far
+abbrev pub without_parts : Gathering → Gathering
+without_parts g = record g { parts = [] }
+
 -- the parts that are complete were handed on
 abbrev pub handed_on : Reading → Reading
-handed_on r = record r { gathering = record r.gathering { parts = [] } }
+handed_on r = record r { gathering = without_parts r.gathering }

@@ -1,9 +1,14 @@
 -- A text whose lines come in groups: after each group what is complete is shown, and isn't kept.
-use Rattle.std.specs.Prelude.{ℕ, ◌+◌, List, [], ◌∷◌, ◌++◌, map, length}
+use Rattle.std.specs.Prelude.{ℕ, ◌+◌, ◌==◌, ◌&&◌, Bool, true, false, List, [], ◌∷◌, ◌++◌, map, length}
 use Rattle.std.specs.List.{flat_map}
 use Rattle.mad_sections.specs.Sections.{SectionContent}
+use Rattle.markdown_blocks.specs.Lines.{text_lines}
+use Rattle.markdown_blocks.specs.Steps.{Line}
+use Rattle.markdown_blocks.specs.declared.leaves.Deed.{Deed}
+use Rattle.markdown_blocks.specs.declared.leaves.Deed.TheVariants.{GoesOn}
+use Rattle.markdown_leaves.specs.Told.{told, events_between}
 use Rattle.markdown_reader.specs.Mapping.{LinkSaid, Mapping}
-use Rattle.markdown_section_stream.specs.Readings.{Reading, nothing_read, lines_read, parts_read, parts_at_end, handed_on}
+use Rattle.markdown_section_stream.specs.Readings.{Reading, nothing_read, line_read, lines_read, parts_read, parts_at_end, handed_on}
 use Rattle.markdown_section_stream.specs.Streamed.{Streamed, nothing_streamed, parts_streamed}
 
 -- what the next sections depend on: the sections and links so far were taken
@@ -64,3 +69,39 @@ links_joined m links = m.links ++ map (link_after (length m.sections)) links
 unfoldable pub links_shown : Streaming → List (List (List ℕ)) → List LinkSaid
 links_shown s [] = (end_shown s).mapping.links
 links_shown s (lines ∷ groups) = links_joined (lines_shown s lines).mapping (links_shown (kept_after s lines) groups)
+
+-- ---- line by line
+
+-- it has come to this reading, and the parts that are complete there are shown
+abbrev pub come_to : Streaming → Reading → Streaming
+come_to s read = record { reading = handed_on read; streamed = shown_from s read }
+
+-- a line comes
+abbrev pub line_come : List ℕ → Streaming → Streaming
+line_come line s = come_to s (line_read s.reading line)
+
+-- lines come, one after the other
+unfoldable pub lines_come : List (List ℕ) → Streaming → Streaming
+lines_come [] s = s
+lines_come (line ∷ lines) s = lines_come lines (line_come line s)
+
+-- the lines of a text come
+abbrev pub text_come : List ℕ → Streaming → Streaming
+text_come text s = lines_come (text_lines text) s
+
+-- a line was read, before which so many containers were open: what it tells is gathered
+abbrev pub gathered : ℕ → Line → Streaming → Streaming
+gathered before read s = come_to s (record s.reading { gathering = told s.reading.gathering (events_between before read s.reading.state.containers) })
+
+-- what is shown so far is taken
+abbrev pub taken_now : Streaming → Streaming
+taken_now s = record s { streamed = taken_from s.streamed }
+
+-- nothing but the text of the open leaf comes with this line
+abbrev pub is_text : Deed → Bool
+is_text GoesOn = true
+is_text _ = false
+
+-- the line goes on with the open leaf, and no container begins or ends
+abbrev pub goes_on : ℕ → Line → Bool
+goes_on before read = (read.kept == before) && ((read.opened == 0) && is_text read.deed)

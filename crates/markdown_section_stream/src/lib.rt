@@ -5,7 +5,11 @@
 //! 2. [`laws`]: what is shown of pieces is what is shown of the whole.
 #![tactic(auto)]
 
+mod cut;
 pub mod laws;
+mod open_leaf;
+pub mod section_stream;
 pub mod showing;
 
+pub use section_stream::SectionStream;
 pub use showing::Showing;
