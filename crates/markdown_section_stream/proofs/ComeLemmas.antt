@@ -9,7 +9,10 @@ use Rattle.markdown_leaves.specs.Parts.{PartContent}
 use Rattle.markdown_reader.specs.Mapping.{LinkSaid, Mapping}
 use Rattle.markdown_section_stream.specs.Come.{HasCome, Comes, Takes, Ends, lines_streamed, streamed_after, sections_there}
 use Rattle.markdown_section_stream.specs.FirstLine.{IsFirstLine}
-use Rattle.markdown_section_stream.specs.Held.{streaming_of}
+use Rattle.markdown_blocks.specs.Steps.{State, state_of}
+use Rattle.markdown_leaves.specs.Gather.{Gathering}
+use Rattle.markdown_section_stream.specs.Held.{gathering_held, streaming_of}
+use Rattle.markdown_section_stream.specs.ShowingOf.{streamed_of}
 use Rattle.markdown_section_stream.specs.Readings.{Reading, nothing_read, step_read, line_read, lines_read, parts_read, parts_at_end, without_parts, handed_on}
 use Rattle.markdown_section_stream.specs.Streamed.{Streamed, nothing_streamed, parts_streamed, streamed_sections}
 use Rattle.markdown_section_stream.specs.Streaming.{Streaming, taken_from, shown_after, come_to, line_come, lines_come, text_come, gathered, goes_on, is_text, end_shown, nothing_come}
@@ -188,3 +191,10 @@ ends_text old mid new come ended read sections links h =
     ∙ parts_behind (parts_at_end s.reading) sections links s.streamed
     ∙ ap (streamed_after sections links) (sym ended)
     )
+
+-- a stream whose parts are new is new
+pub new_streaming : (s : SectionStream) → state_of s.reader ≡ nothing_read.state → gathering_held s.leaf ≡ nothing_read.gathering → streamed_of s.showing ≡ nothing_streamed → streaming_of s ≡ nothing_come
+new_streaming s state gathering streamed =
+    ap (λ (st : State). let n : Streaming = record { reading = record { state = st; gathering = gathering_held s.leaf }; streamed = streamed_of s.showing } in n) state
+    ∙ ap (λ (g : Gathering). let n : Streaming = record { reading = record { state = nothing_read.state; gathering = g }; streamed = streamed_of s.showing } in n) gathering
+    ∙ ap (λ (t : Streamed). let n : Streaming = record { reading = nothing_read; streamed = t } in n) streamed
