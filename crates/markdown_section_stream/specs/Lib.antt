@@ -1,9 +1,0 @@
-pub mod ShowingOf
-pub mod Streamed
-pub mod Readings
-pub mod Streaming
-pub mod Known
-pub mod Laws
-pub mod Held
-pub mod Come
-pub mod FirstLine
