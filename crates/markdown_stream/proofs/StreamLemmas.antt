@@ -71,6 +71,16 @@ more_laid skin width first next rows own sent before now page written page2 now_
       ∙ append_assoc sent before (rows_bytes skin width own) ∙ ap (λ (b : List ℕ). sent ++ b) (sym now_is),
 )
 
+-- the rows of a page of what is there are kept
+pub lays_rows : (old new : MarkdownStream) (there shown : List SectionContent) (before rows : List ℕ) → shown ≡ steady_sections there → before ≡ []
+    → (own : List RowContent) × IsPageAt (line_rules old.skin) (has_ascii_boxes old.skin) old.width shown own × (rows ≡ before ++ rows_bytes old.skin old.width own)
+    → new.rows.items ≡ old.rows.items ++ rows → LaysRows there old new
+lays_rows old new there shown before rows is none h rows_are = record {
+  own = h.0;
+  page = subst (λ (ss : List SectionContent). IsPageAt (line_rules old.skin) (has_ascii_boxes old.skin) old.width ss h.0) is h.1;
+  rows = rows_are ∙ ap (λ (b : List ℕ). old.rows.items ++ b) (h.2 ∙ ap (λ (b : List ℕ). b ++ rows_bytes old.skin old.width h.0) none);
+}
+
 -- ---- a piece
 
 -- a text whose first piece came
