@@ -1,5 +1,5 @@
 -- The sections of a text that is paged.
-use Rattle.std.specs.Prelude.{false, List, [], map, None}
+use Rattle.std.specs.Prelude.{false, List, [], ◌∷◌, map, None}
 use Rattle.mad_blocks.specs.TextParts.{text_parts}
 use Rattle.mad_md.specs.Lines.{LineContent}
 use Rattle.mad_md.specs.Reading.{unread_text}
@@ -12,6 +12,11 @@ use Rattle.mad_search.specs.declared.paged.PagedText.TheVariants.{Lines, Markdow
 -- lines as a section without gutters
 abbrev pub plain_section : List LineContent → SectionContent
 plain_section lines = record { gutters = []; fresh = 0; list = None; lines = lines }
+
+-- lines of one part as a section, if there are some
+abbrev pub part_sections : List LineContent → List SectionContent
+part_sections [] = []
+part_sections (l ∷ ls) = plain_section (l ∷ ls) ∷ []
 
 -- lines as sections without gutters, one for each of their parts
 abbrev pub plain_sections : List LineContent → List SectionContent

@@ -1,10 +1,10 @@
 //! Lines as a page without gutters.
 
-ghost use Rattle.std.specs.Prelude.{◌≡◌, ◌≢◌, ◌++◌, ◌∷◌, [], IfOk, OnOk, map};
+ghost use Rattle.std.specs.Prelude.{◌≡◌, ◌++◌, ◌∷◌, [], IfOk, OnOk, map};
 ghost use Rattle.mad_blocks.specs.TextParts.{apart, is_code, is_table, stand_together};
 ghost use Rattle.mad_md.specs.Lines.{content_of, contents};
 ghost use Rattle.mad_sections.specs.Sections.{page_content, section_content};
-ghost use Rattle.mad_search.specs.PagedTexts.{plain_section, plain_sections};
+ghost use Rattle.mad_search.specs.PagedTexts.{part_sections, plain_sections};
 
 use mad_md::{CompositeStyle, Line, Text};
 use mad_sections::{Page, Section};
@@ -33,8 +33,7 @@ pub fn plain_page<'s>(alloc: Global, text: Text<'s>) -> Result<Page<'s>, AllocEr
 
 // Puts a part behind the sections that are there, if it has lines.
 fn push_part<'s>(sections: &mut Vec<Section<'s>>, part: Vec<Line<'s>>) -> Result<(), AllocError>
-    ensures some { part.entry.items ≢ [] → OnOk result (map section_content sections.new.items ≡ map section_content sections.old.items ++ plain_section (map content_of part.entry.items) ∷ []) }
-    ensures none { part.entry.items ≡ [] → OnOk result (sections.new.items ≡ sections.old.items) }
+    ensures { OnOk result (map section_content sections.new.items ≡ map section_content sections.old.items ++ part_sections (map content_of part.entry.items)) }
 {
     if part.is_empty() {
         return Ok(());

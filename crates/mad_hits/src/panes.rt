@@ -1,11 +1,10 @@
-//! Rows of a page beside a scroll bar, and over them the hits of what is sought.
+//! Rows of a page beside a scroll bar.
 
-ghost use Rattle.std.specs.Prelude.{◌≡◌, ◌<◌, ◌^◌, OnOk, drop};
+ghost use Rattle.std.specs.Prelude.{◌≡◌, OnOk, drop};
 ghost use Rattle.mad_term.specs.Trace.{TookWith};
 ghost use Rattle.mad_draw.specs.BesideBar.{columns_beside};
-ghost use Rattle.mad_front_rows.specs.Pages.{ArePanesDrawn, IsPageDrawn};
+ghost use Rattle.mad_hits.specs.Panes.{ArePageRowsDrawn};
 
-use crate::hits::draw_front_hits;
 use crate::rows::FrontRows;
 use mad_draw::scroll_bars::{ScrollBar, columns_beside, draw_rows_beside};
 use mad_format::FmtLine;
@@ -15,37 +14,13 @@ use mad_rows::RowSkin;
 use mad_term::{Error, Out};
 use std::alloc::Global;
 
-/// Draws rows of a page in so many columns and rows from the screen's first on, beside a scroll bar, if there is one; and over them the hits of
-/// what is sought. The first row is `top`. The hits have the columns that the rows have. Nothing is flushed.
+/// Draws rows of a page in so many columns and rows from the screen's first on, beside a scroll bar, if there is one. The first row is `top`.
+/// Nothing is flushed.
 ///
 /// # Errors
 ///
 /// A fault of the device, or out of memory. What went out by then is a beginning of the whole.
-pub fn draw_page<O: Out>(
-    alloc: Global,
-    out: &mut O,
-    skin: &RowSkin,
-    bar: Option<ScrollBar>,
-    lines: &[FmtLine],
-    fronts: &[Front],
-    starts: &[usize],
-    top: usize,
-    width: u16,
-    height: u16,
-    sought: &str,
-) -> Result<(), Error>
-    ensures { OnOk result (TookWith (O.seen out.old) (O.seen out.new) (IsPageDrawn skin.now bar sought.now lines.now fronts.now starts.now top width height)) }
-{
-    draw_panes(alloc, out, skin, bar, lines, fronts, top, width, height)?;
-    let columns = left_columns(bar, width);
-    draw_front_hits(
-        alloc, out, skin, lines, fronts, starts, top, columns, height, sought,
-    )?;
-    Ok(())
-}
-
-// Draws the rows, and the bar.
-fn draw_panes<O: Out>(
+pub fn draw_page_rows<O: Out>(
     alloc: Global,
     out: &mut O,
     skin: &RowSkin,
@@ -56,7 +31,7 @@ fn draw_panes<O: Out>(
     width: u16,
     height: u16,
 ) -> Result<(), Error>
-    ensures { OnOk result (TookWith (O.seen out.old) (O.seen out.new) (ArePanesDrawn skin.now bar lines.now fronts.now top width height)) }
+    ensures { OnOk result (TookWith (O.seen out.old) (O.seen out.new) (ArePageRowsDrawn skin.now bar lines.now fronts.now top width height)) }
 {
     let rows = FrontRows {
         skin,
@@ -74,8 +49,8 @@ fn draw_panes<O: Out>(
     Ok(())
 }
 
-// The columns that a bar leaves, if there is one.
-fn left_columns(bar: Option<ScrollBar>, width: u16) -> u16
+/// The columns that a bar leaves of so many, if there is one.
+pub fn left_columns(bar: Option<ScrollBar>, width: u16) -> u16
     ensures { result ≡ columns_beside bar width }
 {
     columns_beside(bar, usize::from(width)) as u16

@@ -1,6 +1,6 @@
 use Rattle.std.proofs.Common.{arith, refl}
 use Rattle.mad_hits.proofs.DrawnHits.{hit_drawn}
-use Rattle.mad_front_rows.proofs.hits.draw_chars.Goals as goal
+use Rattle.mad_hits.proofs.drawing.draw_chars.Goals as goal
 
 pub returns : goal.returns
 returns g c =

@@ -3,7 +3,7 @@ use Rattle.mad_md.specs.Cursor.{unread}
 use Rattle.mad_md.specs.Lines.{content_of}
 use Rattle.mad_md.specs.Reading.{unread_text}
 use Rattle.mad_md.specs.Scan.{lines_of}
-use Rattle.mad_outline.proofs.contents.read_lines.Given as goal
+use Rattle.mad_search.proofs.paged.read_lines.Given as goal
 
 -- the lines so far, and those that the cursor has yet to read, are those of the text
 abbrev pub invariant-lines : goal.invariant-lines

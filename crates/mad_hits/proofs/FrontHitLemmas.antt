@@ -19,7 +19,7 @@ use Rattle.mad_page_rows.specs.FaceLaws.{fronts}
 use Rattle.mad_page_rows.specs.Faces.{has_ascii_boxes, line_skin}
 use Rattle.mad_pages.specs.Fronts.{FrontContent, front_at}
 use Rattle.mad_pages.specs.declared.fronts.Front.{Front}
-use Rattle.mad_front_rows.specs.FrontHits.{AreHitsBehind, AreRowsMarked, IsRowMarked, hit_behind}
+use Rattle.mad_hits.specs.FrontHits.{AreHitsBehind, AreRowsMarked, IsRowMarked, hit_behind}
 
 -- a hit more
 pub hit_more : (width y front : ℕ) (hits : List Hit) (i : ℕ) (d : Hit) (a b : List ℕ) → i < length hits → AreHitsShown width y (map (hit_behind front) (map marked_of (take i hits))) a → IsHitShown width y (hit_behind front (marked_of (get_or hits i d))) b

@@ -1,6 +1,6 @@
 use Rattle.std.proofs.Common.{◌∙◌}
-use Rattle.mad_front_rows.proofs.PageLemmas.{panes_drawn}
-use Rattle.mad_front_rows.proofs.page.draw_panes.Goals as goal
+use Rattle.mad_hits.proofs.PaneLemmas.{panes_drawn}
+use Rattle.mad_hits.proofs.panes.draw_page_rows.Goals as goal
 
 pub returns : goal.returns
 returns g c =

@@ -4,7 +4,7 @@ ghost use Rattle.std.specs.Prelude.{◌≡◌, ◌++◌, OnOk, string_bytes, sli
 ghost use Rattle.std.specs.Option.{option_copied};
 ghost use Rattle.mad_draw.specs.Pieces.{AreKnown, pieces_bytes};
 ghost use Rattle.mad_pages.specs.Fronts.{front_content};
-ghost use Rattle.mad_front_rows.specs.FrontRows.{row_shown};
+ghost use Rattle.mad_hits.specs.FrontRows.{row_shown};
 
 use mad_draw::Rows;
 use mad_format::FmtLine;
@@ -28,7 +28,7 @@ pub struct FrontRows<'a, 's> {
 }
 
 impl Rows for FrontRows<'_, '_> {
-    ghost use Rattle.mad_front_rows.specs.FrontRows.{page_row};
+    ghost use Rattle.mad_hits.specs.FrontRows.{page_row};
 
     ghost pieces = { λ rows y. page_row rows.skin.now rows.width rows.lines.now rows.fronts.now y };
 

@@ -1,7 +1,7 @@
 use Rattle.std.proofs.Common.{◌≡◌, ◌+◌, ◌-◌, ◌^◌, ◌≤◌, drop}
 use Rattle.mad_wrap.specs.WrapLines.{capped}
 use Rattle.mad_page_rows.specs.FaceLaws.{fronts}
-use Rattle.mad_front_rows.proofs.columns.columns_in_front.Given as goal
+use Rattle.mad_hits.proofs.columns.columns_in_front.Given as goal
 
 abbrev pub invariant-loop-gutter : goal.invariant-loop-gutter
 invariant-loop-gutter l = record {

@@ -1,4 +1,4 @@
--- Rows and hits, drawn in turn.
+-- Rows of a page that are drawn beside a bar.
 use Rattle.std.proofs.Common.{◌≡◌, ℕ, ◌-◌, List, drop, length, min, Option, refl, ap, ◌∙◌, subst}
 use Rattle.std.specs.List.{range_with_len}
 use Rattle.mad_term.specs.Trace.{Trace, TookWith, after}
@@ -10,9 +10,9 @@ use Rattle.mad_format.specs.declared.line.FmtLine.{FmtLine}
 use Rattle.mad_rows.specs.declared.row_skin.RowSkin.{RowSkin}
 use Rattle.mad_hits.proofs.TookLemmas.{known, took_in_turn}
 use Rattle.mad_pages.specs.declared.fronts.Front.{Front}
-use Rattle.mad_front_rows.specs.FrontHits.{AreRowsMarked}
-use Rattle.mad_front_rows.specs.FrontRows.{page_row}
-use Rattle.mad_front_rows.specs.Pages.{ArePanesDrawn, IsPageDrawn, page_rows, whole_area}
+use Rattle.mad_hits.specs.FrontHits.{AreRowsMarked}
+use Rattle.mad_hits.specs.FrontRows.{page_row}
+use Rattle.mad_hits.specs.Panes.{ArePageRowsDrawn, IsPageDrawn, page_rows, whole_area}
 
 rows_are : (skin : RowSkin) (bar : Option ScrollBar) (lines : List FmtLine) (fs : List Front) (top width : ℕ) (shown : List FmtLine) (front : List Front) (wide : ℕ) → shown ≡ drop top lines → front ≡ drop top fs → wide ≡ columns_beside bar width
     → page_row skin wide shown front ≡ page_rows skin bar lines fs top width
@@ -23,18 +23,9 @@ rows_are skin bar lines fs top width shown front wide lines_are fronts_are wide_
 pub panes_drawn : (skin : RowSkin) (bar : Option ScrollBar) (lines : List FmtLine) (fs : List Front) (top width height : ℕ) (shown : List FmtLine) (front : List Front) (wide : ℕ) (old new : Trace) (bytes : List ℕ)
     → shown ≡ drop top lines → front ≡ drop top fs → wide ≡ columns_beside bar width → new ≡ after old bytes
     → (FillBeside bar (page_row skin wide shown front) (whole_area width height) → TookWith old new (AreShownBeside bar (page_row skin wide shown front) (whole_area width height)))
-    → TookWith old new (ArePanesDrawn skin bar lines fs top width height)
+    → TookWith old new (ArePageRowsDrawn skin bar lines fs top width height)
 panes_drawn skin bar lines fs top width height shown front wide old new bytes lines_are fronts_are wide_is taken h =
     let area = whole_area width height in
     let row : ℕ → List RowPiece = page_rows skin bar lines fs top width in
     known old new bytes (FillBeside bar row area) (AreShownBeside bar row area) taken
     (subst (λ (r : ℕ → List RowPiece). FillBeside bar r area → TookWith old new (AreShownBeside bar r area)) (rows_are skin bar lines fs top width shown front wide lines_are fronts_are wide_is) h)
-
--- where the panes are drawn, and then the hits over them, so is the page
-pub page_drawn : (skin : RowSkin) (bar : Option ScrollBar) (sought : List ℕ) (lines : List FmtLine) (fs : List Front) (starts : List ℕ) (top width height columns : ℕ) (old mid new : Trace) → columns ≡ columns_beside bar width
-    → TookWith old mid (ArePanesDrawn skin bar lines fs top width height) → TookWith mid new (AreRowsMarked skin columns sought lines fs starts 0 (range_with_len top (min height (length lines - top))))
-    → TookWith old new (IsPageDrawn skin bar sought lines fs starts top width height)
-page_drawn skin bar sought lines fs starts top width height columns old mid new is panes hits =
-    let rows : List ℕ = range_with_len top (min height (length lines - top)) in
-    took_in_turn old mid new (ArePanesDrawn skin bar lines fs top width height) (AreRowsMarked skin columns sought lines fs starts 0 rows) (IsPageDrawn skin bar sought lines fs starts top width height)
-    (λ a b drawn marked. record { panes = a; hits = b; are = refl; drawn = drawn; marked = subst (λ (n : ℕ). AreRowsMarked skin n sought lines fs starts 0 rows b) is marked }) panes hits

@@ -1,6 +1,5 @@
--- Rows of a page beside a scroll bar, and the hits over them.
-use Rattle.std.specs.Prelude.{◌≡◌, ℕ, ◌-◌, List, ◌++◌, drop, length, min, Option}
-use Rattle.std.specs.List.{range_with_len}
+-- Rows of a page beside a scroll bar.
+use Rattle.std.specs.Prelude.{ℕ, List, drop, Option}
 use Rattle.mad_measure.specs.declared.area.Area.{Area}
 use Rattle.mad_draw.specs.BarsApart.{AreShownBeside, FillBeside}
 use Rattle.mad_draw.specs.BesideBar.{columns_beside}
@@ -9,8 +8,7 @@ use Rattle.mad_draw.specs.declared.scroll_bars.ScrollBar.{ScrollBar}
 use Rattle.mad_format.specs.declared.line.FmtLine.{FmtLine}
 use Rattle.mad_rows.specs.declared.row_skin.RowSkin.{RowSkin}
 use Rattle.mad_pages.specs.declared.fronts.Front.{Front}
-use Rattle.mad_front_rows.specs.FrontHits.{AreRowsMarked}
-use Rattle.mad_front_rows.specs.FrontRows.{page_row}
+use Rattle.mad_hits.specs.FrontRows.{page_row}
 
 -- so many columns and rows of the screen, from its first on
 abbrev pub whole_area : ℕ → ℕ → Area
@@ -21,14 +19,6 @@ abbrev pub page_rows : RowSkin → Option ScrollBar → List FmtLine → List Fr
 page_rows skin bar lines fronts top width = page_row skin (columns_beside bar width) (drop top lines) (drop top fronts)
 
 -- These bytes show the rows in an area, and beside them the bar, where each row fills its columns. They change no other cell.
-abbrev pub ArePanesDrawn : RowSkin → Option ScrollBar → List FmtLine → List Front → ℕ → ℕ → ℕ → List ℕ → Type 0
-ArePanesDrawn skin bar lines fronts top width height bytes =
+abbrev pub ArePageRowsDrawn : RowSkin → Option ScrollBar → List FmtLine → List Front → ℕ → ℕ → ℕ → List ℕ → Type 0
+ArePageRowsDrawn skin bar lines fronts top width height bytes =
     FillBeside bar (page_rows skin bar lines fronts top width) (whole_area width height) → AreShownBeside bar (page_rows skin bar lines fronts top width) (whole_area width height) bytes
-
--- These bytes show the rows, and over them the hits of what is sought, in the columns that the rows have.
-pub record IsPageDrawn (skin : RowSkin) (bar : Option ScrollBar) (sought : List ℕ) (lines : List FmtLine) (fronts : List Front) (starts : List ℕ) (top width height : ℕ) (bytes : List ℕ) : Type 0 where
-  pub panes : List ℕ
-  pub hits : List ℕ
-  pub are : bytes ≡ panes ++ hits
-  pub drawn : ArePanesDrawn skin bar lines fronts top width height panes
-  pub marked : AreRowsMarked skin (columns_beside bar width) sought lines fronts starts 0 (range_with_len top (min height (length lines - top))) hits
