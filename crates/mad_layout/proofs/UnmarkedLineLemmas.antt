@@ -97,6 +97,7 @@ read_unmarked skin v bs text is utf8 h range = record {
   measured = omega (arith, holding_width v bs text is, unmarked_columns bs utf8 h, range);
   spacing = refl;
   margins = refl;
+  known = record { style = tt; runs = (utf8, tt) };
 }
 
 both : (m : ℕ × ℕ) → m.0 ≡ 0 → m.1 ≡ 0 → m ≡ (0, 0)

@@ -1,8 +1,12 @@
 //! Laws, each the contract of a small function: what is said of all pages.
 
+ghost use Rattle.mad_layout.specs.MadeSkins.{dark_skin, light_skin, limited_to_ascii};
+ghost use Rattle.mad_layout.specs.Skins.{default_skin, no_style_skin};
+ghost use Rattle.markdown_layout.specs.KeptPremises.{AreMarksShown};
 ghost use Rattle.markdown_layout.specs.NestedRows.{RowsNest};
 ghost use Rattle.markdown_layout.specs.ShownFaces.{ListsShowFaces};
 ghost use Rattle.markdown_layout.specs.TableCells.{CellsArePlain};
+ghost use Rattle.markdown_layout.specs.WrittenPages.{markdown_skin};
 
 /// Where its gutters take less than half of the width, each row of a section is behind all of them, and the first row has the first faces of
 /// those that begin with the section.
@@ -19,4 +23,14 @@ pub fn lists_show_faces()
 #[tactic(auto, using(crate::proofs::CellLemmas::cells_are_plain))]
 pub fn cells_are_plain()
     ensures { CellsArePlain }
+{}
+
+/// The marks of the skins that are made are shown: of the default one, of those for a dark and a light background, of the one without style, and of
+/// that one on an ASCII terminal.
+pub fn made_marks_are_shown()
+    ensures by_default { AreMarksShown (markdown_skin default_skin) }
+    ensures dark { AreMarksShown (markdown_skin dark_skin) }
+    ensures light { AreMarksShown (markdown_skin light_skin) }
+    ensures without_style { AreMarksShown (markdown_skin no_style_skin) }
+    ensures ascii { AreMarksShown (markdown_skin (limited_to_ascii no_style_skin)) }
 {}
