@@ -1,6 +1,8 @@
 -- Lines as sections without gutters, part by part.
-use Rattle.std.proofs.Common.{◌≡◌, Bool, true, false, not, List, [], ◌∷◌, ◌++◌, map, if◌then◌else◌, refl, ap, sym, ◌∙◌, subst, append_assoc, append-nil}
-use Rattle.mad_md.specs.Lines.{LineContent}
+use Rattle.std.proofs.Common.{◌≡◌, ℕ, zero, suc, ◌+◌, Bool, true, false, not, List, [], ◌∷◌, ◌++◌, map, length, get_or, if◌then◌else◌, arith, refl, ap, sym, ◌∙◌, subst, append_assoc, append-nil}
+use Rattle.std.proofs.lemmas.List.{map-append}
+use Rattle.mad_md.specs.Lines.{LineContent, content_of}
+use Rattle.mad_md.specs.declared.line.Line.{Line}
 use Rattle.mad_blocks.specs.TextParts.{apart, in_front, stand_together, text_parts}
 use Rattle.mad_blocks.proofs.LayoutJoins.{apart_parts}
 use Rattle.mad_sections.specs.Sections.{SectionContent}
@@ -33,10 +35,16 @@ apart_first (c ∷ []) l rest = refl
 apart_first (c ∷ d ∷ cs) l rest = apart_first (d ∷ cs) l rest
 
 -- whether a line is in another part than those before it, the last of these tells
-pub apart_last : (front : List LineContent) (c l : LineContent) → apart (front ++ c ∷ []) (l ∷ []) ≡ not (stand_together c l)
-apart_last [] c l = refl
-apart_last (b ∷ []) c l = refl
-apart_last (b ∷ d ∷ front) c l = apart_last (d ∷ front) c l
+pub apart_tells : (xs : List Line) (last : Line) (l : LineContent) (k : ℕ) → k + 1 ≡ length xs → last ≡ get_or xs k last → not (stand_together (content_of last) l) ≡ apart (map content_of xs) (l ∷ [])
+apart_tells [] last l k at is = absurd (omega (arith, at))
+apart_tells (x ∷ []) last l zero at is = ap (λ (e : Line). not (stand_together (content_of e) l)) is
+apart_tells (x ∷ []) last l (suc k) at is = absurd (omega (arith, at))
+apart_tells (x ∷ y ∷ ys) last l zero at is = absurd (omega (arith, at))
+apart_tells (x ∷ y ∷ ys) last l (suc k) at is = apart_tells (y ∷ ys) last l k (omega (arith, at)) is
+
+-- a line more
+pub content_more : (part new : List Line) (line : Line) → new ≡ part ++ line ∷ [] → map content_of new ≡ map content_of part ++ content_of line ∷ []
+content_more part new line pushed = ap (map content_of) pushed ∙ map-append content_of part (line ∷ [])
 
 -- these sections, the part that has begun, and what is left are all
 pub record PlainSoFar (all left part : List LineContent) (sections : List SectionContent) : Type 0 where
