@@ -1,14 +1,13 @@
 -- What is put into a page leaves its text as it is.
-use Rattle.std.proofs.Common.{◌≡◌, ◌⊎◌, inl, inr, ℕ, ◌<◌, ◌≤◌, Bool, true, false, if◌then◌else◌, List, [], ◌∷◌, ◌++◌, Option, Some, None, refl, ap, sym, ◌∙◌, subst, arith, append-nil}
+use Rattle.std.proofs.Common.{◌≡◌, ◌⊎◌, inl, inr, ℕ, Bool, false, if◌then◌else◌, List, [], ◌∷◌, ◌++◌, Option, Some, None, refl, ap, ◌∙◌, arith, append-nil}
 use Rattle.std.specs.Prelude.{nat_lt}
 use Rattle.std.proofs.lemmas.Bool.Decides.{nat_tests}
-use Rattle.mad_md.specs.Lines.{LineContent}
 use Rattle.mad_sections.specs.Sections.{SectionContent}
 use Rattle.mad_sections.specs.UnfoldLaws.{lines_text}
 use Rattle.mad_sections.specs.declared.gutters.Gutter.{Gutter}
 use Rattle.mad_sections.specs.declared.gutters.Gutter.TheVariants.{Below, Signs}
 use Rattle.mad_sections.proofs.Choices.{by_bool}
-use Rattle.mad_dressing.specs.Dressed.{Put, nothing, rule_below, signs_before, dressed, dressed_by, heading_level, put_at, put_with, rule_behind, signed}
+use Rattle.mad_dressing.specs.Dressed.{Put, nothing, rule_below, signs_before, dressed_by, heading_level, put_at, put_with}
 use Rattle.mad_dressing.specs.DressLaws.{AddsMarksAlone, IsRuled, IsSigned, OthersStay, TextStays, sections_text}
 use Rattle.mad_dressing.specs.declared.heading_marks.HeadingMarks.{HeadingMarks}
 

@@ -17,7 +17,7 @@ use Rattle.mad_format.specs.Indents.{indent, room_of}
 use Rattle.mad_format.specs.Wraps.{IsMeasured}
 use Rattle.mad_format.specs.declared.composite.FmtComposite.{FmtComposite}
 use Rattle.mad_format.specs.declared.line.FmtLine.{FmtLine}
-use Rattle.mad_format.specs.declared.line.FmtLine.TheVariants.{Normal, TableRow, TableRule, HorizontalRule}
+use Rattle.mad_format.specs.declared.line.FmtLine.TheVariants.{TableRow, TableRule}
 use Rattle.mad_wrap.specs.WrapLines.{HasRoom}
 use Rattle.mad_rows.specs.RowStyles.{line_rules, index_suffix}
 use Rattle.mad_rows.specs.declared.row_skin.RowSkin.{RowSkin}

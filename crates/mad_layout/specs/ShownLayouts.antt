@@ -24,7 +24,8 @@ ShowsDrawable skin bar lines area scroll old new =
     IfSome bar (IsBarShown area.width) → AreDrawable skin (columns_beside bar area.width) (lines_shown lines area scroll) → TookWith old new (AreShownIn skin bar lines area scroll)
 
 -- What a plain terminal shows that reads what was written, where the lines are a layout of a text, at a width that isn't more than the columns
--- that the bar leaves, and as many lines of the text as the area reaches keep the premises (a line has one row at least): the lines in the area from `scroll` on, the bar, every other cell as before, and the plain pen again.
+-- that the bar leaves, and as many lines of the text as the area reaches keep the premises (a line has one row at least): the lines in the area
+-- from `scroll` on, the bar, every other cell as before, and the plain pen again.
 abbrev pub ShowsLayout : RowSkin → Option ScrollBar → List FmtLine → Area → ℕ → Trace → Trace → Type 0
 ShowsLayout skin bar lines area scroll old new =
     (source : List LineContent) (width : ℕ) → width ≤ columns_beside bar area.width → IfSome bar (IsBarShown area.width) → KeepsPremises skin width (take (scroll + area.height) (lines_in_parts source))

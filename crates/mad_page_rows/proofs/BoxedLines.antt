@@ -13,7 +13,7 @@ use Rattle.mad_style.specs.OrderedItems.{ordered_indent}
 use Rattle.mad_measure.specs.TextColumns.{columns}
 use Rattle.mad_style.specs.StyledChars.{char_alone}
 use Rattle.mad_style.specs.declared.styled_chars.StyledChar.{StyledChar}
-use Rattle.mad_draw.specs.Pieces.{RowPiece, IsColumnChar, IsColumnPiece, IsShownPiece, AreShownPieces, char_piece, pieces_columns, single_spaces}
+use Rattle.mad_draw.specs.Pieces.{RowPiece, IsColumnChar, IsColumnPiece, AreShownPieces, char_piece, pieces_columns, single_spaces}
 use Rattle.mad_draw.proofs.ColumnChars.{column_piece}
 use Rattle.mad_format.specs.Indents.{later_indent}
 use Rattle.mad_format.specs.declared.composite.FmtComposite.{FmtComposite}
@@ -23,7 +23,7 @@ use Rattle.mad_rows.specs.Rows.{prefix_pieces, compound_piece}
 use Rattle.mad_rows.specs.RowStyles.{line_style}
 use Rattle.mad_rows.specs.declared.page_styles.PageStyles.{PageStyles}
 use Rattle.mad_rows.specs.declared.row_skin.RowSkin.{RowSkin}
-use Rattle.mad_layout.specs.Drawable.{FillsItsPlace, IsDrawable, IsDrawableLine, AreDrawable}
+use Rattle.mad_layout.specs.Drawable.{FillsItsPlace, IsDrawableLine, AreDrawable}
 use Rattle.mad_sections.specs.declared.gutters.Gutter.{Gutter}
 use Rattle.mad_sections.proofs.Choices.{by_bool}
 use Rattle.mad_page_rows.specs.FaceLaws.{AreFacesShown, AreSignsShown}

@@ -1,6 +1,7 @@
 -- The faces of gutters fill their columns.
 use Rattle.std.proofs.Common.{◌≡◌, ℕ, zero, suc, ◌+◌, ◌-◌, ◌^◌, ◌<◌, ◌≤◌, Bool, true, false, List, [], ◌∷◌, ◌++◌, length, take, drop, Some, refl, ap, sym, ◌∙◌, subst, arith}
 use Rattle.std.specs.Prelude.{decimal, if◌then◌else◌}
+use Rattle.std.specs.Char.{IsScalar}
 use Rattle.std.specs.List.{AllByRecursion, flat_map}
 use Rattle.std.specs.Str.{chars, IsAscii}
 use Rattle.std.proofs.lemmas.Str.{IsUtf8-from_ascii, chars-IsAscii}
@@ -16,13 +17,12 @@ use Rattle.mad_style.specs.declared.styled_chars.StyledChar.{StyledChar}
 use Rattle.mad_style.specs.declared.compound_styles.CompoundStyle.{CompoundStyle}
 use Rattle.mad_measure.specs.TextColumns.{columns}
 use Rattle.mad_measure.proofs.AllLemmas.{all_joined}
-use Rattle.mad_draw.specs.Pieces.{RowPiece, IsColumnChar, IsColumnPiece, IsShownPiece, AreShownPieces, FillsRow, pieces_columns, penned_chars, char_piece, char_repeat}
+use Rattle.mad_draw.specs.Pieces.{RowPiece, IsColumnChar, IsShownPiece, FillsRow, pieces_columns, penned_chars, char_piece, char_repeat}
 use Rattle.mad_draw.specs.PennedCells.{penned_cells}
 use Rattle.mad_draw.proofs.CellLemmas.{cells_of_pieces}
 use Rattle.mad_draw.proofs.ColumnChars.{printed_char, column_piece}
 use Rattle.mad_draw.proofs.RunLemmas.{run_shown, run_columns}
 use Rattle.mad_draw.proofs.PieceLemmas.{columns-both, spaces_columns, shown_spaces, pieces_cells, length-pieces_cells}
-use Rattle.mad_rows.specs.Rows.{number_piece, line_pieces}
 use Rattle.mad_rows.specs.RowStyles.{ordered_item_style}
 use Rattle.mad_rows.specs.declared.page_styles.PageStyles.{PageStyles}
 use Rattle.mad_rows.specs.declared.row_skin.RowSkin.{RowSkin}
@@ -33,7 +33,6 @@ use Rattle.mad_sections.specs.declared.gutters.Gutter.TheVariants.{Bar, AlertBar
 use Rattle.mad_sections.specs.declared.gutters.Alert.{Alert}
 use Rattle.mad_sections.specs.declared.gutters.Alert.TheVariants.{Note, Tip, Important, Warning, Caution}
 use Rattle.mad_sections.proofs.Choices.{by_bool}
-use Rattle.mad_pages.specs.PageRows.{RowContent}
 use Rattle.mad_page_rows.specs.FaceLaws.{AreFacesShown, AreSignsShown, IsTypedGutter, front_columns, fronts, FacesFill, RowsFill, CellsAreBehind}
 use Rattle.mad_page_rows.specs.Faces.{has_ascii_boxes, has_boxes, task_box, ascii_box, box_piece, alert_bar, heading_sign, blanks, code_blanks, code_face, first_face, other_face, face, faces, is_code, codes, back_columns, backs, behind_pieces, page_row_pieces}
 
@@ -89,7 +88,8 @@ task_column page false h = h.task
 box_fills : (skin : RowSkin) (done : Bool) → AreFacesShown skin → FillsRow (if has_ascii_boxes skin then 4 else 2) (box_piece skin done ∷ blanks skin 1)
 box_fills skin done h =
     let sign : StyledChar = task_box skin.page done in
-    by_bool (λ t. FillsRow (if t then 4 else 2) ((if t then (record { style = (char_style sign).object_style; text = ascii_box done } : RowPiece) else char_piece sign) ∷ blanks skin 1)) (has_ascii_boxes skin)
+    let ascii : RowPiece = record { style = (char_style sign).object_style; text = ascii_box done } in
+    by_bool (λ t. FillsRow (if t then 4 else 2) ((if t then ascii else char_piece sign) ∷ blanks skin 1)) (has_ascii_boxes skin)
     (λ e. ascii_fills skin (char_style sign) done) (λ e. char_fills skin sign (task_column skin.page done h.page))
 
 -- ---- faces
@@ -105,12 +105,12 @@ alert_fills : (skin : RowSkin) (alert : Alert) → AreFacesShown skin → FillsR
 alert_fills skin alert h = char_fills skin (alert_bar skin.page alert) (alert_column skin.page alert h.page)
 
 -- the signs of a heading, and a blank
-signs_fill : (skin : RowSkin) (level : ℕ) → FillsRow (level + 2) (char_repeat (heading_sign skin level) (suc level) ++ blanks skin 1)
+signs_fill : (skin : RowSkin) (level : ℕ) → FillsRow (level + 2) (char_repeat (heading_sign skin level) (level + 1) ++ blanks skin 1)
 signs_fill skin level =
     let sign = column_piece (heading_sign skin level) (ascii_column 35 refl (omega arith) (omega arith)) in
-    let signs : FillsRow (suc level) (char_repeat (heading_sign skin level) (suc level)) = record { shown = run_shown (heading_sign skin level) (suc level) sign; columns = run_columns (heading_sign skin level) (suc level) sign } in
-    let all : suc level + 1 ≡ level + 2 = omega arith in
-    subst (λ (n : ℕ). FillsRow n (char_repeat (heading_sign skin level) (suc level) ++ blanks skin 1)) all (both_fill (suc level) 1 _ _ signs (blanks_fill skin 1))
+    let signs : FillsRow (level + 1) (char_repeat (heading_sign skin level) (level + 1)) = record { shown = run_shown (heading_sign skin level) (level + 1) sign; columns = run_columns (heading_sign skin level) (level + 1) sign } in
+    let all : level + 1 + 1 ≡ level + 2 = omega arith in
+    subst (λ (n : ℕ). FillsRow n (char_repeat (heading_sign skin level) (level + 1) ++ blanks skin 1)) all (both_fill (level + 1) 1 _ _ signs (blanks_fill skin 1))
 
 number_fills : (skin : RowSkin) (n : ℕ) → AreFacesShown skin → n < 2 ^ 32 → FillsRow (length (decimal n) + 2) (first_face skin (Number n))
 number_fills skin n h fits =

@@ -1,17 +1,15 @@
 -- The numbers of the colors of a page's rows are bytes.
-use Rattle.std.proofs.Common.{ℕ, suc, ◌-◌, Bool, true, false, List, [], ◌∷◌, length, take, drop, Some, if◌then◌else◌}
+use Rattle.std.proofs.Common.{ℕ, suc, ◌+◌, ◌-◌, Bool, true, false, List, [], ◌∷◌, length, take, drop, Some, if◌then◌else◌}
 use Rattle.std.specs.List.{flat_map}
 use Rattle.mad_term.specs.Styles.{IsStyle}
 use Rattle.mad_style.specs.StyledChars.{char_style}
 use Rattle.mad_style.specs.declared.kinds.CompositeKind.TheVariants.{Header}
 use Rattle.mad_draw.specs.Pieces.{RowPiece, AreKnown, char_piece, char_repeat}
 use Rattle.mad_draw.proofs.PieceLemmas.{char_repeat_known, known_both, spaces_known}
-use Rattle.mad_rows.specs.Rows.{line_pieces, row_pieces}
 use Rattle.mad_rows.specs.RowStyles.{AreKnownSigns, AreKnownStyles}
 use Rattle.mad_rows.specs.declared.page_styles.PageStyles.{PageStyles}
 use Rattle.mad_rows.specs.declared.row_skin.RowSkin.{RowSkin}
 use Rattle.mad_rows.proofs.KnownLemmas.{item_known, line_known}
-use Rattle.mad_sections.specs.Gutters.{gutter_columns, columns_of}
 use Rattle.mad_sections.specs.declared.gutters.Gutter.{Gutter}
 use Rattle.mad_sections.specs.declared.gutters.Gutter.TheVariants.{Bar, AlertBar, Bullet, Number, Task, Code, Signs, Below}
 use Rattle.mad_sections.specs.declared.gutters.Alert.{Alert}
@@ -43,7 +41,8 @@ task_known page false h = h.task
 box_known : (skin : RowSkin) (done : Bool) → AreKnownStyles skin → IsStyle (box_piece skin done).style
 box_known skin done h =
     let known : IsStyle (char_style (task_box skin.page done)).object_style = task_known skin.page done h.parts.page in
-    by_bool (λ t. IsStyle (if t then (record { style = (char_style (task_box skin.page done)).object_style; text = ascii_box done } : RowPiece) else char_piece (task_box skin.page done)).style) (has_ascii_boxes skin) (λ e. known) (λ e. known)
+    let ascii : RowPiece = record { style = (char_style (task_box skin.page done)).object_style; text = ascii_box done } in
+    by_bool (λ t. IsStyle (if t then ascii else char_piece (task_box skin.page done)).style) (has_ascii_boxes skin) (λ e. known) (λ e. known)
 
 first_known : (skin : RowSkin) (g : Gutter) → AreKnownStyles skin → AreKnown (first_face skin g)
 first_known skin Bar h = (h.parts.quote_mark, blanks_known skin 1 h)
@@ -53,7 +52,7 @@ first_known skin (Number n) h = let item = item_known skin 0 h in (item.0, (item
 first_known skin (Task done) h = (box_known skin done h, blanks_known skin 1 h)
 first_known skin Code h = code_known skin h
 first_known skin (Signs level) h =
-    known_both (char_repeat (heading_sign skin level) (suc level)) (blanks skin 1) (char_repeat_known (heading_sign skin level) (suc level) (line_known skin (Header (suc level)) h)) (blanks_known skin 1 h)
+    known_both (char_repeat (heading_sign skin level) (level + 1)) (blanks skin 1) (char_repeat_known (heading_sign skin level) (level + 1) (line_known skin (Header (suc level)) h)) (blanks_known skin 1 h)
 first_known skin (Below level) h = tt
 
 other_known : (skin : RowSkin) (g : Gutter) → AreKnownStyles skin → AreKnown (other_face skin g)

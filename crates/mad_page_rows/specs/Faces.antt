@@ -75,7 +75,7 @@ first_face skin Bullet = char_piece skin.bullet ∷ blanks skin 1
 first_face skin (Number n) = number_piece (ordered_item_style skin 0).index_style n ∷ char_piece (ordered_item_style skin 0).index_suffix ∷ blanks skin 1
 first_face skin (Task done) = box_piece skin done ∷ blanks skin 1
 first_face skin Code = code_face skin
-first_face skin (Signs level) = char_repeat (heading_sign skin level) (suc level) ++ blanks skin 1
+first_face skin (Signs level) = char_repeat (heading_sign skin level) (level + 1) ++ blanks skin 1
 first_face skin (Below level) = []
 
 -- and in front of all others: a bar is there again, and the side of a box, all else is blank

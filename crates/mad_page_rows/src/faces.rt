@@ -8,8 +8,8 @@ ghost use Rattle.mad_rows.specs.RowStyles.{ordered_item_style};
 
 use mad_draw::{CharRepeat, Spaces};
 use mad_rows::{PageStyles, RowSkin};
-use mad_sections::{Alert, Gutter};
 use mad_sections::gutters::gutter_columns;
+use mad_sections::{Alert, Gutter};
 use mad_style::StyledChar;
 use mad_term::StyledNumber;
 use std::fmt::{self, Display};

@@ -5,7 +5,8 @@ use Rattle.std.specs.List.{AllByRecursion, list_all}
 use Rattle.std.specs.Str.{IsUtf8, NonePass, NoCharPasses}
 use Rattle.std.proofs.lemmas.Bool.{and_from}
 use Rattle.std.proofs.lemmas.Bool.Decides.{nat_tests}
-use Rattle.std.proofs.lemmas.Str.{chars_from_encodes}
+use Rattle.std.proofs.lemmas.Str.{chars-IsAscii, chars_from_encodes}
+use Rattle.std.proofs.lemmas.Str.Ascii.{IsAscii-cons, IsAscii-nil}
 use Rattle.unicode_width.specs.Width.{char_width}
 use Rattle.mad_characters.proofs.CharColumns.{char_columns-three}
 use Rattle.mad_md.specs.Flagged.{Flags, FlaggedChar, Run, flagged}
@@ -219,9 +220,18 @@ colon_joined =
     let second = ascii_column 32 refl (omega arith) (omega arith) in
     (λ none. absurd (omega (arith, none, first.one)), (λ none. absurd (omega (arith, none, second.one)), tt))
 
-colon_fine : IsPrintableRun colon
+colon_chars : chars colon.text ≡ 58 ∷ 32 ∷ []
+colon_chars = chars-IsAscii (58 ∷ 32 ∷ []) (IsAscii-cons 58 (32 ∷ []) (omega arith) (IsAscii-cons 32 [] (omega arith) IsAscii-nil))
+
+colon_printed : IsPrinted (58 ∷ 32 ∷ [])
 unfolding char_width
-colon_fine = record { printed = (refl, (refl, tt)); joined = colon_joined }
+colon_printed = (refl, (refl, tt))
+
+colon_fine : IsPrintableRun colon
+colon_fine = record {
+  printed = subst IsPrinted (sym colon_chars) colon_printed;
+  joined = subst (λ (cs : List ℕ). AreJoined false (flagged colon.flags cs)) (sym colon_chars) colon_joined;
+}
 
 label_by : (t : Bool) (runs : List Run) → AllByRecursion IsPrintableRun runs → AllByRecursion IsPrintableRun (if t then [] else runs ++ colon ∷ [])
 label_by true runs h = tt

@@ -79,8 +79,8 @@ column_fine available cells room =
     by_bool (λ t. AreFine (length (natural_widths ns)) (if t then natural_widths ns else if length ns == 1 then available ∷ [] else after_second available ns)) (nat_le (sum (natural_widths ns)) available)
     (λ fits. record { wide = naturals_wide cells; long = refl })
     (λ more. by_bool (λ t. AreFine (length (natural_widths ns)) (if t then available ∷ [] else after_second available ns)) (length ns == 1)
-        (λ one. record { wide = one_wide available (room (omega (arith, count, is_one (length ns) one))); long = omega (arith, naturals, is_one (length ns) one) })
-        (λ several. record { wide = second_wide available cells; long = second_count available ns }))
+    (λ one. record { wide = one_wide available (room (omega (arith, count, is_one (length ns) one))); long = omega (arith, naturals, is_one (length ns) one) })
+    (λ several. record { wide = second_wide available cells; long = second_count available ns }))
 
 word_wide : (available : ℕ) (cells words : List (List ℕ)) → (length cells ≡ 1 → 3 ≤ available) → AreWide (word_widths available (map needs_of cells) (least_of cells words))
 unfolding word_widths

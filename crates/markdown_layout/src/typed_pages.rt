@@ -35,7 +35,7 @@ fn typed_section(section: &Section<'_>)
 }
 
 fn typed_list(list: Option<&[Gutter]>)
-    ensures { IfSome (option_map (λ gs. gs.now) list) (AllByRecursion IsTypedGutter) }
+    ensures { IfSome (option_map (λ gs. gs.now) list.entry) (AllByRecursion IsTypedGutter) }
 {
     if let Some(gutters) = list {
         typed_gutters(gutters);

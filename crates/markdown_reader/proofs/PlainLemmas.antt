@@ -18,7 +18,7 @@ use Rattle.mad_sections.specs.declared.gutters.Alert.{Alert}
 use Rattle.mad_sections.specs.declared.gutters.Gutter.{Gutter}
 use Rattle.mad_sections.specs.declared.gutters.Gutter.TheVariants.{Bar, AlertBar, Bullet, Number, Task, Code, Signs, Below}
 use Rattle.markdown_html_text.specs.Rows.{html_rows}
-use Rattle.markdown_lines.specs.Code.{code_line, code_lines}
+use Rattle.markdown_lines.specs.Code.{code_lines}
 use Rattle.markdown_lines.specs.Glyphs.{leaf_glyphs, trimmed}
 use Rattle.markdown_lines.specs.Leaf.{row_of, rows_from, leaf_rows, html_row, html_lines}
 use Rattle.markdown_lines.specs.Links.{Defined}

@@ -1,3 +1,4 @@
+use Rattle.std.proofs.Common.{◌∙◌}
 use Rattle.mad_page_rows.proofs.BoxLemmas.{level_is}
 use Rattle.mad_page_rows.proofs.faces.level_above.Goals as goal
 
