@@ -1,5 +1,5 @@
 -- Laws of hits: what they change of the rows that they are drawn over.
-use Rattle.std.specs.Prelude.{◌≡◌, ℕ, ◌+◌, ◌^◌, ◌<◌, ◌≤◌, true, false, List, [], ◌∷◌, map, take, drop, Some, None, slice_get}
+use Rattle.std.specs.Prelude.{◌≡◌, ℕ, ◌+◌, ◌-◌, ◌^◌, ◌<◌, ◌≤◌, true, false, List, [], ◌∷◌, map, take, drop, Some, None, slice_get}
 use Rattle.std.specs.List.{AllByRecursion}
 use Rattle.mad_screen.specs.Glyph.{Glyph}
 use Rattle.mad_screen.specs.Painting.{IsWhole, look_of_style}
@@ -11,11 +11,18 @@ use Rattle.mad_format.specs.Indents.{indent}
 use Rattle.mad_format.specs.declared.composite.FmtComposite.{FmtComposite}
 use Rattle.mad_format.specs.declared.line.FmtLine.{FmtLine}
 use Rattle.mad_format.specs.declared.line.FmtLine.TheVariants.{Normal, TableRow}
-use Rattle.mad_rows.specs.Rows.{composite_pieces, inner_columns, line_pieces, prefix_pieces, vertical_piece}
+use Rattle.mad_rows.specs.Rows.{composite_pieces, inner_columns, prefix_pieces, vertical_piece}
 use Rattle.mad_rows.specs.declared.row_skin.RowSkin.{RowSkin}
 use Rattle.mad_hits.specs.Drawn.{marked_columns}
 use Rattle.mad_hits.specs.Hits.{Marked}
-use Rattle.mad_hits.specs.Parts.{AreRowHits, AreRowsMarked}
+use Rattle.mad_hits.specs.FrontHits.{AreRowsMarked, hit_behind}
+use Rattle.mad_hits.specs.Parts.{AreRowHits}
+use Rattle.mad_page_rows.specs.FaceLaws.{AreFacesShown, IsTypedGutter, fronts}
+use Rattle.mad_page_rows.specs.Faces.{behind_pieces, has_ascii_boxes, line_skin, page_row_pieces}
+use Rattle.mad_pages.specs.Fronts.{FrontContent, front_at, row_behind}
+use Rattle.mad_pages.specs.declared.fronts.Front.{Front}
+use Rattle.mad_sections.specs.Gutters.{columns_of}
+use Rattle.mad_wrap.specs.WrapLines.{capped}
 
 -- ---- cells
 
@@ -52,28 +59,36 @@ IsCounted skin (Normal l) = HasIndent skin l
 IsCounted skin (TableRow row) = (pieces_columns (vertical_piece skin ∷ []) ≡ 1) × AllByRecursion (IsCountedCell skin) row.cells.items
 IsCounted skin line = Unit {0}
 
--- these hits stand in the row of a line of `width` columns
-abbrev pub StandInRow : RowSkin → ℕ → FmtLine → List Marked → Type 0
-StandInRow skin width line hits = AllByRecursion (StandsWithin width (line_pieces skin (Some width) true line)) hits
+-- what the columns of a row behind a front are counted by: its gutters are as their type promises, and so are the columns of its line
+pub record IsCountedRow (skin : RowSkin) (front : FrontContent) (line : FmtLine) : Type 0 where
+  pub typed : AllByRecursion IsTypedGutter front.gutters
+  pub line : IsCounted (line_skin skin front.gutters) line
+
+-- these hits of a line stand in its row of `width` columns behind a front
+abbrev pub StandInRow : RowSkin → ℕ → FrontContent → FmtLine → List Marked → Type 0
+StandInRow skin width front line hits =
+    AllByRecursion (StandsWithin width (page_row_pieces skin (Some width) true (row_behind front line))) (map (hit_behind (capped (fronts skin front.gutters))) hits)
 
 -- ---- laws
 
--- Marking hits changes no character of any cell of a row: those of its own text and its parts of those that go over a break stand in it. The row has
--- as many columns as the hits were found for.
+-- Marking hits changes no character of any cell of a row: those of its own text and its parts of those that go over a break stand in it, behind
+-- what is in front of its line. The row has as many columns as the hits were found for.
 abbrev pub HitsChangeNoCharacter : Type 0
 HitsChangeNoCharacter =
-    (skin : RowSkin) (width : ℕ) (sought : List ℕ) (lines : List FmtLine) (starts : List ℕ) (row : ℕ) (hits : List Marked) (line : FmtLine) → slice_get lines row ≡ Some line → width < 2 ^ 16
-    → IsCounted skin line → AreShownPieces (line_pieces skin (Some width) true line) → AreRowHits skin width sought lines starts row hits → StandInRow skin width line hits
+    (skin : RowSkin) (width : ℕ) (sought : List ℕ) (lines : List FmtLine) (front : FrontContent) (starts : List ℕ) (row : ℕ) (hits : List Marked) (line : FmtLine) → slice_get lines row ≡ Some line → width < 2 ^ 16
+    → AreFacesShown skin → IsCountedRow skin front line → AreShownPieces (behind_pieces skin (Some width) true (row_behind front line))
+    → AreRowHits (line_skin skin front.gutters) (width - columns_of (has_ascii_boxes skin) front.gutters) sought lines starts row hits → StandInRow skin width front line hits
 
 -- each of the hits that these bytes show stands in its row
-abbrev pub RowsStand : (skin : RowSkin) (width : ℕ) (sought : List ℕ) (lines : List FmtLine) (starts : List ℕ) (y : ℕ) (rows bytes : List ℕ) → AreRowsMarked skin width sought lines starts y rows bytes → Type 0
-RowsStand skin width sought lines starts y [] bytes marked = Unit {0}
-RowsStand skin width sought lines starts y (row ∷ rows) bytes marked =
-    ((line : FmtLine) → slice_get lines row ≡ Some line → IsCounted skin line → AreShownPieces (line_pieces skin (Some width) true line) → StandInRow skin width line marked.3.hits)
-    × RowsStand skin width sought lines starts (y + 1) rows marked.1 marked.4
+abbrev pub RowsStand : (skin : RowSkin) (width : ℕ) (sought : List ℕ) (lines : List FmtLine) (fs : List Front) (starts : List ℕ) (y : ℕ) (rows bytes : List ℕ) → AreRowsMarked skin width sought lines fs starts y rows bytes → Type 0
+RowsStand skin width sought lines fs starts y [] bytes marked = Unit {0}
+RowsStand skin width sought lines fs starts y (row ∷ rows) bytes marked =
+    ((line : FmtLine) → slice_get lines row ≡ Some line → IsCountedRow skin (front_at fs row) line → AreShownPieces (behind_pieces skin (Some width) true (row_behind (front_at fs row) line))
+    → StandInRow skin width (front_at fs row) line marked.3.hits)
+    × RowsStand skin width sought lines fs starts (y + 1) rows marked.1 marked.4
 
 -- So it is with all hits that are drawn over rows.
 abbrev pub DrawnHitsStand : Type 0
 DrawnHitsStand =
-    (skin : RowSkin) (width : ℕ) (sought : List ℕ) (lines : List FmtLine) (starts : List ℕ) (y : ℕ) (rows bytes : List ℕ) → width < 2 ^ 16
-    → (marked : AreRowsMarked skin width sought lines starts y rows bytes) → RowsStand skin width sought lines starts y rows bytes marked
+    (skin : RowSkin) (width : ℕ) (sought : List ℕ) (lines : List FmtLine) (fs : List Front) (starts : List ℕ) (y : ℕ) (rows bytes : List ℕ) → width < 2 ^ 16 → AreFacesShown skin
+    → (marked : AreRowsMarked skin width sought lines fs starts y rows bytes) → RowsStand skin width sought lines fs starts y rows bytes marked

@@ -1,7 +1,10 @@
 pub mod Drawn
+pub mod FrontHits
+pub mod FrontRows
 pub mod HitLaws
 pub mod Hits
 pub mod Matches
 pub mod Overs
+pub mod Panes
 pub mod Parts
 pub mod Styled

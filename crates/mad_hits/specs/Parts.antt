@@ -1,5 +1,5 @@
 -- What is drawn once more of a row: the hits in its own text, and in it the parts of those that go over a break.
-use Rattle.std.specs.Prelude.{◌≡◌, ℕ, ◌+◌, ◌-◌, List, [], ◌∷◌, ◌++◌, chars, length, map, slice_get, Some}
+use Rattle.std.specs.Prelude.{◌≡◌, ℕ, ◌+◌, ◌-◌, List, [], ◌++◌, chars, length, map, slice_get, Some}
 use Rattle.mad_style.specs.declared.styled_chars.StyledChar.{StyledChar}
 use Rattle.mad_format.specs.declared.composite.FmtComposite.{FmtComposite}
 use Rattle.mad_format.specs.declared.line.FmtLine.{FmtLine}
@@ -7,7 +7,6 @@ use Rattle.mad_format.specs.declared.line.FmtLine.TheVariants.{Normal}
 use Rattle.mad_rows.specs.Rows.{margins_of}
 use Rattle.mad_rows.specs.declared.row_skin.RowSkin.{RowSkin}
 use Rattle.mad_search.specs.Searches.{row_text}
-use Rattle.mad_hits.specs.Drawn.{AreHitsShown}
 use Rattle.mad_hits.specs.Hits.{AreTextsHits, Marked, marked_at, placed_texts, text_column}
 use Rattle.mad_hits.specs.Overs.{overs_above, overs_below}
 use Rattle.mad_hits.specs.Styled.{styled_text}
@@ -39,15 +38,3 @@ pub record AreRowHits (skin : RowSkin) (width : ℕ) (sought : List ℕ) (lines 
   pub own : List Marked
   pub within : AreTextsHits skin sought (placed_texts skin width line) own
   pub are : hits ≡ own ++ line_parts skin sought width (overs_above sought lines starts row) (overs_below sought lines starts row) line
-
--- the bytes of the hits of what is sought in a row, in row y of the screen
-pub record IsRowMarked (skin : RowSkin) (width : ℕ) (sought : List ℕ) (lines : List FmtLine) (starts : List ℕ) (y row : ℕ) (bytes : List ℕ) : Type 0 where
-  pub hits : List Marked
-  pub are : AreRowHits skin width sought lines starts row hits
-  pub shown : AreHitsShown width y hits bytes
-
--- the bytes of those in rows, from row y of the screen on
-abbrev pub AreRowsMarked : RowSkin → ℕ → List ℕ → List FmtLine → List ℕ → ℕ → List ℕ → List ℕ → Type 0
-AreRowsMarked skin width sought lines starts y [] bytes = bytes ≡ []
-AreRowsMarked skin width sought lines starts y (row ∷ rows) bytes =
-    (first : List ℕ) × (others : List ℕ) × (bytes ≡ first ++ others) × IsRowMarked skin width sought lines starts y row first × AreRowsMarked skin width sought lines starts (y + 1) rows others

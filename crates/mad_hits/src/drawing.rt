@@ -1,4 +1,4 @@
-//! Hits, drawn over rows that were drawn before.
+//! Hits, drawn over rows of a page that were drawn before: they begin behind the fronts' columns.
 
 ghost use Rattle.std.specs.List.{range_with_len};
 ghost use Rattle.std.specs.Prelude.{◌+◌, ◌-◌, ◌<◌, ◌^◌, OnOk, length, map, min};
@@ -6,24 +6,29 @@ ghost use Rattle.mad_term.specs.Trace.{TookWith};
 ghost use Rattle.mad_style.specs.StyledChars.{char_style};
 ghost use Rattle.mad_term.specs.Styles.{IsStyle};
 ghost use Rattle.mad_hits.specs.Drawn.{AreHitsShown, IsHitShown};
+ghost use Rattle.mad_hits.specs.FrontHits.{AreRowsMarked, IsRowMarked, hit_behind};
 ghost use Rattle.mad_hits.specs.Hits.{marked_of};
-ghost use Rattle.mad_hits.specs.Parts.{AreRowsMarked, IsRowMarked};
 
+use crate::columns::columns_in_front;
 use crate::hits::{Hit, columns_of};
 use crate::parts::row_hits;
 use mad_draw::{Rows, draw_rows};
 use mad_format::FmtLine;
 use mad_measure::Area;
+use mad_page_rows::columns_left;
+use mad_page_rows::faces::line_skin;
+use mad_pages::{Front, front_at};
 use mad_rows::RowSkin;
 use mad_style::StyledChar;
 use mad_term::{Error, Out};
 use std::alloc::{AllocError, Global};
 
-/// Draws the hits of what is sought over rows of a text that were drawn in an area, those from the row `top` on, as many as its height. Each row
-/// has as many columns as they are laid out at. Nothing is flushed.
+/// Draws the hits of what is sought over rows of a page that were drawn in an area, those from the row `top` on, as many as its height. The page
+/// has `width` columns: those beside the scroll bar, if there is one. Nothing is flushed.
 ///
-/// Parts of the text begin in the rows `starts`, as [`mad_search::PagedText::lay`] tells. Of what goes over the break between two rows that come of
-/// one line of the text, each row has its part, also where the other one isn't in the area.
+/// Parts of what is shown begin in the rows `starts`, as [`mad_pages::PagedPage`] tells. What is sought is in the lines alone; a hit begins behind what
+/// stands in front of its line. Of what goes over the break between two rows that come of one line of the text, each row has its part, also where the
+/// other one isn't in the area.
 ///
 /// # Errors
 ///
@@ -33,19 +38,22 @@ pub fn draw_row_hits<O: Out>(
     out: &mut O,
     skin: &RowSkin,
     lines: &[FmtLine],
+    fronts: &[Front],
     starts: &[usize],
     top: usize,
     width: u16,
     height: u16,
     sought: &str,
 ) -> Result<(), Error>
-    ensures { OnOk result (TookWith (O.seen out.old) (O.seen out.new) (AreRowsMarked skin.now width sought.now lines.now starts.now 0 (range_with_len top (min height (length lines.now - top))))) }
+    ensures { OnOk result (TookWith (O.seen out.old) (O.seen out.new) (AreRowsMarked skin.now width sought.now lines.now fronts.now starts.now 0 (range_with_len top (min height (length lines.now - top))))) }
 {
     let count = usize::from(height).min(lines.len().saturating_sub(top));
     let mut y: u16 = 0;
     'rows: while usize::from(y) < count {
         let row = top + usize::from(y);
-        draw_row(alloc, out, skin, lines, starts, row, width, y, sought)?;
+        draw_row(
+            alloc, out, skin, lines, fronts, starts, row, width, y, sought,
+        )?;
         y += 1;
     }
     Ok(())
@@ -57,6 +65,7 @@ fn draw_row<O: Out>(
     out: &mut O,
     skin: &RowSkin,
     lines: &[FmtLine],
+    fronts: &[Front],
     starts: &[usize],
     row: usize,
     width: u16,
@@ -65,53 +74,82 @@ fn draw_row<O: Out>(
 ) -> Result<(), Error>
     requires low { y + 1 < 2 ^ 16 }
     requires within { row < length lines.now }
-    ensures { OnOk result (TookWith (O.seen out.old) (O.seen out.new) (IsRowMarked skin.now width sought.now lines.now starts.now y row)) }
+    ensures { OnOk result (TookWith (O.seen out.old) (O.seen out.new) (IsRowMarked skin.now width sought.now lines.now fronts.now starts.now y row)) }
 {
-    let hits = row_hits(alloc, skin, lines, starts, row, usize::from(width), sought)?;
-    draw_each(alloc, out, hits.as_slice(), width, y)?;
+    let gutters = front_at(fronts, row).gutters;
+    let rest = columns_left(skin, gutters, usize::from(width));
+    let hits = row_hits(
+        alloc,
+        &line_skin(skin, gutters),
+        lines,
+        starts,
+        row,
+        rest,
+        sought,
+    )?;
+    let front = columns_in_front(skin, gutters);
+    draw_each(alloc, out, hits.as_slice(), front, width, y)?;
     Ok(())
 }
 
-// Draws hits, each where it is within the columns.
+// Draws hits, each where it is within the columns, behind so many.
 fn draw_each<O: Out>(
     alloc: Global,
     out: &mut O,
     hits: &[Hit],
+    front: usize,
     width: u16,
     y: u16,
 ) -> Result<(), Error>
     requires { y + 1 < 2 ^ 16 }
-    ensures { OnOk result (TookWith (O.seen out.old) (O.seen out.new) (AreHitsShown width y (map marked_of hits.now))) }
+    ensures { OnOk result (TookWith (O.seen out.old) (O.seen out.new) (AreHitsShown width y (map (hit_behind front) (map marked_of hits.now)))) }
 {
     for hit in hits {
-        draw_hit(alloc, out, hit, width, y)?;
+        draw_hit(alloc, out, hit, front, width, y)?;
     }
     Ok(())
 }
 
 // Draws a hit, where it is within the columns.
-fn draw_hit<O: Out>(alloc: Global, out: &mut O, hit: &Hit, width: u16, y: u16) -> Result<(), Error>
+fn draw_hit<O: Out>(
+    alloc: Global,
+    out: &mut O,
+    hit: &Hit,
+    front: usize,
+    width: u16,
+    y: u16,
+) -> Result<(), Error>
     requires { y + 1 < 2 ^ 16 }
-    ensures { OnOk result (TookWith (O.seen out.old) (O.seen out.new) (IsHitShown width y (marked_of hit.now))) }
+    ensures { OnOk result (TookWith (O.seen out.old) (O.seen out.new) (IsHitShown width y (hit_behind front (marked_of hit.now)))) }
 {
-    let columns = columns_of(hit.chars.as_slice());
-    if hit.column.saturating_add(columns) > usize::from(width) {
+    let column = front.saturating_add(hit.column);
+    draw_chars(alloc, out, hit.chars.as_slice(), column, width, y)?;
+    Ok(())
+}
+
+// Draws characters from a column on, where they are within the columns.
+fn draw_chars<O: Out>(
+    alloc: Global,
+    out: &mut O,
+    chars: &[StyledChar],
+    column: usize,
+    width: u16,
+    y: u16,
+) -> Result<(), Error>
+    requires { y + 1 < 2 ^ 16 }
+    ensures { OnOk result (TookWith (O.seen out.old) (O.seen out.new) (IsHitShown width y (record { column = column; chars = chars.now }))) }
+{
+    let columns = columns_of(chars);
+    if column.saturating_add(columns) > usize::from(width) {
         return Ok(());
     }
     let area = Area {
-        left: hit.column as u16,
+        left: column as u16,
         top: y,
         width: columns as u16,
         height: 1,
     };
-    draw_rows(
-        alloc,
-        out,
-        &Chars {
-            chars: hit.chars.as_slice(),
-        },
-        &area,
-    )?;
+    draw_rows(alloc, out, &Chars { chars }, &area)?;
     Ok(())
 }
 

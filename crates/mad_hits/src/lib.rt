@@ -1,22 +1,29 @@
-//! What is sought, marked in the rows of a text that are on the screen: its characters are drawn once more, reversed.
+//! Rows of a page that is laid out as lines and fronts, on a screen, and what is sought, marked in them: its characters are drawn once more, reversed.
 //!
-//! 1. [`styled`]: the characters of a composite, each in its style.
-//! 2. [`matches`]: where what is sought begins among them.
-//! 3. [`places`]: where the texts of a row begin; [`hits`]: what is drawn of a line.
-//! 4. [`overs`]: where it goes over the break between two rows; [`parts`]: what is drawn of a row.
-//! 5. [`drawing`]: all of it, over rows that were drawn.
-//! 6. [`laws`]: what hits change.
+//! 1. [`columns`]: the columns in front of a row's line. [`rows`], [`panes`]: rows in an area of the screen, beside a scroll bar.
+//! 2. [`styled`]: the characters of a composite, each in its style.
+//! 3. [`matches`]: where what is sought begins among them.
+//! 4. [`places`]: where the texts of a row begin; [`hits`]: what is drawn of a line.
+//! 5. [`overs`]: where it goes over the break between two rows; [`parts`]: what is drawn of a row.
+//! 6. [`drawing`]: all of it, over rows that were drawn, behind the fronts.
+//! 7. [`laws`]: what hits change.
 #![tactic(auto)]
 
+mod columns;
 mod drawing;
 mod hits;
 pub mod laws;
 mod matches;
 mod overs;
+mod panes;
 mod parts;
 mod places;
+mod rows;
 mod styled;
 
+pub use columns::columns_in_front;
 pub use drawing::draw_row_hits;
 pub use hits::{Hit, hits_in};
+pub use panes::{draw_page_rows, left_columns};
 pub use parts::row_hits;
+pub use rows::FrontRows;

@@ -1,9 +1,9 @@
 -- Lines that are made of others one after the other.
-use Rattle.std.proofs.Common.{◌≡◌, ℕ, ◌+◌, Bool, List, [], ◌∷◌, ◌++◌, length, map, sym, ap, ◌∙◌, append_assoc, append-nil, length-append}
+use Rattle.std.proofs.Common.{◌≡◌, ℕ, ◌+◌, List, [], ◌∷◌, ◌++◌, length, map, sym, ap, ◌∙◌, append_assoc, append-nil, length-append}
 use Rattle.std.proofs.lemmas.List.{length-map}
 use Rattle.mad_md.specs.Lines.{LineContent, content_of}
 use Rattle.mad_md.specs.declared.line.Line.{Line}
-use Rattle.mad_outline.specs.Sources.{items_by, part_numbers}
+use Rattle.mad_outline.specs.Sources.{items_by}
 
 -- so many lines more
 pub longer : (a b : List Line) (s : List LineContent) → map content_of b ≡ map content_of a ++ s → length b ≡ length a + length s
@@ -22,8 +22,3 @@ pub items_all : {A : Type 0} (said : ℕ → A → List LineContent) (done : Lis
     → map content_of done ++ items_by said (length done) xs ≡ whole → xs ≡ [] → map content_of done ≡ whole
 items_all {A = A} said done whole xs h none = sym (append-nil (map content_of done)) ∙ (ap (λ (l : List A). map content_of done ++ items_by said (length done) l) (sym none) ∙ h)
 
--- one number more
-pub number_more : (only counted : Bool) (done new whole : List ℕ) (part next : ℕ) (l : LineContent) (ls : List LineContent) (said : List ℕ)
-    → done ++ (said ++ part_numbers only next ls) ≡ whole → new ≡ done ++ said → new ++ part_numbers only next ls ≡ whole
-number_more only counted done new whole part next l ls said h e =
-    ap (λ (x : List ℕ). x ++ part_numbers only next ls) e ∙ (append_assoc done said (part_numbers only next ls) ∙ h)

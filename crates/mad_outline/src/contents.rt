@@ -1,16 +1,15 @@
 //! The headers of a text.
 
-ghost use Rattle.std.specs.Prelude.{◌≡◌, ◌++◌, ◌==◌, false, length, IfOk, OnOk, map};
-ghost use Rattle.std.specs.Vec.Iter.{into_iter_items};
+ghost use Rattle.std.specs.Prelude.{◌≡◌, ◌++◌, ◌==◌, length, IfOk, OnOk, map};
 ghost use Rattle.mad_md.specs.Lines.{content_of, contents, normal, styled_runs};
-ghost use Rattle.mad_md.specs.Reading.{unread_text};
-ghost use Rattle.mad_md.specs.Scan.{lines_of};
-ghost use Rattle.mad_outline.specs.Sources.{header_said, headers_listed, item_style, items_by};
-ghost use Rattle.mad_search.specs.PagedTexts.{paged_lines};
+ghost use Rattle.mad_outline.specs.Sources.{header_item, header_of, header_said, headers_listed, item_style, items_by};
+ghost use Rattle.mad_search.specs.PagedTexts.{paged_sections};
+ghost use Rattle.mad_sections.specs.Sections.{page_content, section_content};
 
 use crate::sources::raw_line;
-use mad_md::{Composite, CompositeStyle, Line, LineCursor, ParseOptions, Text};
+use mad_md::{Composite, CompositeStyle, Line, Text};
 use mad_search::PagedText;
+use mad_sections::{Page, Section};
 use std::alloc::{AllocError, Global};
 
 /// The name of the page that has them.
@@ -29,10 +28,10 @@ pub fn contents_text<'s>(
     text: PagedText<'s>,
     chosen: usize,
 ) -> Result<Text<'s>, AllocError>
-    ensures { IfOk result (λ listed. contents listed ≡ headers_listed (paged_lines text.entry) chosen) }
+    ensures { IfOk result (λ listed. contents listed ≡ headers_listed (paged_sections text.entry) chosen) }
 {
-    let whole = text_of(alloc, text)?;
-    let mut lines = header_items(alloc, whole, chosen)?;
+    let page = text.page(alloc)?;
+    let mut lines = header_items(alloc, page, chosen)?;
     if lines.is_empty() {
         lines.push(raw_line(alloc, CompositeStyle::Paragraph, NO_HEADERS)?)?;
         return Ok(Text { lines });
@@ -40,65 +39,34 @@ pub fn contents_text<'s>(
     Ok(Text { lines })
 }
 
-/// The lines of a text that is paged.
-///
-/// # Errors
-///
-/// Out of memory is the only error.
-pub fn text_of<'s>(alloc: Global, text: PagedText<'s>) -> Result<Text<'s>, AllocError>
-    ensures { IfOk result (λ whole. contents whole ≡ paged_lines text.entry) }
-{
-    match text {
-        PagedText::Lines(source) => {
-            let whole = read_lines(alloc, source)?;
-            Ok(whole)
-        }
-        PagedText::Markdown(markdown) => {
-            let whole = markdown.text(alloc)?;
-            Ok(whole)
-        }
-    }
-}
-
-// The lines of a text that stand for themselves.
-fn read_lines<'s>(alloc: Global, source: &'s str) -> Result<Text<'s>, AllocError>
-    ensures { IfOk result (λ whole. contents whole ≡ lines_of (unread_text false source.now)) }
-{
-    let mut cursor = LineCursor::new(source, ParseOptions::default());
-    let mut lines = Vec::new(alloc);
-    'lines: while let Some(line) = cursor.next_line(alloc)? {
-        lines.push(line)?;
-    }
-    Ok(Text { lines })
-}
-
-// An item for each header of a text.
+// An item for each header of a page.
 #[tactic(auto, using(crate::proofs::SourceLemmas::item_more, crate::proofs::SourceLemmas::items_all))]
 fn header_items<'s>(
     alloc: Global,
-    text: Text<'s>,
+    page: Page<'s>,
     chosen: usize,
 ) -> Result<Vec<Line<'s>>, AllocError>
-    ensures { IfOk result (λ lines. map content_of lines.items ≡ items_by (header_said chosen) 0 (contents text.entry)) }
+    ensures { IfOk result (λ lines. map content_of lines.items ≡ items_by (header_said chosen) 0 (page_content page.entry)) }
 {
     let mut lines = Vec::new(alloc);
-    let left = text.lines.into_iter();
-    for line in left {
-        push_header(&mut lines, line, chosen)?;
+    let left = page.sections.into_iter();
+    for section in left {
+        push_header(&mut lines, section, chosen)?;
     }
     Ok(lines)
 }
 
-// Puts a line after others as an item, if it is a header.
+// Puts the first line of a section after others as an item, if it is a header.
 fn push_header<'s>(
     lines: &mut Vec<Line<'s>>,
-    line: Line<'s>,
+    section: Section<'s>,
     chosen: usize,
 ) -> Result<(), AllocError>
-    ensures { OnOk result (map content_of lines.new.items ≡ map content_of lines.old.items ++ header_said chosen (length lines.old.items) (content_of line.entry)) }
+    ensures { OnOk result (map content_of lines.new.items ≡ map content_of lines.old.items ++ header_said chosen (length lines.old.items) (section_content section.entry)) }
 {
-    match line {
-        Line::Normal(composite) => push_heading(lines, composite, chosen),
+    let mut left = section.text.lines.into_iter();
+    match left.next() {
+        Some(Line::Normal(composite)) => push_heading(lines, composite, chosen),
         _ => Ok(()),
     }
 }
@@ -109,7 +77,7 @@ fn push_heading<'s>(
     composite: Composite<'s>,
     chosen: usize,
 ) -> Result<(), AllocError>
-    ensures { OnOk result (map content_of lines.new.items ≡ map content_of lines.old.items ++ header_said chosen (length lines.old.items) (normal (styled_runs composite.entry))) }
+    ensures { OnOk result (map content_of lines.new.items ≡ map content_of lines.old.items ++ header_item (length lines.old.items == chosen) (header_of (normal (styled_runs composite.entry)))) }
 {
     match composite.style {
         CompositeStyle::Header(level) => {

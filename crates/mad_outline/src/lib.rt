@@ -2,15 +2,15 @@
 //!
 //! 1. [`sources`]: what is shown, a text or such a page, laid out.
 //! 2. [`links`], [`contents`]: the lines of such a page.
-//! 3. [`parts`]: which lines of a text are in which of its parts.
+//! 3. [`numbers`]: the numbers of sections.
 #![tactic(auto)]
 
 mod contents;
 mod links;
-mod parts;
+mod numbers;
 mod sources;
 
-pub use contents::{CONTENTS_NAME, NO_HEADERS, text_of};
+pub use contents::{CONTENTS_NAME, NO_HEADERS};
 pub use links::{LINKS_NAME, NEVER_LINKS, NO_LINKS};
-pub use parts::{lines_before, part_at, part_numbers, start_at};
+pub use numbers::{count_below, header_numbers, section_at, start_at};
 pub use sources::Source;

@@ -2,8 +2,8 @@
 
 ghost use Rattle.std.specs.Prelude.{◌≡◌, ◌++◌, ◌+◌, ◌-◌, ◌^◌, min, length, IfOk, OnOk, map};
 ghost use Rattle.mad_md.specs.Lines.{content_of, contents};
-ghost use Rattle.mad_outline.specs.Sources.{items_by, link_said, links_listed, number_after};
-ghost use Rattle.markdown_reader.specs.MarkdownSays.{link_of};
+ghost use Rattle.mad_outline.specs.Sources.{items_by, link_listed, links_listed, number_after};
+ghost use Rattle.markdown_reader.specs.MarkdownSays.{link_said};
 
 use crate::sources::raw_line;
 use mad_md::{CompositeStyle, Line, Text};
@@ -19,7 +19,7 @@ pub const NO_LINKS: &str = "No link is on the screen.";
 /// What it says of a text whose lines stand for themselves.
 pub const NEVER_LINKS: &str = "With --lines there are no links.";
 
-/// The addresses of the links that lines from one index on up to another have, as a text: an item for each, with its number.
+/// The addresses of the links that sections from one index on up to another have, as a text: an item for each, with its number.
 ///
 /// # Errors
 ///
@@ -30,7 +30,7 @@ pub fn links_text<'s>(
     from: usize,
     to: usize,
 ) -> Result<Text<'s>, AllocError>
-    ensures { IfOk result (λ text. contents text ≡ links_listed (record { links = map link_of links.now; from = from; to = to })) }
+    ensures { IfOk result (λ text. contents text ≡ links_listed (record { links = map link_said links.now; from = from; to = to })) }
 {
     let mut lines = link_items(alloc, links, from, to)?;
     if lines.is_empty() {
@@ -40,7 +40,7 @@ pub fn links_text<'s>(
     Ok(Text { lines })
 }
 
-// An item for each of these links that a line from one on up to another has.
+// An item for each of these links that a section from one on up to another has.
 #[tactic(auto, using(crate::proofs::SourceLemmas::item_more, crate::proofs::SourceLemmas::items_all))]
 fn link_items<'s>(
     alloc: Global,
@@ -48,7 +48,7 @@ fn link_items<'s>(
     from: usize,
     to: usize,
 ) -> Result<Vec<Line<'s>>, AllocError>
-    ensures { IfOk result (λ lines. map content_of lines.items ≡ items_by (link_said from to) 0 (map link_of links.now)) }
+    ensures { IfOk result (λ lines. map content_of lines.items ≡ items_by (link_listed from to) 0 (map link_said links.now)) }
 {
     let mut lines = Vec::new(alloc);
     let mut left = links;
@@ -59,7 +59,7 @@ fn link_items<'s>(
     Ok(lines)
 }
 
-// Puts the address of a link after others, if its line is one of these.
+// Puts the address of a link after others, if its section is one of these.
 fn push_link<'s>(
     alloc: Global,
     lines: &mut Vec<Line<'s>>,
@@ -67,9 +67,9 @@ fn push_link<'s>(
     from: usize,
     to: usize,
 ) -> Result<(), AllocError>
-    ensures { OnOk result (map content_of lines.new.items ≡ map content_of lines.old.items ++ link_said from to (length lines.old.items) (link_of link.now)) }
+    ensures { OnOk result (map content_of lines.new.items ≡ map content_of lines.old.items ++ link_listed from to (length lines.old.items) (link_said link.now)) }
 {
-    if from <= link.line && link.line < to {
+    if from <= link.section && link.section < to {
         let style = CompositeStyle::OrderedListItem {
             level: 0,
             index: number_after(lines.len()),

@@ -1,18 +1,18 @@
 //! What a session shows, and how it is laid out.
 
-ghost use Rattle.std.specs.Prelude.{◌≡◌, [], ◌∷◌, IfOk, Some, length};
-ghost use Rattle.mad_blocks.specs.Layouts.{IsLayoutAt};
-ghost use Rattle.mad_blocks.specs.PartCursors.{lines_left};
-ghost use Rattle.mad_md.specs.Lines.{content_of, contents};
-ghost use Rattle.mad_outline.specs.Sources.{raw_line, source_lines};
-ghost use Rattle.mad_search.specs.KeptRows.{ArePartStarts};
+ghost use Rattle.std.specs.Prelude.{◌≡◌, IfOk, Some};
+ghost use Rattle.mad_md.specs.Lines.{content_of};
+ghost use Rattle.mad_pages.specs.PagedPages.{IsPagedAt};
+ghost use Rattle.mad_sections.specs.Sections.{page_content};
+ghost use Rattle.mad_outline.specs.Sources.{raw_line, source_page};
 
 use crate::contents::contents_text;
 use crate::links::links_text;
-use mad_blocks::PartCursor;
-use mad_format::{FmtLine, LineSkin};
+use mad_format::LineSkin;
 use mad_md::{Composite, CompositeStyle, Compound, Line};
-use mad_search::{Layout, PagedText};
+use mad_pages::{PagedPage, lay_beside};
+use mad_search::{PagedText, plain_page};
+use mad_sections::Page;
 use markdown_reader::Markdown;
 use std::alloc::{AllocError, Global};
 
@@ -21,34 +21,36 @@ use std::alloc::{AllocError, Global};
 pub enum Source<'s> {
     /// A text.
     Text(PagedText<'s>),
-    /// The addresses of the links that a text's lines have, from the line of one index on, up to that of another.
+    /// The addresses of the links that a text's sections have, from the one of one index on, up to that of another.
     Links(&'s Markdown, usize, usize),
     /// The headers of a text. The one of this index, from 0, is chosen.
     Contents(PagedText<'s>, usize),
 }
 
 impl<'s> Source<'s> {
-    // A cursor before the first part of what is shown.
-    fn parts(self, alloc: Global) -> Result<PartCursor<'s>, AllocError>
-        ensures { IfOk result (λ parts. lines_left parts ≡ source_lines self.entry) }
+    // The sections of what is shown.
+    fn page(self, alloc: Global) -> Result<Page<'s>, AllocError>
+        ensures { IfOk result (λ page. page_content page ≡ source_page self.entry) }
     {
         match self {
             Source::Text(text) => {
-                let parts = text.parts(alloc)?;
-                Ok(parts)
+                let page = text.page(alloc)?;
+                Ok(page)
             }
             Source::Links(markdown, from, to) => {
                 let text = links_text(alloc, markdown.links(), from, to)?;
-                Ok(PartCursor::of_text(text))
+                let page = plain_page(alloc, text)?;
+                Ok(page)
             }
             Source::Contents(text, chosen) => {
                 let text = contents_text(alloc, text, chosen)?;
-                Ok(PartCursor::of_text(text))
+                let page = plain_page(alloc, text)?;
+                Ok(page)
             }
         }
     }
 
-    /// What is shown, laid out at a width, in columns.
+    /// What is shown, laid out at a width, in columns. Boxes of tasks are of ASCII characters, or not.
     ///
     /// # Errors
     ///
@@ -58,48 +60,14 @@ impl<'s> Source<'s> {
         alloc: Global,
         skin: &S,
         width: usize,
-    ) -> Result<Layout<'s>, AllocError>
-        ensures lines { IfOk result (λ laid. IsLayoutAt (S.rules skin.now) (Some width) (source_lines self.entry) laid.lines.items) }
-        ensures starts { IfOk result (λ laid. ArePartStarts (S.rules skin.now) width (source_lines self.entry) laid.starts.items) }
+        ascii: bool,
+    ) -> Result<PagedPage<'s>, AllocError>
+        ensures { IfOk result (λ laid. IsPagedAt (S.rules skin.now) ascii (Some width) (source_page self.entry) laid) }
     {
-        let mut parts = self.parts(alloc)?;
-        let laid = lay_parts(alloc, skin, &mut parts, width)?;
+        let page = self.page(alloc)?;
+        let laid = lay_beside(alloc, skin, page, Some(width), ascii)?;
         Ok(laid)
     }
-}
-
-// All parts that are left, laid out.
-fn lay_parts<'s, S: LineSkin>(
-    alloc: Global,
-    skin: &S,
-    parts: &mut PartCursor<'s>,
-    width: usize,
-) -> Result<Layout<'s>, AllocError>
-    ensures lines { IfOk result (λ laid. IsLayoutAt (S.rules skin.now) (Some width) (lines_left parts.old) laid.lines.items) }
-    ensures starts { IfOk result (λ laid. ArePartStarts (S.rules skin.now) width (lines_left parts.old) laid.starts.items) }
-{
-    let mut lines = Vec::new(alloc);
-    let mut starts = first_start(alloc)?;
-    'parts: while parts.lay_next(alloc, &mut lines, Some(width), skin)? {
-        starts.push(count_of(&lines))?;
-    }
-    Ok(Layout { lines, starts })
-}
-
-// The start of the first part alone.
-fn first_start(alloc: Global) -> Result<Vec<usize>, AllocError>
-    ensures { IfOk result (λ starts. starts.items ≡ 0 ∷ []) }
-{
-    let mut starts = Vec::new(alloc);
-    starts.push(0)?;
-    Ok(starts)
-}
-
-// How many lines there are.
-fn count_of(lines: &Vec<FmtLine>) -> usize
-    ensures { result ≡ length lines.now.items }
-{
-    lines.len()
 }
 
 /// A line of this kind that has a text without flags.

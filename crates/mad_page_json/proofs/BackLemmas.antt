@@ -2,7 +2,9 @@
 use Rattle.std.proofs.Common.{◌≡◌, ℕ, ◌<◌, Bool, true, false, ◌&&◌, List, [], ◌∷◌, ◌++◌, map, Option, Some, None, Ok, refl, ap, sym, ◌∙◌, subst, arith, append-nil, append_assoc}
 use Rattle.std.specs.Prelude.{codes, if◌then◌else◌, nat_lt, not, Err, Result}
 use Rattle.std.specs.List.{All, AllByRecursion}
-use Rattle.std.specs.Ordering.{Ordering, Less, Equal, Greater, is_eq, match_ordering, nat_cmp}
+use Rattle.std.specs.declared.cmp.Ordering.{Ordering}
+use Rattle.std.specs.declared.cmp.Ordering.TheVariants.{Less, Equal, Greater}
+use Rattle.std.specs.Ordering.{is_eq, match_ordering, nat_cmp}
 use Rattle.std.specs.Cmp.{Equal-is}
 use Rattle.std.specs.Cmp.Lexicographic.{slice_cmp}
 use Rattle.std.specs.Str.{bytes_eq}
@@ -72,8 +74,8 @@ get_other k l d (member m e ms) h =
     elim (slice_cmp nat_cmp l m) as (λ o. slice_cmp nat_cmp l m ≡ o → get_member k (match_ordering o (member l d (member m e ms)) (member m d ms) (member m e (put l d ms))) ≡ get_member k (member m e ms)) [
       | Less ↦ λ is. passed (slice_cmp nat_cmp k l) (get_member k (member m e ms)) (Some d) (is_eq-slice_cmp k l ∙ h)
       | Equal ↦ λ is.
-        let apart : is_eq (slice_cmp nat_cmp k m) ≡ false = subst (λ (n : List ℕ). is_eq (slice_cmp nat_cmp k n) ≡ false) (exact_bytes l m is) (is_eq-slice_cmp k l ∙ h) in
-        passed (slice_cmp nat_cmp k m) (get_member k ms) (Some d) apart ∙ sym (passed (slice_cmp nat_cmp k m) (get_member k ms) (Some e) apart)
+          let apart : is_eq (slice_cmp nat_cmp k m) ≡ false = subst (λ (n : List ℕ). is_eq (slice_cmp nat_cmp k n) ≡ false) (exact_bytes l m is) (is_eq-slice_cmp k l ∙ h) in
+          passed (slice_cmp nat_cmp k m) (get_member k ms) (Some d) apart ∙ sym (passed (slice_cmp nat_cmp k m) (get_member k ms) (Some e) apart)
       | Greater ↦ λ is. ap (λ (found : Option Data). match_ordering (slice_cmp nat_cmp k m) found (Some e) found) (get_other k l d ms h)
     ] refl
 

@@ -1,12 +1,20 @@
 -- What members of an object say.
-use Rattle.std.specs.Prelude.{ℕ, nat_lt, Bool, List, [], ◌∷◌, ◌++◌, Option, Some, None, option_and_then, Result, Ok, Err, codes, if◌then◌else◌}
+use Rattle.std.specs.Prelude.{◌≡◌, ℕ, ⊥, nat_lt, Bool, List, [], ◌∷◌, ◌++◌, Option, Some, None, option_and_then, Result, Ok, Err, codes, string_bytes, if◌then◌else◌}
 use Rattle.std.specs.Result.{result_map_both}
 use Rattle.serde_json.specs.Data.{Data}
 use Rattle.serde_json.specs.Find.{as_bool, as_number, as_u64, get}
 use Rattle.mad_parse.specs.declared.tokens.StyleToken.{StyleToken}
 use Rattle.mad_dressing.specs.declared.heading_marks.HeadingMarks.{HeadingMarks}
 use Rattle.mad_json.specs.Faults.{SkinFault, ValueFault, at_key, wrong_kind}
+use Rattle.mad_json.specs.declared.errors.SkinError.{SkinError}
+use Rattle.mad_json.specs.declared.errors.SkinError.TheVariants.{WrongType, Memory}
 use Rattle.mad_json.specs.Texts.{and_next, value_said}
+
+-- an error that a member of this key is of another kind than its part, or out of memory
+abbrev pub IsWrongType : List ℕ → SkinError → Type 0
+IsWrongType key (WrongType k) = string_bytes k ≡ key
+IsWrongType key Memory = Unit {0}
+IsWrongType key _ = ⊥
 
 -- what is read, or the fault of the member of this key
 abbrev pub at_fault : {A : Type 0} → List ℕ → Result A ValueFault → Result A SkinFault

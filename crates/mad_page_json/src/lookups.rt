@@ -1,9 +1,9 @@
 //! What members of an object say.
 
-ghost use Rattle.std.specs.Prelude.{◌≡◌, [], Result, Ok, Err, IfOk, IfErr, map, option_map};
+ghost use Rattle.std.specs.Prelude.{◌≡◌, ◌++◌, ◌∷◌, OnOk, [], Result, Ok, IfOk, IfErr, map, option_map};
 ghost use Rattle.serde_json.specs.View.{view};
-ghost use Rattle.mad_json.specs.Faults.{SkinFault, TellsSkin, TellsValue, ValueFault, at_key, wrong_kind};
-ghost use Rattle.mad_page_json.specs.Lookups.{at_fault, headings_under, part_under, parts_under, rules_found, signs_found};
+ghost use Rattle.mad_json.specs.Faults.{TellsSkin, TellsValue, ValueFault};
+ghost use Rattle.mad_page_json.specs.Lookups.{IsWrongType, at_fault, headings_under, part_under, parts_under, rule_count, rules_found, sign_choice, signs_found};
 ghost use Rattle.mad_page_json.specs.Named.{named_said};
 
 use crate::named::Named;
@@ -12,7 +12,7 @@ use mad_json::SkinError;
 use mad_json::errors::ValueError;
 use mad_json::texts::{FromTokens, read_style};
 use serde_json::Value;
-use std::alloc::Global;
+use std::alloc::{AllocError, Global};
 
 /// The parts that an object says, in order: each as the member of its key says it, or as it was where there is none.
 ///
@@ -29,16 +29,24 @@ pub fn read_parts<S: FromTokens>(
 {
     let mut read = Vec::new(alloc);
     for named in parts {
-        let part = read_part(alloc, value, *named)?;
-        read.push(part)?;
+        let part = read_part(alloc, value, named)?;
+        push_part(&mut read, part)?;
     }
     Ok(read)
 }
 
+// Puts a part after those that are there.
+fn push_part<S: Copy>(read: &mut Vec<S>, part: S) -> Result<(), AllocError>
+    ensures { OnOk result (read.new.items ≡ read.old.items ++ part ∷ []) }
+{
+    read.push(part)?;
+    Ok(())
+}
+
 // A part as the member of its key says it, or as it was.
-fn read_part<S: FromTokens>(alloc: Global, value: &Value, named: Named<S>) -> Result<S, SkinError>
-    ensures ok { IfOk result (λ part. part_under S.of_tokens (view value.now) (named_said named) ≡ Ok part) }
-    ensures err { IfErr result (λ e. TellsSkin e (part_under S.of_tokens (view value.now) (named_said named))) }
+fn read_part<S: FromTokens>(alloc: Global, value: &Value, named: &Named<S>) -> Result<S, SkinError>
+    ensures ok { IfOk result (λ part. part_under S.of_tokens (view value.now) (named_said named.now) ≡ Ok part) }
+    ensures err { IfErr result (λ e. TellsSkin e (part_under S.of_tokens (view value.now) (named_said named.now))) }
 {
     let Some(found) = value.get(named.key) else {
         return Ok(named.part);
@@ -83,35 +91,55 @@ pub fn read_headings(
 
 // How many levels of headings have rules.
 fn rules_of(alloc: Global, found: Option<&Value>, old: u8) -> Result<u8, SkinError>
-    ensures ok { IfOk result (λ rules. rules_found (option_map (λ value. view value.now) found) old ≡ Ok rules) }
-    ensures err { IfErr result (λ e. TellsSkin e (rules_found (option_map (λ value. view value.now) found) old)) }
+    ensures ok { IfOk result (λ rules. rules_found (option_map (λ value. view value.now) found.entry) old ≡ Ok rules) }
+    ensures err { IfErr result (λ e. TellsSkin e (rules_found (option_map (λ value. view value.now) found.entry) old)) }
 {
-    let Some(value) = found else {
-        return Ok(old);
+    match found {
+        Some(value) => rule_count(alloc, value.as_u64()),
+        None => Ok(old),
+    }
+}
+
+// A count of levels that a number says.
+fn rule_count(alloc: Global, count: Option<u64>) -> Result<u8, SkinError>
+    ensures ok { IfOk result (λ rules. rule_count count ≡ Ok rules) }
+    ensures err { IfErr result (λ e. TellsSkin e (rule_count count)) }
+{
+    let Some(count) = count else {
+        return Err(wrong_type(alloc, "rules"));
     };
-    match value.as_u64() {
-        Some(count) if count < 256 => Ok(count as u8),
-        _ => Err(wrong_type(alloc, "rules")),
+    if count < 256 {
+        Ok(count as u8)
+    } else {
+        Err(wrong_type(alloc, "rules"))
     }
 }
 
 // Whether other headings have signs.
 fn signs_of(alloc: Global, found: Option<&Value>, old: bool) -> Result<bool, SkinError>
-    ensures ok { IfOk result (λ signs. signs_found (option_map (λ value. view value.now) found) old ≡ Ok signs) }
-    ensures err { IfErr result (λ e. TellsSkin e (signs_found (option_map (λ value. view value.now) found) old)) }
+    ensures ok { IfOk result (λ signs. signs_found (option_map (λ value. view value.now) found.entry) old ≡ Ok signs) }
+    ensures err { IfErr result (λ e. TellsSkin e (signs_found (option_map (λ value. view value.now) found.entry) old)) }
 {
-    let Some(value) = found else {
-        return Ok(old);
-    };
-    match value.as_bool() {
-        Some(signs) => Ok(signs),
-        None => Err(wrong_type(alloc, "signs")),
+    match found {
+        Some(value) => sign_choice(alloc, value.as_bool()),
+        None => Ok(old),
     }
+}
+
+// True or false, if a value says it.
+fn sign_choice(alloc: Global, choice: Option<bool>) -> Result<bool, SkinError>
+    ensures ok { IfOk result (λ signs. sign_choice choice ≡ Ok signs) }
+    ensures err { IfErr result (λ e. TellsSkin e (sign_choice choice)) }
+{
+    let Some(signs) = choice else {
+        return Err(wrong_type(alloc, "signs"));
+    };
+    Ok(signs)
 }
 
 /// The error of a member of another kind than its part.
 pub(crate) fn wrong_type(alloc: Global, key: &str) -> SkinError
-    ensures { (read : Result SkinError SkinFault) → read ≡ Err (at_key key.now wrong_kind) → TellsSkin result read }
+    ensures { IsWrongType key.now result }
 {
     match String::from_str(alloc, key) {
         Ok(key) => SkinError::WrongType { key },

@@ -74,7 +74,7 @@ fn page_of(
 
 // Keys but that of the page.
 fn without_page(alloc: Global, keys: Vec<String>) -> Result<Vec<String>, AllocError>
-    ensures { IfOk result (λ left. map string_bytes left.items ≡ others (map string_bytes keys.entry.items)) }
+    ensures { IfOk result (λ left. map string_bytes left.items ≡ others (map string_bytes keys.items)) }
 {
     let mut left = Vec::new(alloc);
     for key in keys {

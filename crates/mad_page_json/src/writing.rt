@@ -62,8 +62,16 @@ fn put_parts<P: PushStyleTokens>(
     ensures reads_back { OnOk result (All (λ named. P.reads_back named.part (tokens_text (P.tokens_of_value named.part))) parts.now) }
 {
     for named in parts {
-        let text = named.part.to_style_tokens_string(alloc)?;
-        put(members, alloc, named.key, Value::String(text))?;
+        let value = value_of(alloc, &named.part)?;
+        put(members, alloc, named.key, value)?;
     }
     Ok(())
+}
+
+// The text that a part is written as.
+fn value_of<P: PushStyleTokens>(alloc: Global, part: &P) -> Result<Value, AllocError>
+    ensures value { IfOk result (λ value. view value ≡ text_data (P.tokens_of_value part.now)) }
+    ensures reads_back { IfOk result (λ _. P.reads_back part.now (tokens_text (P.tokens_of_value part.now))) }
+{
+    Ok(Value::String(part.to_style_tokens_string(alloc)?))
 }

@@ -6,7 +6,6 @@ use Rattle.mad_measure.proofs.AllLemmas.{all_joined, all_front, all_back}
 use Rattle.mad_md.specs.Lines.{LineContent}
 use Rattle.mad_format.specs.declared.line.FmtLine.{FmtLine}
 use Rattle.mad_draw.specs.Pieces.{FillsRow}
-use Rattle.mad_rows.specs.Rows.{line_pieces}
 use Rattle.mad_rows.specs.RowStyles.{line_rules}
 use Rattle.mad_rows.specs.declared.row_skin.RowSkin.{RowSkin}
 use Rattle.mad_blocks.specs.LayoutParts.{wrap_width}
@@ -14,7 +13,7 @@ use Rattle.mad_blocks.specs.Layouts.{IsLayoutAt}
 use Rattle.mad_blocks.specs.FittingLayouts.{IsFittingLayout}
 use Rattle.mad_blocks.specs.TextParts.{lines_in_parts}
 use Rattle.mad_blocks.proofs.WrapKinds.{layout_fitting}
-use Rattle.mad_layout.specs.Drawable.{AreDrawable}
+use Rattle.mad_layout.specs.Drawable.{AreDrawable, IsDrawableLine}
 use Rattle.mad_layout.specs.Premises.{KeepsPremises}
 use Rattle.mad_layout.proofs.DrawableLemmas.{fitting_is_drawable}
 use Rattle.mad_layout.proofs.RunLemmas.{any_columns, any_shown}
@@ -29,7 +28,7 @@ use Rattle.mad_format.specs.Lists.{EachBecomes}
 use Rattle.mad_pages.specs.PageLayouts.{IsSectionAt}
 use Rattle.mad_pages.specs.PageRows.{RowContent, behind, rest_behind}
 use Rattle.mad_page_rows.specs.FaceLaws.{AreFacesShown, IsTypedGutter}
-use Rattle.mad_page_rows.specs.Faces.{has_ascii_boxes, line_skin}
+use Rattle.mad_page_rows.specs.Faces.{has_ascii_boxes, line_skin, page_row_pieces}
 use Rattle.mad_page_rows.proofs.FillLemmas.{rows_fill}
 use Rattle.mad_page_rows.proofs.BoxedLines.{drawable_behind}
 use Rattle.mad_page_rows.specs.PageFits.{KeepsRoom, AllFill, sections_at, SectionsFill, PagesFill}
@@ -44,52 +43,74 @@ typed_shown ascii width gs h =
     let last = shown_are_last ascii width gs in
     all_back IsTypedGutter last.hidden (shown_at ascii width gs) (subst (AllByRecursion IsTypedGutter) last.ends h)
 
-drawable_fill : (skin : RowSkin) (room : ℕ) (lines : List FmtLine) → AreDrawable skin room lines → AllByRecursion (λ (l : FmtLine). FillsRow room (line_pieces skin (Some room) true l)) lines
-drawable_fill skin room [] h = tt
-drawable_fill skin room (l ∷ lines) h = (record { shown = any_shown skin room l h.0; columns = any_columns skin room l h.0 }, drawable_fill skin room lines h.1)
+-- a row whose line is drawn exactly in the columns that its gutters leave, which are as their type promises
+pub record IsDrawableBehind (skin : RowSkin) (drawn : ℕ) (row : RowContent) : Type 0 where
+  pub typed : AllByRecursion IsTypedGutter row.gutters
+  pub fits : columns_of (has_ascii_boxes skin) row.gutters ≤ drawn
+  pub line : IsDrawableLine (line_skin skin row.gutters) (drawn - columns_of (has_ascii_boxes skin) row.gutters) row.line
 
-layout_fills : (skin : RowSkin) (gutters : List Gutter) (room : ℕ) (text : List LineContent) (lines : List FmtLine) → AreFacesShown skin → 3 ≤ room → room < 2 ^ 64 - 1 → KeepsPremises skin room (lines_in_parts text) → IsLayoutAt (line_rules skin) (Some room) text lines
-    → AllByRecursion (λ (l : FmtLine). FillsRow room (line_pieces (line_skin skin gutters) (Some room) true l)) lines
-layout_fills skin gutters room text lines faces three bound keeps layout =
+-- such rows
+abbrev pub AreDrawableBehind : RowSkin → ℕ → List RowContent → Type 0
+AreDrawableBehind skin drawn rows = AllByRecursion (IsDrawableBehind skin drawn) rows
+
+-- such a row fills the columns in which it is drawn
+pub row_fills : (skin : RowSkin) (drawn : ℕ) (row : RowContent) → AreFacesShown skin → IsDrawableBehind skin drawn row → FillsRow drawn (page_row_pieces skin (Some drawn) true row)
+row_fills skin drawn row faces h =
+    let inner : RowSkin = line_skin skin row.gutters in
+    let rest : ℕ = drawn - columns_of (has_ascii_boxes skin) row.gutters in
+    rows_fill skin drawn row faces h.typed h.fits (record { shown = any_shown inner rest row.line h.line; columns = any_columns inner rest row.line h.line })
+
+all_fill : (skin : RowSkin) (drawn : ℕ) (rows : List RowContent) → AreFacesShown skin → AreDrawableBehind skin drawn rows → AllFill skin drawn rows
+all_fill skin drawn [] faces h = tt
+all_fill skin drawn (row ∷ rows) faces h = (row_fills skin drawn row faces h.0, all_fill skin drawn rows faces h.1)
+
+layout_drawable : (skin : RowSkin) (gutters : List Gutter) (room drawn : ℕ) (text : List LineContent) (lines : List FmtLine) → AreFacesShown skin → 3 ≤ room → room ≤ drawn → drawn < 2 ^ 64 - 1 → KeepsPremises skin room (lines_in_parts text)
+    → IsLayoutAt (line_rules skin) (Some room) text lines → AreDrawable (line_skin skin gutters) drawn lines
+layout_drawable skin gutters room drawn text lines faces three wider bound keeps layout =
     let n : ℕ = length lines in
     let fitting : IsFittingLayout (line_rules skin) room text lines = layout_fitting (line_rules skin) (Some room) text lines layout three in
     let sound : AreSoundLines skin room (take n (lines_in_parts text)) = laid_sound skin room (wrap_width (Some room)) room n text lines layout (all_taken _ n (lines_in_parts text) keeps) in
-    let first : AreDrawable skin room (take n lines) = fitting_is_drawable skin room room n text lines (omega arith) bound sound fitting in
-    drawable_fill (line_skin skin gutters) room lines (drawable_behind skin gutters room lines faces (subst (AreDrawable skin room) (take-length lines) first))
+    let first : AreDrawable skin drawn (take n lines) = fitting_is_drawable skin room drawn n text lines wider bound sound fitting in
+    drawable_behind skin gutters drawn lines faces (subst (AreDrawable skin drawn) (take-length lines) first)
 
--- rows behind gutters fill a width, where their lines fill what these leave
-rest_fill : (skin : RowSkin) (width : ℕ) (gs : List Gutter) (lines : List FmtLine) → AreFacesShown skin → AllByRecursion IsTypedGutter gs → columns_of (has_ascii_boxes skin) gs ≤ width
-    → AllByRecursion (λ (l : FmtLine). FillsRow (width - columns_of (has_ascii_boxes skin) gs) (line_pieces (line_skin skin gs) (Some (width - columns_of (has_ascii_boxes skin) gs)) true l)) lines → AllFill skin width (rest_behind gs lines)
-rest_fill skin width gs [] faces typed fits h = tt
-rest_fill skin width gs (l ∷ lines) faces typed fits h = (rows_fill skin width (record { gutters = gs; fresh = 0; line = l }) faces typed fits h.0, rest_fill skin width gs lines faces typed fits h.1)
+-- lines behind gutters
+rest_drawable : (skin : RowSkin) (drawn : ℕ) (gs : List Gutter) (lines : List FmtLine) → AllByRecursion IsTypedGutter gs → columns_of (has_ascii_boxes skin) gs ≤ drawn
+    → AreDrawable (line_skin skin gs) (drawn - columns_of (has_ascii_boxes skin) gs) lines → AreDrawableBehind skin drawn (rest_behind gs lines)
+rest_drawable skin drawn gs [] typed fits h = tt
+rest_drawable skin drawn gs (l ∷ lines) typed fits h = (record { typed = typed; fits = fits; line = h.0 }, rest_drawable skin drawn gs lines typed fits h.1)
 
-behind_fill : (skin : RowSkin) (width : ℕ) (gs : List Gutter) (fresh : ℕ) (lines : List FmtLine) → AreFacesShown skin → AllByRecursion IsTypedGutter gs → columns_of (has_ascii_boxes skin) gs ≤ width
-    → AllByRecursion (λ (l : FmtLine). FillsRow (width - columns_of (has_ascii_boxes skin) gs) (line_pieces (line_skin skin gs) (Some (width - columns_of (has_ascii_boxes skin) gs)) true l)) lines → AllFill skin width (behind gs fresh lines)
-behind_fill skin width gs fresh [] faces typed fits h = tt
-behind_fill skin width gs fresh (l ∷ lines) faces typed fits h = (rows_fill skin width (record { gutters = gs; fresh = fresh; line = l }) faces typed fits h.0, rest_fill skin width gs lines faces typed fits h.1)
+lines_drawable : (skin : RowSkin) (drawn : ℕ) (gs : List Gutter) (fresh : ℕ) (lines : List FmtLine) → AllByRecursion IsTypedGutter gs → columns_of (has_ascii_boxes skin) gs ≤ drawn
+    → AreDrawable (line_skin skin gs) (drawn - columns_of (has_ascii_boxes skin) gs) lines → AreDrawableBehind skin drawn (behind gs fresh lines)
+lines_drawable skin drawn gs fresh [] typed fits h = tt
+lines_drawable skin drawn gs fresh (l ∷ lines) typed fits h = (record { typed = typed; fits = fits; line = h.0 }, rest_drawable skin drawn gs lines typed fits h.1)
 
--- from three columns on each row of a section fills the width
-pub sections_fill : SectionsFill
-sections_fill skin width section rows three bound faces keeps s =
+-- from three columns on each row of a section is drawn exactly, in the columns of its layout and in more
+section_drawable : (skin : RowSkin) (width drawn : ℕ) (section : SectionContent) (rows : List RowContent) → 3 ≤ width → width ≤ drawn → drawn < 2 ^ 64 - 1 → AreFacesShown skin → KeepsRoom skin width section
+    → IsSectionAt (line_rules skin) (has_ascii_boxes skin) (Some width) section rows → AreDrawableBehind skin drawn rows
+section_drawable skin width drawn section rows three wider bound faces keeps s =
     let ascii : Bool = has_ascii_boxes skin in
     let gs : List Gutter = shown_at ascii width section.gutters in
     let whole : columns_of ascii gs + room_at ascii width section.gutters ≡ width = (shown_are_last ascii width section.gutters).whole in
     let some : 3 ≤ room_at ascii width section.gutters = rooms_last ascii width section.gutters three in
-    let lines = layout_fills skin gs (room_at ascii width section.gutters) section.lines s.lines faces some (omega (arith, whole)) keeps.premises s.layout in
-    subst (AllFill skin width) (sym s.rows_are) (behind_fill skin width gs section.fresh s.lines faces (typed_shown ascii width section.gutters keeps.gutters) (omega (arith, whole)) lines)
+    let lines = layout_drawable skin gs (room_at ascii width section.gutters) (drawn - columns_of ascii gs) section.lines s.lines faces some (omega (arith, whole, wider)) (omega (arith, bound)) keeps.premises s.layout in
+    subst (AreDrawableBehind skin drawn) (sym s.rows_are) (lines_drawable skin drawn gs section.fresh s.lines (typed_shown ascii width section.gutters keeps.gutters) (omega (arith, whole, wider)) lines)
 
--- the rows of sections, one after the other
-shown_fill : (skin : RowSkin) (width : ℕ) (sections : List SectionContent) (rows : List RowContent) → 3 ≤ width → width < 2 ^ 64 - 1 → AreFacesShown skin → AllByRecursion (KeepsRoom skin width) sections
-    → EachBecomes (IsSectionAt (line_rules skin) (has_ascii_boxes skin) (Some width)) sections rows → AllFill skin width rows
-shown_fill skin width [] rows three bound faces keeps h = subst (AllFill skin width) (sym h) tt
-shown_fill skin width (section ∷ sections) rows three bound faces keeps (own, others, joins, here, more) =
-    subst (AllFill skin width) (sym joins) (all_joined _ own others (sections_fill skin width section own three bound faces keeps.0 here) (shown_fill skin width sections others three bound faces keeps.1 more))
+-- so is each row of sections, one after the other
+pub shown_drawable : (skin : RowSkin) (width drawn : ℕ) (sections : List SectionContent) (rows : List RowContent) → 3 ≤ width → width ≤ drawn → drawn < 2 ^ 64 - 1 → AreFacesShown skin → AllByRecursion (KeepsRoom skin width) sections
+    → EachBecomes (IsSectionAt (line_rules skin) (has_ascii_boxes skin) (Some width)) sections rows → AreDrawableBehind skin drawn rows
+shown_drawable skin width drawn [] rows three wider bound faces keeps h = subst (AreDrawableBehind skin drawn) (sym h) tt
+shown_drawable skin width drawn (section ∷ sections) rows three wider bound faces keeps (own, others, joins, here, more) =
+    subst (AreDrawableBehind skin drawn) (sym joins) (all_joined _ own others (section_drawable skin width drawn section own three wider bound faces keeps.0 here) (shown_drawable skin width drawn sections others three wider bound faces keeps.1 more))
+
+-- from three columns on each row of a section fills the width
+pub sections_fill : SectionsFill
+sections_fill skin width section rows three bound faces keeps s = all_fill skin width rows faces (section_drawable skin width width section rows three (omega arith) bound faces keeps s)
 
 -- so does each row of a page
 pub pages_fill : PagesFill
 pages_fill skin width [] rows three bound faces keeps h = subst (AllFill skin width) (sym h) tt
 pages_fill skin width (section ∷ page) rows three bound faces keeps (own, others, joins, becomes, more) =
     let one : List SectionContent = unfolded (line_rules skin).whole_words (has_ascii_boxes skin) (Some width) section in
-    let here : AllFill skin width own = shown_fill skin width one own three bound faces (all_front (KeepsRoom skin width) one (sections_at skin width page) keeps) becomes in
+    let here : AllFill skin width own = all_fill skin width own faces (shown_drawable skin width width one own three (omega arith) bound faces (all_front (KeepsRoom skin width) one (sections_at skin width page) keeps) becomes) in
     let rest : AllByRecursion (KeepsRoom skin width) (sections_at skin width page) = all_back (KeepsRoom skin width) one (sections_at skin width page) keeps in
     subst (AllFill skin width) (sym joins) (all_joined _ own others here (pages_fill skin width page others three bound faces rest more))

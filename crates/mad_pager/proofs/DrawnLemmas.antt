@@ -13,8 +13,6 @@ use Rattle.mad_hits.proofs.TookLemmas.{known, took_so}
 use Rattle.mad_term.proofs.Traces.{took_both, cut_in_first, cut_in_second, flush_failed}
 use Rattle.mad_measure.specs.Areas.{IsWithinLimits}
 use Rattle.mad_measure.specs.declared.area.Area.{Area}
-use Rattle.mad_draw.specs.BarsApart.{AreShownBeside}
-use Rattle.mad_draw.specs.BesideBar.{columns_beside}
 use Rattle.mad_characters.specs.Columns.{char_columns}
 use Rattle.mad_measure.proofs.AllLemmas.{all_each}
 use Rattle.mad_edit_lines.specs.TextLines.{is_newline}
@@ -28,36 +26,23 @@ use Rattle.mad_style.specs.StyledChars.{styled_char}
 use Rattle.mad_draw.specs.Panes.{Pane, AreApart, ArePanesShown}
 use Rattle.mad_draw.specs.declared.scroll_bars.ScrollBar.{ScrollBar}
 use Rattle.mad_draw.proofs.PaneLemmas.{panes_shown}
-use Rattle.mad_blocks.proofs.WrapKinds.{layout_fits, wrapped_at}
 use Rattle.mad_layout.specs.RowSkins.{row_skin}
-use Rattle.mad_layout.specs.ShownBeside.{ShowsLayoutBeside}
 use Rattle.mad_layout.specs.ShownLayouts.{ShowsDrawable}
 use Rattle.mad_format.specs.declared.line.FmtLine.{FmtLine}
 use Rattle.mad_layout.specs.Drawable.{AreDrawable}
 use Rattle.mad_layout.specs.Shown.{area_row}
 use Rattle.mad_layout.specs.declared.skin.MadSkin.{MadSkin}
-use Rattle.mad_rows.specs.RowStyles.{line_rules}
 use Rattle.mad_rows.specs.declared.row_skin.RowSkin.{RowSkin}
-use Rattle.mad_hits.specs.Parts.{AreRowsMarked}
+use Rattle.mad_hits.specs.FrontHits.{AreRowsMarked}
+use Rattle.mad_hits.specs.Panes.{ArePageRowsDrawn}
+use Rattle.mad_pages.specs.declared.fronts.Front.{Front}
+use Rattle.mad_pager.proofs.PageFills.{text_fills}
 use Rattle.std.proofs.lemmas.Bool.{ltb-false}
 use Rattle.std.proofs.lemmas.Bool.Decides.{nat_tests}
-use Rattle.mad_pager.specs.Screens.{reversed_skin, is_small, area_of, bar_of, paged_skin, text_pane, text_rows, field_pane, prompt_pane, prompt_row, status_pane, status_words, AreHitsDrawn, ArePanesDrawn, IsFieldShown, IsLineIn, IsStatusLine, KeepsTextPremises, AreLinesShown, IsFieldRow, IsLastRow, IsStatus, IsDrawing, IsPicture, IsTypingShown, IsStatusShown, IsFieldInRow, IsShowing, IsShown, IsUnshown, question}
-use Rattle.mad_pager.specs.Sessions.{State, field_row, last_row, prompt_cell, text_area}
+use Rattle.mad_pager.specs.Screens.{reversed_skin, is_small, area_of, bar_of, text_pane, field_pane, prompt_pane, prompt_row, status_pane, status_words, AreHitsDrawn, ArePanesDrawn, IsFieldShown, IsLineIn, IsStatusLine, AreLinesShown, IsFieldRow, IsLastRow, IsStatus, IsDrawing, IsPicture, IsTypingShown, IsStatusShown, IsFieldInRow, IsShowing, IsShown, IsUnshown, question}
+use Rattle.mad_pager.specs.Sessions.{State, paged_skin, field_row, last_row, prompt_cell, text_area}
 
 -- ---- what is shown
-
--- the columns of a layout are drawn, beside a bar too
-pub drawn_wide : (bar : Option ScrollBar) (width : ℕ) → width - 1 ≤ columns_beside bar width
-drawn_wide None width = omega arith
-drawn_wide (Some bar) width = omega arith
-
--- rows that were drawn beside the bar are the text's rows there, where the premises hold
-pub lines_shown : (skin : MadSkin) (s : State) (old new : Trace) → 5 ≤ s.page.columns → ShowsLayoutBeside (paged_skin skin) (bar_of skin s) s.lines (area_of s) s.page.top old new
-    → KeepsTextPremises skin s → TookWith old new (AreShownBeside (bar_of skin s) (text_rows skin s) (area_of s))
-lines_shown skin s old new wide h keeps =
-    let rules = line_rules (paged_skin skin) in
-    let width : ℕ = s.page.columns - 1 in
-    h keeps.text width (drawn_wide (bar_of skin s) s.page.columns) keeps.bar keeps.typed keeps.keeps (layout_fits rules width keeps.text s.lines (wrapped_at rules width keeps.text s.lines (omega arith) keeps.layout))
 
 neither : (a b : Bool) → (a || b) ≡ false → a ≡ false
 neither true b h = absurd (cc)
@@ -216,13 +201,27 @@ unshown_exit skin name asks s old new r e is h =
     subst (λ (t : Result Unit Error). MatchResult t (λ _. IsShown skin name asks s old new) (λ d. IsUnshown skin name asks s old d new)) (sym (p.1 ∙ ap Err p.2)) h
 
 -- the hits of the rows on the screen, along what is equal
-pub hits_along : (skin dress : RowSkin) (width columns height rows top : ℕ) (text sought : List ℕ) (shown lines : List FmtLine) (given starts : List ℕ) (old new : Trace) → dress ≡ skin → width ≡ columns → height ≡ rows → text ≡ sought
-    → shown ≡ lines → given ≡ starts → TookWith old new (AreRowsMarked dress width text shown given 0 (range_with_len top (min height (length shown - top))))
-    → TookWith old new (AreRowsMarked skin columns sought lines starts 0 (range_with_len top (min rows (length lines - top))))
-hits_along skin dress width columns height rows top text sought shown lines given starts old new a b d e f i h =
-    let of : RowSkin → ℕ → ℕ → List ℕ → List FmtLine → List ℕ → Type 0 = λ k n r s ls ts. TookWith old new (AreRowsMarked k n s ls ts 0 (range_with_len top (min r (length ls - top)))) in
-    subst (λ (k : RowSkin). of k columns rows sought lines starts) a
-    (subst (λ (n : ℕ). of dress n rows sought lines starts) b
-    (subst (λ (r : ℕ). of dress width r sought lines starts) d
-    (subst (λ (s : List ℕ). of dress width height s lines starts) e
-    (subst (λ (ls : List FmtLine). of dress width height text ls starts) f (subst (λ (ts : List ℕ). of dress width height text shown ts) i h)))))
+pub hits_along : (skin dress : RowSkin) (width columns height rows top : ℕ) (text sought : List ℕ) (shown lines : List FmtLine) (front fronts : List Front) (given starts : List ℕ) (old new : Trace) → dress ≡ skin → width ≡ columns → height ≡ rows → text ≡ sought
+    → shown ≡ lines → front ≡ fronts → given ≡ starts → TookWith old new (AreRowsMarked dress width text shown front given 0 (range_with_len top (min height (length shown - top))))
+    → TookWith old new (AreRowsMarked skin columns sought lines fronts starts 0 (range_with_len top (min rows (length lines - top))))
+hits_along skin dress width columns height rows top text sought shown lines front fronts given starts old new a b d e f g i h =
+    let of : RowSkin → ℕ → ℕ → List ℕ → List FmtLine → List Front → List ℕ → Type 0 = λ k n r s ls fs ts. TookWith old new (AreRowsMarked k n s ls fs ts 0 (range_with_len top (min r (length ls - top)))) in
+    subst (λ (k : RowSkin). of k columns rows sought lines fronts starts) a
+    (subst (λ (n : ℕ). of dress n rows sought lines fronts starts) b
+    (subst (λ (r : ℕ). of dress width r sought lines fronts starts) d
+    (subst (λ (s : List ℕ). of dress width height s lines fronts starts) e
+    (subst (λ (ls : List FmtLine). of dress width height text ls fronts starts) f
+    (subst (λ (fs : List Front). of dress width height text shown fs starts) g (subst (λ (ts : List ℕ). of dress width height text shown front ts) i h))))))
+
+-- the rows of the text beside its bar, along what is equal
+pub lines_along : (skin : MadSkin) (s : State) (dress : RowSkin) (bar : Option ScrollBar) (shown : List FmtLine) (front : List Front) (height : ℕ) (old new : Trace) → is_small s ≡ false → s.page.columns < 2 ^ 16 → dress ≡ paged_skin skin → bar ≡ bar_of skin s
+    → shown ≡ s.laid.lines.items → front ≡ s.laid.fronts.items → height ≡ s.page.rows - 1 → TookWith old new (ArePageRowsDrawn dress bar shown front s.page.top s.page.columns height) → TookWith old new (AreLinesShown skin s)
+lines_along skin s dress bar shown front height old new large narrow a b d e f h =
+    let of : RowSkin → Option ScrollBar → List FmtLine → List Front → ℕ → Type 0 = λ k bar ls fs n. TookWith old new (ArePageRowsDrawn k bar ls fs s.page.top s.page.columns n) in
+    let lines = s.laid.lines.items in
+    let fronts = s.laid.fronts.items in
+    took_so old new (ArePageRowsDrawn (paged_skin skin) (bar_of skin s) lines fronts s.page.top s.page.columns (s.page.rows - 1)) (AreLinesShown skin s) (λ text drawn keeps. drawn (text_fills skin s (not_small s large) narrow keeps))
+    (subst (λ (k : RowSkin). of k (bar_of skin s) lines fronts (s.page.rows - 1)) a
+    (subst (λ (x : Option ScrollBar). of dress x lines fronts (s.page.rows - 1)) b
+    (subst (λ (ls : List FmtLine). of dress bar ls fronts (s.page.rows - 1)) d
+    (subst (λ (fs : List Front). of dress bar shown fs (s.page.rows - 1)) e (subst (λ (n : ℕ). of dress bar shown front n) f h)))))

@@ -1,6 +1,7 @@
 pub mod DrawnLemmas
 pub mod OrderLemmas
+pub mod PageFills
 pub mod PagerOrder
-pub mod StepLemmas
 pub mod PagerSteps
 pub mod ScreenStandLemmas
+pub mod StepLemmas

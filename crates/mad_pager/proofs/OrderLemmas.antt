@@ -4,7 +4,7 @@ use Rattle.std.specs.Prelude.{encode_utf8_all}
 use Rattle.std.proofs.lemmas.List.{take-append-drop}
 use Rattle.std.proofs.lemmas.Bool.{cases_eq}
 use Rattle.std.proofs.lemmas.Bool.Decides.{nat_tests}
-use Rattle.mad_md.specs.Lines.{LineContent}
+use Rattle.mad_sections.specs.Sections.{SectionContent}
 use Rattle.mad_characters.specs.Columns.{char_columns}
 use Rattle.mad_term.specs.declared.events.Event.{Event}
 use Rattle.mad_term.specs.declared.events.Event.TheVariants.{Key, Mouse, Resize, FocusGained, FocusLost}
@@ -35,7 +35,7 @@ use Rattle.mad_search.specs.Headers.{next_header, previous_header}
 use Rattle.mad_pager.specs.declared.sizes.ScreenSize.{ScreenSize}
 use Rattle.mad_page.specs.declared.page.Files.{Files}
 use Rattle.mad_page.specs.declared.page.Page.{Page}
-use Rattle.mad_format.specs.declared.line.FmtLine.{FmtLine}
+use Rattle.mad_pages.specs.declared.paged.PagedPage.{PagedPage}
 use Rattle.mad_layout.specs.declared.skin.MadSkin.{MadSkin}
 use Rattle.mad_pager.proofs.PagerSteps.{turn_after}
 use Rattle.mad_pager.specs.Screens.{IsFieldInRow, IsOrderly, TakeColumns}
@@ -165,9 +165,9 @@ mouse_place _ x y p = record { columns = refl; rows = refl }
 
 -- ---- sessions
 
-kept_order : (skin : MadSkin) (text : List LineContent) (s new : State) → new.lines ≡ s.lines → IsSamePlace s.page new.page → IsKept s.field new.field → IsOrderly skin text s → IsOrderly skin text new
+kept_order : (skin : MadSkin) (text : List SectionContent) (s new : State) → new.laid ≡ s.laid → IsSamePlace s.page new.page → IsKept s.field new.field → IsOrderly skin text s → IsOrderly skin text new
 kept_order skin text s new same place kept h = record {
-  lines = subst (λ (n : ℕ). IsLaidFor skin text n new.lines) (sym place.columns) (subst (λ (l : List FmtLine). IsLaidFor skin text s.page.columns l) (sym same) h.lines);
+  laid = subst (λ (n : ℕ). IsLaidFor skin text n new.laid) (sym place.columns) (subst (λ (l : PagedPage). IsLaidFor skin text s.page.columns l) (sym same) h.laid);
   field = record {
     area = kept.area ∙ (h.field.area ∙ (ap (λ (n : ℕ). field_row n s.page.rows) (sym place.columns) ∙ ap (λ (n : ℕ). field_row new.page.columns n) (sym place.rows)));
     typed = kept.typed;
@@ -175,39 +175,39 @@ kept_order skin text s new same place kept h = record {
 }
 
 -- another page, or another thing that is sought
-same_order : (skin : MadSkin) (text : List LineContent) (s mid new : State) → new ≡ mid → mid.lines ≡ s.lines → IsSamePlace s.page mid.page → IsKept s.field mid.field → IsOrderly skin text s → IsOrderly skin text new
+same_order : (skin : MadSkin) (text : List SectionContent) (s mid new : State) → new ≡ mid → mid.laid ≡ s.laid → IsSamePlace s.page mid.page → IsKept s.field mid.field → IsOrderly skin text s → IsOrderly skin text new
 same_order skin text s mid new e same place kept h = subst (λ (x : State). IsOrderly skin text x) (sym e) (kept_order skin text s mid same place kept h)
 
 still : (p : Page) → IsSamePlace p p
 still p = record { columns = refl; rows = refl }
 
 -- a search leaves it orderly
-found_order : (skin : MadSkin) (text : List LineContent) (row : Option ℕ) (s new : State) → new ≡ at_found row s → IsOrderly skin text s → IsOrderly skin text new
+found_order : (skin : MadSkin) (text : List SectionContent) (row : Option ℕ) (s new : State) → new ≡ at_found row s → IsOrderly skin text s → IsOrderly skin text new
 found_order skin text None s new e h = same_order skin text s _ new e refl (still s.page) (stays s.field h.field.typed) h
 found_order skin text (Some row) s new e h =
     same_order skin text s _ new e refl (either_place (shows_row s.page row) s.page _ _ (still s.page) (record { columns = refl; rows = refl })) (stays s.field h.field.typed) h
 
 -- nor does a header that is put on top
-pub header_order : (skin : MadSkin) (text : List LineContent) (row : Option ℕ) (s new : State) → new ≡ at_header row s → IsOrderly skin text s → IsOrderly skin text new
+pub header_order : (skin : MadSkin) (text : List SectionContent) (row : Option ℕ) (s new : State) → new ≡ at_header row s → IsOrderly skin text s → IsOrderly skin text new
 header_order skin text None s new e h = same_order skin text s _ new e refl (still s.page) (stays s.field h.field.typed) h
 header_order skin text (Some row) s new e h = same_order skin text s _ new e refl (record { columns = refl; rows = refl }) (stays s.field h.field.typed) h
 
-asked_order : (skin : MadSkin) (text : List LineContent) (ask : Ask) (s new : State) → IsAsked ask s new → IsOrderly skin text s → IsOrderly skin text new
-asked_order skin text Search s new e h = subst (λ (x : State). IsOrderly skin text x) (sym e) (record { lines = h.lines; field = record { area = refl; typed = tt } })
+asked_order : (skin : MadSkin) (text : List SectionContent) (ask : Ask) (s new : State) → IsAsked ask s new → IsOrderly skin text s → IsOrderly skin text new
+asked_order skin text Search s new e h = subst (λ (x : State). IsOrderly skin text x) (sym e) (record { laid = h.laid; field = record { area = refl; typed = tt } })
 asked_order skin text Next s new (row, next, e) h = found_order skin text row s new e h
 asked_order skin text Previous s new (row, previous, e) h = found_order skin text row s new e h
-asked_order skin text NextHeader s new e h = header_order skin text (next_header s.lines s.starts s.page.top) s new e h
-asked_order skin text PreviousHeader s new e h = header_order skin text (previous_header s.lines s.starts s.page.top) s new e h
+asked_order skin text NextHeader s new e h = header_order skin text (next_header s.laid.lines.items s.laid.starts.items s.page.top) s new e h
+asked_order skin text PreviousHeader s new e h = header_order skin text (previous_header s.laid.lines.items s.laid.starts.items s.page.top) s new e h
 asked_order skin text Forget s new e h = same_order skin text s _ new e refl (still s.page) (stays s.field h.field.typed) h
 asked_order skin text _ s new e h = same_order skin text s s new e refl (still s.page) (stays s.field h.field.typed) h
 
-key_order : (skin : MadSkin) (text : List LineContent) (key : KeyEvent) (s new : State) → IsKeyStep key s new → IsOrderly skin text s → IsOrderly skin text new
+key_order : (skin : MadSkin) (text : List SectionContent) (key : KeyEvent) (s new : State) → IsKeyStep key s new → IsOrderly skin text s → IsOrderly skin text new
 key_order skin text key s new step h =
     asked_order skin text (after_key key s.page).ask (record s { page = (after_key key s.page).page }) new step
     (kept_order skin text s (record s { page = (after_key key s.page).page }) refl (key_place key s.page) (stays s.field h.field.typed) h)
 
 -- a key that is no character
-other_order : (skin : MadSkin) (text : List LineContent) (code : KeyCode) (key : KeyEvent) (s new : State) → ((c : ℕ) → code ≡ Char c → ⊥) → key.code ≡ code → new ≡ record s { field = typed key s.field } → IsOrderly skin text s
+other_order : (skin : MadSkin) (text : List SectionContent) (code : KeyCode) (key : KeyEvent) (s new : State) → ((c : ℕ) → code ≡ Char c → ⊥) → key.code ≡ code → new ≡ record s { field = typed key s.field } → IsOrderly skin text s
     → IsOrderly skin text new
 other_order skin text code key s new other is e h =
     same_order skin text s (record s { field = typed key s.field }) new e refl (still s.page) (typed_kept key s.field (λ c at. absurd (other c (sym is ∙ at))) h.field.typed) h
@@ -219,9 +219,9 @@ char_field c key f false is takes h = typed_kept key f (λ d at. let same : Char
 takes_some : (c : ℕ) → (char_columns c == 0) ≡ false → 0 < char_columns c
 takes_some c e = grind (arith, nat_tests)
 
-type_order : (skin : MadSkin) (text : List LineContent) (code : KeyCode) (key : KeyEvent) (s new : State) → key.code ≡ code → IsTypeStep code key s new → IsOrderly skin text s → IsOrderly skin text new
+type_order : (skin : MadSkin) (text : List SectionContent) (code : KeyCode) (key : KeyEvent) (s new : State) → key.code ≡ code → IsTypeStep code key s new → IsOrderly skin text s → IsOrderly skin text new
 type_order skin text Enter key s new is step h =
-    asked_order skin text Next (record s { is_typing = false; sought = encode_utf8_all s.field.content.text; found = None }) new step (record { lines = h.lines; field = record { area = h.field.area; typed = h.field.typed } })
+    asked_order skin text Next (record s { is_typing = false; sought = encode_utf8_all s.field.content.text; found = None }) new step (record { laid = h.laid; field = record { area = h.field.area; typed = h.field.typed } })
 type_order skin text Esc key s new is e h = same_order skin text s _ new e refl (still s.page) (stays s.field h.field.typed) h
 type_order skin text (Char c) key s new is e h =
     same_order skin text s _ new e refl (still s.page) (char_field c key s.field (char_columns c == 0) is (takes_some c) h.field.typed) h
@@ -241,7 +241,7 @@ type_order skin text PageDown key s new is e h = other_order skin text PageDown 
 type_order skin text (F n) key s new is e h = other_order skin text (F n) key s new (λ c at. cc) is e h
 type_order skin text Null key s new is e h = other_order skin text Null key s new (λ c at. cc) is e h
 
-any_key_order : (skin : MadSkin) (text : List LineContent) (key : KeyEvent) (s new : State) (b : Bool) → s.is_typing ≡ b → IsAnyKeyStep key s new → IsOrderly skin text s → IsOrderly skin text new
+any_key_order : (skin : MadSkin) (text : List SectionContent) (key : KeyEvent) (s new : State) (b : Bool) → s.is_typing ≡ b → IsAnyKeyStep key s new → IsOrderly skin text s → IsOrderly skin text new
 any_key_order skin text key s new true is step h = type_order skin text key.code key s new refl (step.typing is) h
 any_key_order skin text key s new false is step h = key_order skin text key s new (step.other is) h
 
@@ -260,39 +260,39 @@ moved_area columns rows s new at h =
     ]
 
 -- it is so on a screen of another size, whatever was laid out before
-pub resized_order : (skin : MadSkin) (text : List LineContent) (columns rows : ℕ) (s new : State) → IsResized skin text columns rows s new → IsFieldInRow s → IsOrderly skin text new
+pub resized_order : (skin : MadSkin) (text : List SectionContent) (columns rows : ℕ) (s new : State) → IsResized skin text columns rows s new → IsFieldInRow s → IsOrderly skin text new
 resized_order skin text columns rows s new step h =
     let moved = moved_area columns rows s new.field h.area step.field in
     let wide : new.page.columns ≡ columns = ap (λ (p : Page). p.columns) step.page in
     let high : new.page.rows ≡ rows = ap (λ (p : Page). p.rows) step.page in
     record {
-      lines = subst (λ (n : ℕ). IsLaidFor skin text n new.lines) (sym wide) step.lines;
+      laid = subst (λ (n : ℕ). IsLaidFor skin text n new.laid) (sym wide) step.laid;
       field = record {
         area = moved.0 ∙ (ap (λ (n : ℕ). field_row n rows) (sym wide) ∙ ap (λ (n : ℕ). field_row new.page.columns n) (sym high));
         typed = subst (λ (e : Editor). TakeColumns e.text) (sym moved.1) h.typed;
       };
     }
 
-heard_order : (skin : MadSkin) (text : List LineContent) (b : Bool) (columns rows : ℕ) (s new : State)
+heard_order : (skin : MadSkin) (text : List SectionContent) (b : Bool) (columns rows : ℕ) (s new : State)
     → new ≡ (if b then s else record s { told = Some (record { columns = columns; rows = rows }) }) → IsOrderly skin text s → IsOrderly skin text new
 heard_order skin text true columns rows s new e h = same_order skin text s _ new e refl (still s.page) (stays s.field h.field.typed) h
 heard_order skin text false columns rows s new e h = same_order skin text s _ new e refl (still s.page) (stays s.field h.field.typed) h
 
-settled_at : (skin : MadSkin) (text : List LineContent) (told : Option ScreenSize) (s new : State) → IsLaidAnew told skin text s new → IsOrderly skin text s → IsOrderly skin text new
+settled_at : (skin : MadSkin) (text : List SectionContent) (told : Option ScreenSize) (s new : State) → IsLaidAnew told skin text s new → IsOrderly skin text s → IsOrderly skin text new
 settled_at skin text None s new e h = subst (λ (x : State). IsOrderly skin text x) (sym e) h
 settled_at skin text (Some size) s new step h = resized_order skin text size.columns size.rows s new step h.field
 
 -- so does a row that is brought on the screen
-pub sight_order : (skin : MadSkin) (text : List LineContent) (row : ℕ) (s : State) → IsOrderly skin text s → IsOrderly skin text (record s { page = in_sight s.page row })
+pub sight_order : (skin : MadSkin) (text : List SectionContent) (row : ℕ) (s : State) → IsOrderly skin text s → IsOrderly skin text (record s { page = in_sight s.page row })
 sight_order skin text row s h =
     kept_order skin text s (record s { page = in_sight s.page row }) refl (either_place (shows_row s.page row) s.page _ _ (still s.page) (record { columns = refl; rows = refl })) (stays s.field h.field.typed) h
 
 -- a text that is laid out anew leaves a session orderly
-pub settled_order : (skin : MadSkin) (text : List LineContent) (s new : State) → IsSettled skin text s new → IsOrderly skin text s → IsOrderly skin text new
+pub settled_order : (skin : MadSkin) (text : List SectionContent) (s new : State) → IsSettled skin text s new → IsOrderly skin text s → IsOrderly skin text new
 settled_order skin text s new step h = settled_at skin text s.told s new step h
 
 -- and so does an event
-pub event_order : (skin : MadSkin) (text : List LineContent) (event : Event) (s new : State) → IsEventStep skin text event s new → IsOrderly skin text s → IsOrderly skin text new
+pub event_order : (skin : MadSkin) (text : List SectionContent) (event : Event) (s new : State) → IsEventStep skin text event s new → IsOrderly skin text s → IsOrderly skin text new
 event_order skin text (Key key) s new step h = any_key_order skin text key s new s.is_typing refl step h
 event_order skin text (Mouse m) s new e h = same_order skin text s _ new e refl (mouse_place m.kind m.column m.row s.page) (stays s.field h.field.typed) h
 event_order skin text (Resize columns rows) s new e h = heard_order skin text (nat_lt 1000000 (columns * rows)) columns rows s new e h
@@ -300,12 +300,12 @@ event_order skin text FocusGained s new e h = same_order skin text s s new e ref
 event_order skin text FocusLost s new e h = same_order skin text s s new e refl (still s.page) (stays s.field h.field.typed) h
 
 -- a session is so from its start on
-pub start_order : (skin : MadSkin) (text : List LineContent) (columns rows : ℕ) (files : Files) (s : State) → IsStart skin text columns rows files s → IsOrderly skin text s
+pub start_order : (skin : MadSkin) (text : List SectionContent) (columns rows : ℕ) (files : Files) (s : State) → IsStart skin text columns rows files s → IsOrderly skin text s
 start_order skin text columns rows files s h =
     let wide : s.page.columns ≡ columns = ap (λ (p : Page). p.columns) h.page in
     let high : s.page.rows ≡ rows = ap (λ (p : Page). p.rows) h.page in
     record {
-      lines = subst (λ (n : ℕ). IsLaidFor skin text n s.lines) (sym wide) h.lines;
+      laid = subst (λ (n : ℕ). IsLaidFor skin text n s.laid) (sym wide) h.laid;
       field = record {
         area = ap (λ (f : Field). f.area) h.field ∙ (ap (λ (n : ℕ). field_row n rows) (sym wide) ∙ ap (λ (n : ℕ). field_row s.page.columns n) (sym high));
         typed = subst (λ (f : Field). TakeColumns f.content.text) (sym h.field) tt;

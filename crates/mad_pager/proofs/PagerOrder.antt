@@ -1,7 +1,7 @@
 -- The sessions of a pager stay orderly.
 use Rattle.std.proofs.Common.{◌≡◌, ℕ, List, Option, Some, None, ap, refl, sym, subst}
 use Rattle.std.specs.Prelude.{slice_index}
-use Rattle.mad_md.specs.Lines.{LineContent}
+use Rattle.mad_sections.specs.Sections.{SectionContent}
 use Rattle.mad_layout.specs.declared.skin.MadSkin.{MadSkin}
 use Rattle.mad_term.specs.declared.events.Event.{Event}
 use Rattle.mad_term.specs.declared.events.Event.TheVariants.{Key, Mouse, Resize, FocusGained, FocusLost}
@@ -9,8 +9,8 @@ use Rattle.mad_term.specs.declared.keys.KeyEvent.{KeyEvent}
 use Rattle.mad_page.specs.declared.page.Files.{Files}
 use Rattle.mad_pager.specs.Screens.{IsOrderly}
 use Rattle.mad_pager.specs.Sessions.{State, HasSameText, IsEventStep, IsSettled, hears_size, state_of}
-use Rattle.mad_outline.specs.Sources.{Content, TextSaid, a_text, addresses, headers, content_lines, content_of, said_of, source_lines}
-use Rattle.mad_pager.specs.Pagers.{Leaf, View, IsAnswered, IsChoice, IsCovered, IsLeafSettled, IsLeafStep, IsOpened, IsOrderlyLeaf, IsOrderlyOver, IsOrderlyView, IsOverSettled, IsOverStart, IsPageStart, IsSameLeaf, IsStep, IsStepIn, IsViewSettled, contents_name, contents_page, header_row, help_name, help_page, hearing, leaf_lines, leaf_of, links_name, links_page, over_answer, sighted}
+use Rattle.mad_outline.specs.Sources.{Content, TextSaid, a_text, addresses, headers, content_page, content_of, said_of, source_page}
+use Rattle.mad_pager.specs.Pagers.{Leaf, View, IsAnswered, IsChoice, IsCovered, IsLeafSettled, IsLeafStep, IsOpened, IsOrderlyLeaf, IsOrderlyOver, IsOrderlyView, IsOverSettled, IsOverStart, IsPageStart, IsSameLeaf, IsStep, IsStepIn, IsViewSettled, contents_name, contents_page, header_row, help_name, help_page, hearing, leaf_page, leaf_of, links_name, links_page, over_answer, sighted}
 use Rattle.mad_pager.specs.declared.over.Answer.{Answer}
 use Rattle.mad_pager.specs.declared.over.Answer.TheVariants.{Closes, Takes, Chooses, Passes}
 use Rattle.mad_pager.specs.declared.session.Overlay.{Overlay}
@@ -29,11 +29,11 @@ pub leaf_with : (old new : Session) (s : State) → HasSameText old new → stat
 leaf_with old new s h e = cc (h.skin, h.name, h.source, e)
 
 -- a session that was laid out anew
-pub settled_leaf : (old new : Session) → HasSameText old new → IsSettled old.text.skin.now (source_lines old.source) (state_of old) (state_of new) → IsLeafSettled (leaf_of old) (leaf_of new)
+pub settled_leaf : (old new : Session) → HasSameText old new → IsSettled old.skin.now (source_page old.source) (state_of old) (state_of new) → IsLeafSettled (leaf_of old) (leaf_of new)
 settled_leaf old new h settled = record { same = same_leaf old new h; settled = settled }
 
 -- an event that was done on a session
-pub stepped_leaf : (event : Event) (old new : Session) → HasSameText old new → IsEventStep old.text.skin.now (source_lines old.source) event (state_of old) (state_of new) → IsLeafStep event (leaf_of old) (leaf_of new)
+pub stepped_leaf : (event : Event) (old new : Session) → HasSameText old new → IsEventStep old.skin.now (source_page old.source) event (state_of old) (state_of new) → IsLeafStep event (leaf_of old) (leaf_of new)
 stepped_leaf event old new h step = record { same = same_leaf old new h; step = step }
 
 -- a page is opened over the text
@@ -46,19 +46,19 @@ covered_not opened below over is none = subst (λ (o : Option Overlay). IsCovere
 
 -- ---- order
 
-order_at : (skin : MadSkin) (content : Content) (new : Leaf) → new.skin ≡ skin → new.content ≡ content → IsOrderly skin (content_lines content) new.state → IsOrderlyLeaf new
+order_at : (skin : MadSkin) (content : Content) (new : Leaf) → new.skin ≡ skin → new.content ≡ content → IsOrderly skin (content_page content) new.state → IsOrderlyLeaf new
 order_at skin content new same is h =
-    subst (λ (d : MadSkin). IsOrderly d (leaf_lines new) new.state) (sym same) (subst (λ (c : Content). IsOrderly skin (content_lines c) new.state) (sym is) h)
+    subst (λ (d : MadSkin). IsOrderly d (leaf_page new) new.state) (sym same) (subst (λ (c : Content). IsOrderly skin (content_page c) new.state) (sym is) h)
 
 -- an event leaves a session orderly
 leaf_order : (event : Event) (old new : Leaf) → IsLeafStep event old new → IsOrderlyLeaf old → IsOrderlyLeaf new
-leaf_order event old new step h = order_at old.skin old.content new step.same.skin step.same.content (event_order old.skin (leaf_lines old) event old.state new.state step.step h)
+leaf_order event old new step h = order_at old.skin old.content new step.same.skin step.same.content (event_order old.skin (leaf_page old) event old.state new.state step.step h)
 
 -- so does a size that it hears
 hearing_order : (event : Event) (l : Leaf) → IsOrderlyLeaf l → IsOrderlyLeaf (hearing event l)
 hearing_order (Key key) l h = h
 hearing_order (Mouse m) l h = h
-hearing_order (Resize columns rows) l h = event_order l.skin (leaf_lines l) (Resize columns rows) l.state (hears_size columns rows l.state) refl h
+hearing_order (Resize columns rows) l h = event_order l.skin (leaf_page l) (Resize columns rows) l.state (hears_size columns rows l.state) refl h
 hearing_order FocusGained l h = h
 hearing_order FocusLost l h = h
 
@@ -66,13 +66,13 @@ hearing_order FocusLost l h = h
 page_start_order : (name : List ℕ) (content : Content) (below over : Leaf) → IsPageStart name content below over → IsOrderlyLeaf over
 page_start_order name content below over start =
     let s : State = record over.state { told = None } in
-    let begun = start_order below.skin (content_lines content) below.state.page.columns below.state.page.rows below.state.page.files s start.start in
-    order_at below.skin content over start.skin start.made (record { lines = begun.lines; field = record { area = begun.field.area; typed = begun.field.typed } })
+    let begun = start_order below.skin (content_page content) below.state.page.columns below.state.page.rows below.state.page.files s start.start in
+    order_at below.skin content over start.skin start.made (record { laid = begun.laid; field = record { area = begun.field.area; typed = begun.field.typed } })
 
 over_start_order : (overlay : Overlay) (below over : Leaf) → IsOverStart overlay below over → IsOrderlyLeaf over
 over_start_order overlay.Help below over start = page_start_order help_name help_page below over start
 over_start_order overlay.Links below over start = page_start_order links_name (links_page (said_of below.content) below.state) below over start
-over_start_order overlay.Contents below over start = page_start_order contents_name (contents_page (said_of below.content).lines below.state) below over start
+over_start_order overlay.Contents below over start = page_start_order contents_name (contents_page (said_of below.content).page below.state) below over start
 
 covered_order : (opened : Option Overlay) (below : Leaf) (over : Option Leaf) → IsCovered opened below over → IsOrderlyOver over
 covered_order None below over none = subst IsOrderlyOver (sym none) tt
@@ -85,7 +85,7 @@ choice_order key old new choice h =
 answered_order : (answer : Answer) (event : Event) (over text : Leaf) (new : View) → IsAnswered answer event over text new → IsOrderlyLeaf text → IsOrderlyLeaf over → IsOrderlyView new
 answered_order Closes event over text new step h k = record { text = subst IsOrderlyLeaf (sym step.text) h; over = subst IsOrderlyOver (sym step.over) tt }
 answered_order Takes event over text new step h k = record {
-  text = subst IsOrderlyLeaf (sym step.text) (header_order text.skin (leaf_lines text) (header_row over.content text.state.starts) text.state _ refl h);
+  text = subst IsOrderlyLeaf (sym step.text) (header_order text.skin (leaf_page text) (header_row over.content text.state.laid.starts.items) text.state _ refl h);
   over = subst IsOrderlyOver (sym step.over) tt;
 }
 answered_order (Chooses key) event over text new step h k = record {
@@ -106,17 +106,17 @@ pub step_order : (event : Event) (old new : View) → IsStep event old new → I
 step_order event old new step h = step_in_order old.over event old.text new step h.text h.over
 
 settled_leaf_order : (old new : Leaf) → IsLeafSettled old new → IsOrderlyLeaf old → IsOrderlyLeaf new
-settled_leaf_order old new h k = order_at old.skin old.content new h.same.skin h.same.content (settled_order old.skin (leaf_lines old) old.state new.state h.settled k)
+settled_leaf_order old new h k = order_at old.skin old.content new h.same.skin h.same.content (settled_order old.skin (leaf_page old) old.state new.state h.settled k)
 
-sighted_order : (skin : MadSkin) (text : List LineContent) (content : Content) (s : State) → IsOrderly skin text s → IsOrderly skin text (sighted content s)
-sighted_order skin text (headers of chosen) s h = sight_order skin text (slice_index s.starts chosen) s h
+sighted_order : (skin : MadSkin) (text : List SectionContent) (content : Content) (s : State) → IsOrderly skin text s → IsOrderly skin text (sighted content s)
+sighted_order skin text (headers of chosen) s h = sight_order skin text (slice_index s.laid.starts.items chosen) s h
 sighted_order skin text (a_text said) s h = h
 sighted_order skin text (addresses links) s h = h
 
 settled_over_order : (old new : Option Leaf) → IsOverSettled old new → IsOrderlyOver old → IsOrderlyOver new
 settled_over_order None new e k = subst IsOrderlyOver (sym e) tt
 settled_over_order (Some over) new (mid, h, e) k =
-    subst IsOrderlyOver (sym e) (sighted_order mid.skin (leaf_lines mid) mid.content mid.state (settled_leaf_order over mid h k))
+    subst IsOrderlyOver (sym e) (sighted_order mid.skin (leaf_page mid) mid.content mid.state (settled_leaf_order over mid h k))
 
 -- so does another size
 pub view_settled_order : (old new : View) → IsViewSettled old new → IsOrderlyView old → IsOrderlyView new
@@ -125,6 +125,6 @@ view_settled_order old new h k = record { text = settled_leaf_order old.text new
 -- they are so from the start on
 pub opened_order : (skin : MadSkin) (name : List ℕ) (text : TextSaid) (columns rows : ℕ) (files : Files) (v : View) → IsOpened skin name text columns rows files v → IsOrderlyView v
 opened_order skin name text columns rows files v h = record {
-  text = order_at skin (a_text text) v.text h.dress h.content (start_order skin text.lines columns rows files v.text.state h.start);
+  text = order_at skin (a_text text) v.text h.dress h.content (start_order skin text.page columns rows files v.text.state h.start);
   over = subst IsOrderlyOver (sym h.over) tt;
 }

@@ -1,6 +1,6 @@
 -- What events do to a pager, along what is equal.
 use Rattle.std.proofs.Common.{◌≡◌, ℕ, Bool, false, List, Option, Some, None, option_map, refl, sym, ap, subst, ◌∙◌, if◌then◌else◌}
-use Rattle.mad_md.specs.Lines.{LineContent}
+use Rattle.mad_sections.specs.Sections.{SectionContent}
 use Rattle.mad_layout.specs.declared.skin.MadSkin.{MadSkin}
 use Rattle.mad_term.specs.declared.events.Event.{Event}
 use Rattle.mad_term.specs.declared.keys.KeyEvent.{KeyEvent}
@@ -10,7 +10,7 @@ use Rattle.mad_page.specs.declared.page.Page.{Page}
 use Rattle.mad_search.specs.KeptRows.{part_of}
 use Rattle.markdown_reader.specs.MarkdownSays.{LinkSaid}
 use Rattle.mad_pager.specs.Sessions.{State, HasSameText, IsResized, IsStart, state_of, turn_of}
-use Rattle.mad_outline.specs.Sources.{Content, addresses, content_lines, content_of, lines_before, next, part_numbers, source_lines}
+use Rattle.mad_outline.specs.Sources.{Content, addresses, content_page, content_of, next, source_page}
 use Rattle.mad_pager.specs.Pagers.{Leaf, View, IsAnswered, IsChoice, IsOverStep, IsPageStart, IsStepIn, IsTextStep, content_chosen, key_over, last_row_of, leaf_of, links_in, over_answer, size_to_lay, turn_answered, turn_at, turn_over, uncounted_state}
 use Rattle.mad_pager.specs.declared.over.Answer.{Answer}
 use Rattle.mad_pager.specs.declared.over.Answer.TheVariants.{Passes}
@@ -61,47 +61,40 @@ pub untold : (s : State) → s.told ≡ None → record s { told = None } ≡ s
 untold s e = ap (λ (o : Option ScreenSize). let t : State = record s { told = o } in t) (sym e)
 
 -- a page at its start, which hears what the text below had heard
-pub page_started : (name : List ℕ) (content : Content) (below : Leaf) (over new : Session) → over.text.skin.now ≡ below.skin → over.name.now ≡ name → content_of over.source ≡ content
-    → IsStart below.skin (content_lines content) below.state.page.columns below.state.page.rows below.state.page.files (state_of over) → leaf_of new ≡ record (leaf_of over) { state = record (state_of over) { told = below.state.told } }
+pub page_started : (name : List ℕ) (content : Content) (below : Leaf) (over new : Session) → over.skin.now ≡ below.skin → over.name.now ≡ name → content_of over.source ≡ content
+    → IsStart below.skin (content_page content) below.state.page.columns below.state.page.rows below.state.page.files (state_of over) → leaf_of new ≡ record (leaf_of over) { state = record (state_of over) { told = below.state.told } }
     → IsPageStart name content below (leaf_of new)
 page_started name content below over new skin named made start e =
     subst (λ (l : Leaf). IsPageStart name content below l) (sym e) (record {
       skin = skin;
       named = named;
       made = made;
-      start = subst (λ (s : State). IsStart below.skin (content_lines content) below.state.page.columns below.state.page.rows below.state.page.files s) (sym (untold (state_of over) start.told)) start;
+      start = subst (λ (s : State). IsStart below.skin (content_page content) below.state.page.columns below.state.page.rows below.state.page.files s) (sym (untold (state_of over) start.told)) start;
       told = refl;
     })
 
 -- ---- choices
 
 -- another header is chosen, and all is laid out anew
-pub chosen : (key : KeyEvent) (old mid new : Session) (size : ScreenSize) → mid.text.skin.now ≡ old.text.skin.now → mid.name.now ≡ old.name.now → content_of mid.source ≡ content_chosen key (state_of old) (content_of old.source)
-    → state_of mid ≡ uncounted_state (state_of old) → size ≡ size_to_lay (state_of old) → HasSameText mid new → IsResized mid.text.skin.now (source_lines mid.source) size.columns size.rows (state_of mid) (state_of new) → IsChoice key (leaf_of old) (leaf_of new)
+pub chosen : (key : KeyEvent) (old mid new : Session) (size : ScreenSize) → mid.skin.now ≡ old.skin.now → mid.name.now ≡ old.name.now → content_of mid.source ≡ content_chosen key (state_of old) (content_of old.source)
+    → state_of mid ≡ uncounted_state (state_of old) → size ≡ size_to_lay (state_of old) → HasSameText mid new → IsResized mid.skin.now (source_page mid.source) size.columns size.rows (state_of mid) (state_of new) → IsChoice key (leaf_of old) (leaf_of new)
 chosen key old mid new size skin name content state is same laid = record {
   skin = same.skin ∙ skin;
   name = same.name ∙ name;
   content = ap content_of same.source ∙ content;
   laid =
-      subst (λ (d : MadSkin). IsResized d (content_lines (content_chosen key (state_of old) (content_of old.source))) (size_to_lay (state_of old)).columns (size_to_lay (state_of old)).rows (uncounted_state (state_of old)) (state_of new)) skin
-      (subst (λ (c : Content). IsResized mid.text.skin.now (content_lines c) (size_to_lay (state_of old)).columns (size_to_lay (state_of old)).rows (uncounted_state (state_of old)) (state_of new)) content
-      (subst (λ (z : ScreenSize). IsResized mid.text.skin.now (source_lines mid.source) z.columns z.rows (uncounted_state (state_of old)) (state_of new)) is
-      (subst (λ (s : State). IsResized mid.text.skin.now (source_lines mid.source) size.columns size.rows s (state_of new)) state laid)));
+      subst (λ (d : MadSkin). IsResized d (content_page (content_chosen key (state_of old) (content_of old.source))) (size_to_lay (state_of old)).columns (size_to_lay (state_of old)).rows (uncounted_state (state_of old)) (state_of new)) skin
+      (subst (λ (c : Content). IsResized mid.skin.now (content_page c) (size_to_lay (state_of old)).columns (size_to_lay (state_of old)).rows (uncounted_state (state_of old)) (state_of new)) content
+      (subst (λ (z : ScreenSize). IsResized mid.skin.now (source_page mid.source) z.columns z.rows (uncounted_state (state_of old)) (state_of new)) is
+      (subst (λ (s : State). IsResized mid.skin.now (source_page mid.source) size.columns size.rows s (state_of new)) state laid)));
 }
 
 -- ---- links
 
--- the links of the lines whose parts are on the screen
-pub links_shown : (links : List LinkSaid) (said : List LineContent) (s : State) (numbers above below starts : List ℕ) (row first last after from to : ℕ)
-    → numbers ≡ part_numbers false 0 said → above ≡ numbers → below ≡ numbers → starts ≡ s.starts
-    → first ≡ part_of starts s.page.top → row ≡ last_row_of s.page → last ≡ part_of starts row → after ≡ next last → from ≡ lines_before above first → to ≡ lines_before below after
-    → addresses (record { links = links; from = from; to = to }) ≡ addresses (links_in said links s)
-links_shown links said s numbers above below starts row first last after from to n a b begin f r l t g h =
-    let parts : List ℕ = part_numbers false 0 said in
-    let start : ℕ = part_of s.starts s.page.top in
-    let end : ℕ = part_of s.starts (last_row_of s.page) in
-    let is_start : first ≡ start = f ∙ ap (λ (z : List ℕ). part_of z s.page.top) begin in
-    let is_end : last ≡ end = l ∙ ap (λ (z : List ℕ). part_of z row) begin ∙ ap (λ (m : ℕ). part_of s.starts m) r in
-    let is_from : from ≡ lines_before parts start = g ∙ ap (λ (z : List ℕ). lines_before z first) (a ∙ n) ∙ ap (λ (m : ℕ). lines_before parts m) is_start in
-    let is_to : to ≡ lines_before parts (next end) = h ∙ ap (λ (z : List ℕ). lines_before z after) (b ∙ n) ∙ ap (λ (m : ℕ). lines_before parts m) (t ∙ ap (λ (m : ℕ). next m) is_end) in
-    ap (λ (m : ℕ). addresses (record { links = links; from = m; to = to })) is_from ∙ ap (λ (m : ℕ). addresses (record { links = links; from = lines_before parts start; to = m })) is_to
+-- the links of the sections that are on the screen
+pub links_shown : (links : List LinkSaid) (s : State) (starts : List ℕ) (row first last after : ℕ) → starts ≡ s.laid.starts.items → first ≡ part_of starts s.page.top → row ≡ last_row_of s.page → last ≡ part_of starts row → after ≡ next last
+    → addresses (record { links = links; from = first; to = after }) ≡ addresses (links_in links s)
+links_shown links s starts row first last after begin f r l t =
+    let end : last ≡ part_of s.laid.starts.items (last_row_of s.page) = l ∙ ap (λ (z : List ℕ). part_of z row) begin ∙ ap (λ (m : ℕ). part_of s.laid.starts.items m) r in
+    ap (λ (m : ℕ). addresses (record { links = links; from = m; to = after })) (f ∙ ap (λ (z : List ℕ). part_of z s.page.top) begin)
+    ∙ ap (λ (m : ℕ). addresses (record { links = links; from = part_of s.laid.starts.items s.page.top; to = m })) (t ∙ ap next end)

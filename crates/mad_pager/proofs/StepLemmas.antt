@@ -1,7 +1,7 @@
 -- What keys and events do, along what is equal.
 use Rattle.std.proofs.Common.{◌≡◌, ◌≢◌, ℕ, ◌-◌, ◌==◌, Bool, List, [], ◌∷◌, ◌++◌, length, Option, Some, None, refl, sym, subst, ap, ◌∙◌, true, false, append_assoc}
 use Rattle.std.specs.Prelude.{codes}
-use Rattle.mad_md.specs.Lines.{LineContent}
+use Rattle.mad_sections.specs.Sections.{SectionContent}
 use Rattle.mad_md.specs.declared.alignment.Alignment.{Alignment}
 use Rattle.mad_md.specs.declared.alignment.Alignment.TheVariants.{Left}
 use Rattle.mad_format.specs.Fitting.{IsCompositeFitted}
@@ -10,20 +10,21 @@ use Rattle.mad_term.specs.declared.keys.KeyEvent.{KeyEvent}
 use Rattle.mad_measure.specs.declared.area.Area.{Area}
 use Rattle.mad_format.specs.LineRules.{LineRules}
 use Rattle.mad_format.specs.declared.line.FmtLine.{FmtLine}
-use Rattle.mad_blocks.specs.Layouts.{IsLayoutAt}
+use Rattle.mad_page_rows.specs.Faces.{has_ascii_boxes}
+use Rattle.mad_pages.specs.PagedPages.{IsPagedAt}
+use Rattle.mad_pages.specs.declared.paged.PagedPage.{PagedPage}
 use Rattle.mad_field.specs.Fields.{Field}
 use Rattle.mad_field.specs.Scrolls.{rescrolled}
-use Rattle.mad_layout.specs.RowSkins.{row_skin}
+use Rattle.mad_rows.specs.declared.row_skin.RowSkin.{RowSkin}
 use Rattle.mad_layout.specs.declared.skin.MadSkin.{MadSkin}
 use Rattle.mad_rows.specs.RowStyles.{line_rules}
 use Rattle.mad_page.specs.PageKeys.{after_key}
 use Rattle.mad_page.specs.declared.commands.Ask.{Ask}
 use Rattle.mad_page.specs.declared.commands.Ask.TheVariants.{Next}
 use Rattle.mad_page.specs.declared.page.Page.{Page}
-use Rattle.mad_search.specs.KeptRows.{ArePartStarts}
 use Rattle.mad_search.specs.Searches.{IsNextRowIn, IsPreviousRowIn}
 use Rattle.mad_pager.specs.Screens.{sought_words}
-use Rattle.mad_pager.specs.Sessions.{State, AreStartsFor, IsAsked, IsKeyStep, IsLaidAnew, IsLaidFor, IsMovedTo, IsResized}
+use Rattle.mad_pager.specs.Sessions.{State, IsAsked, IsKeyStep, IsLaidAnew, IsLaidFor, IsMovedTo, IsResized, paged_skin}
 use Rattle.mad_pager.specs.declared.sizes.ScreenSize.{ScreenSize}
 
 -- a key that asks for something
@@ -46,19 +47,18 @@ same_previous a b l m t u end to row e k i f h =
     subst (λ (n : ℕ). IsPreviousRowIn b m u n row) f (subst (λ (y : List ℕ). IsPreviousRowIn b m y end row) i (subst (λ (x : List FmtLine). IsPreviousRowIn b x t end row) k (subst (λ (x : List ℕ). IsPreviousRowIn x l t end row) e h)))
 
 -- a text laid out at the width of a screen is so for the screen
-pub laid_at : (skin : MadSkin) (text : List LineContent) (columns width : ℕ) (lines : List FmtLine) → width ≡ columns - 1 → IsLayoutAt (line_rules (row_skin skin)) (Some width) text lines → IsLaidFor skin text columns lines
-laid_at skin text columns width lines e h = subst (λ (n : ℕ). IsLayoutAt (line_rules (row_skin skin)) (Some n) text lines) e h
-
--- and so are the rows in which its parts begin
-pub starts_at : (skin : MadSkin) (text : List LineContent) (columns width : ℕ) (starts : List ℕ) → width ≡ columns - 1 → ArePartStarts (line_rules (row_skin skin)) width text starts → AreStartsFor skin text columns starts
-starts_at skin text columns width starts e h = subst (λ (n : ℕ). ArePartStarts (line_rules (row_skin skin)) n text starts) e h
+pub laid_at : (skin : MadSkin) (page : List SectionContent) (columns width : ℕ) (dress : RowSkin) (ascii : Bool) (laid : PagedPage) → dress ≡ paged_skin skin → ascii ≡ has_ascii_boxes dress → width ≡ columns - 1 → IsPagedAt (line_rules dress) ascii (Some width) page laid
+    → IsLaidFor skin page columns laid
+laid_at skin page columns width dress ascii laid dressed boxes e h =
+    subst (λ (n : ℕ). IsPagedAt (line_rules (paged_skin skin)) (has_ascii_boxes (paged_skin skin)) (Some n) page laid) e
+    (subst (λ (d : RowSkin). IsPagedAt (line_rules d) (has_ascii_boxes d) (Some width) page laid) dressed (subst (λ (b : Bool). IsPagedAt (line_rules dress) b (Some width) page laid) boxes h))
 
 -- a text that is laid out anew for the size that was told
-pub settled_some : (skin : MadSkin) (text : List LineContent) (told : Option ScreenSize) (size : ScreenSize) (s new : State) → told ≡ Some size → IsResized skin text size.columns size.rows s new → IsLaidAnew told skin text s new
+pub settled_some : (skin : MadSkin) (text : List SectionContent) (told : Option ScreenSize) (size : ScreenSize) (s new : State) → told ≡ Some size → IsResized skin text size.columns size.rows s new → IsLaidAnew told skin text s new
 settled_some skin text told size s new is h = subst (λ (o : Option ScreenSize). IsLaidAnew o skin text s new) (sym is) h
 
 -- without such a size it stays
-pub settled_none : (skin : MadSkin) (text : List LineContent) (told : Option ScreenSize) (s : State) → told ≡ None → IsLaidAnew told skin text s s
+pub settled_none : (skin : MadSkin) (text : List SectionContent) (told : Option ScreenSize) (s : State) → told ≡ None → IsLaidAnew told skin text s s
 settled_none skin text told s is = subst (λ (o : Option ScreenSize). IsLaidAnew o skin text s s) (sym is) refl
 
 -- a field that was given this area

@@ -1,7 +1,8 @@
 -- A pager: a text, and a page over it while one is open.
 use Rattle.std.specs.Prelude.{◌≡◌, ℕ, ◌+◌, ◌-◌, ◌^◌, ◌==◌, ◌&&◌, ◌||◌, min, Bool, true, false, List, [], ◌∷◌, ◌++◌, codes, length, Option, Some, None, option_map, slice_get, slice_index, if◌then◌else◌}
 use Rattle.std.specs.List.{flat_map}
-use Rattle.mad_md.specs.Lines.{LineContent}
+use Rattle.mad_sections.specs.Sections.{SectionContent}
+use Rattle.mad_search.specs.PagedTexts.{plain_sections}
 use Rattle.mad_md.specs.Reading.{unread_text}
 use Rattle.mad_md.specs.Scan.{lines_of}
 use Rattle.mad_layout.specs.declared.skin.MadSkin.{MadSkin}
@@ -23,7 +24,7 @@ use Rattle.mad_term.specs.declared.keys.KeyEvent.{KeyEvent}
 use Rattle.markdown_reader.specs.MarkdownSays.{LinkSaid}
 use Rattle.mad_pager.specs.Screens.{IsOrderly, IsShown, IsUnshown}
 use Rattle.mad_pager.specs.Sessions.{State, IsEventStep, IsResized, IsSettled, IsStart, at_header, hears, opens, state_of, turn_of}
-use Rattle.mad_outline.specs.Sources.{Content, LinksIn, TextSaid, a_text, addresses, headers, content_lines, content_of, lines_before, next, part_numbers, said_of}
+use Rattle.mad_outline.specs.Sources.{Content, LinksIn, TextSaid, a_text, addresses, headers, content_page, content_of, count_below, header_numbers, next, said_of}
 use Rattle.mad_pager.specs.declared.over.Answer.{Answer}
 use Rattle.mad_pager.specs.declared.over.Answer.TheVariants.{Closes, Takes, Chooses, Passes}
 use Rattle.mad_pager.specs.declared.pager.Pager.{Pager}
@@ -45,11 +46,11 @@ pub record Leaf : Type 0 where
 
 -- what this session shows
 abbrev pub leaf_of : Session → Leaf
-leaf_of s = record { skin = s.text.skin.now; name = s.name.now; content = content_of s.source; state = state_of s }
+leaf_of s = record { skin = s.skin.now; name = s.name.now; content = content_of s.source; state = state_of s }
 
--- the lines of what is shown
-abbrev pub leaf_lines : Leaf → List LineContent
-leaf_lines l = content_lines l.content
+-- the sections of what is shown
+abbrev pub leaf_page : Leaf → List SectionContent
+leaf_page l = content_page l.content
 
 -- What a pager has: a text, and the page over it, while one is open.
 pub record View : Type 0 where
@@ -74,7 +75,7 @@ pub record IsOpened (skin : MadSkin) (name : List ℕ) (text : TextSaid) (column
   pub dress : v.text.skin ≡ skin
   pub named : v.text.name ≡ name
   pub content : v.text.content ≡ a_text text
-  pub start : IsStart skin text.lines columns rows files v.text.state
+  pub start : IsStart skin text.page columns rows files v.text.state
   pub over : v.over ≡ None
 
 -- ---- what events do on a text
@@ -88,7 +89,7 @@ pub record IsSameLeaf (old new : Leaf) : Type 0 where
 -- an event is done on it
 pub record IsLeafStep (event : Event) (old new : Leaf) : Type 0 where
   pub same : IsSameLeaf old new
-  pub step : IsEventStep old.skin (leaf_lines old) event old.state new.state
+  pub step : IsEventStep old.skin (leaf_page old) event old.state new.state
 
 -- it hears a size, where an event tells one
 abbrev pub hearing : Event → Leaf → Leaf
@@ -111,7 +112,7 @@ pub record IsPageStart (name : List ℕ) (content : Content) (below over : Leaf)
   pub skin : over.skin ≡ below.skin
   pub named : over.name ≡ name
   pub made : over.content ≡ content
-  pub start : IsStart below.skin (content_lines content) below.state.page.columns below.state.page.rows below.state.page.files (record over.state { told = None })
+  pub start : IsStart below.skin (content_page content) below.state.page.columns below.state.page.rows below.state.page.files (record over.state { told = None })
   pub told : over.state.told ≡ below.state.told
 
 -- the lines of the page of help
@@ -154,44 +155,38 @@ help_text = flat_map (λ line. line ++ 10 ∷ []) help_lines
 
 -- the page of help is a text, which has no links
 abbrev pub help_page : Content
-help_page = a_text (record { lines = lines_of (unread_text false help_text); links = None })
+help_page = a_text (record { page = plain_sections (lines_of (unread_text false help_text)); links = None })
 
 -- the row of a text that is in the last row which the screen has for it
 abbrev pub last_row_of : Page → ℕ
 last_row_of page = min (page.top + (body_rows page - 1)) (2 ^ 64 - 1)
 
--- the links of the lines whose parts are on the screen
-abbrev pub links_in : List LineContent → List LinkSaid → State → LinksIn
-links_in lines links s =
-    let numbers : List ℕ = part_numbers false 0 lines in
-    record {
-      links = links;
-      from = lines_before numbers (part_of s.starts s.page.top);
-      to = lines_before numbers (next (part_of s.starts (last_row_of s.page)));
-    }
+-- the links of the sections that are on the screen
+abbrev pub links_in : List LinkSaid → State → LinksIn
+links_in links s = record { links = links; from = part_of s.laid.starts.items s.page.top; to = next (part_of s.laid.starts.items (last_row_of s.page)) }
 
 -- what is said of a text whose lines stand for themselves
 abbrev pub never_links : List ℕ
 never_links = codes "With --lines there are no links."
 
 -- what the page of links is made of, over a text that has these links, if it can have some
-abbrev pub links_page_of : Option (List LinkSaid) → List LineContent → State → Content
-links_page_of None lines s = a_text (record { lines = lines_of (unread_text false never_links); links = None })
-links_page_of (Some links) lines s = addresses (links_in lines links s)
+abbrev pub links_page_of : Option (List LinkSaid) → State → Content
+links_page_of None s = a_text (record { page = plain_sections (lines_of (unread_text false never_links)); links = None })
+links_page_of (Some links) s = addresses (links_in links s)
 
 -- the page of links over a text: those on the screen, or that the text can't have some
 abbrev pub links_page : TextSaid → State → Content
-links_page text s = links_page_of text.links text.lines s
+links_page text s = links_page_of text.links s
 
 -- the page of contents over a text: the last header is chosen that the top row has, or that is above
-abbrev pub contents_page : List LineContent → State → Content
-contents_page lines s = headers lines (lines_before (part_numbers true 0 lines) (next (part_of s.starts s.page.top)) - 1)
+abbrev pub contents_page : List SectionContent → State → Content
+contents_page page s = headers page (count_below (header_numbers 0 page) (next (part_of s.laid.starts.items s.page.top)) - 1)
 
 -- a page over a text, at its start
 abbrev pub IsOverStart : Overlay → Leaf → Leaf → Type 0
 IsOverStart overlay.Help below over = IsPageStart help_name help_page below over
 IsOverStart overlay.Links below over = IsPageStart links_name (links_page (said_of below.content) below.state) below over
-IsOverStart overlay.Contents below over = IsPageStart contents_name (contents_page (said_of below.content).lines below.state) below over
+IsOverStart overlay.Contents below over = IsPageStart contents_name (contents_page (said_of below.content).page below.state) below over
 
 -- a page is opened over a text, or not
 abbrev pub IsCovered : Option Overlay → Leaf → Option Leaf → Type 0
@@ -207,7 +202,7 @@ pub record IsTextStep (event : Event) (below : Leaf) (new : View) : Type 0 where
 
 -- it has headers, one of which is chosen
 abbrev pub has_choice : Content → Bool
-has_choice (headers text chosen) = true
+has_choice (headers page chosen) = true
 has_choice content = false
 
 -- the code of Enter
@@ -241,11 +236,11 @@ over_answer event over = Passes
 -- the header that is chosen after a key: each has one row of a page that shows one row
 abbrev pub choice_after : KeyEvent → State → ℕ → ℕ
 choice_after key s chosen =
-    (after_key key (record { columns = s.page.columns; rows = 2; height = length s.starts - 1; top = chosen; count = s.page.count; holds_bar = false; has_colon = false; files = s.page.files })).page.top
+    (after_key key (record { columns = s.page.columns; rows = 2; height = length s.laid.starts.items - 1; top = chosen; count = s.page.count; holds_bar = false; has_colon = false; files = s.page.files })).page.top
 
 -- the content after a key that chooses: another header is chosen, where it has headers
 abbrev pub content_chosen : KeyEvent → State → Content → Content
-content_chosen key s (headers text chosen) = headers text (choice_after key s chosen)
+content_chosen key s (headers page chosen) = headers page (choice_after key s chosen)
 content_chosen key s content = content
 
 -- the size that it is to be laid out for: what was told last, or else that of the screen
@@ -266,15 +261,15 @@ pub record IsChoice (key : KeyEvent) (old new : Leaf) : Type 0 where
   pub skin : new.skin ≡ old.skin
   pub name : new.name ≡ old.name
   pub content : new.content ≡ content_chosen key old.state old.content
-  pub laid : IsResized old.skin (content_lines (content_chosen key old.state old.content)) (size_to_lay old.state).columns (size_to_lay old.state).rows (uncounted_state old.state) new.state
+  pub laid : IsResized old.skin (content_page (content_chosen key old.state old.content)) (size_to_lay old.state).columns (size_to_lay old.state).rows (uncounted_state old.state) new.state
 
--- the row in which the part begins whose number has this index, if one has it
+-- the row in which the section begins whose number has this index, if one has it
 abbrev pub row_at : List ℕ → List ℕ → ℕ → Option ℕ
-row_at parts starts index = option_map (slice_index starts) (slice_get parts index)
+row_at numbers starts index = option_map (slice_index starts) (slice_get numbers index)
 
--- the row of the header that is chosen, in a text whose parts begin in these rows
+-- the row of the header that is chosen, in a text whose sections begin in these rows
 abbrev pub header_row : Content → List ℕ → Option ℕ
-header_row (headers text chosen) starts = row_at (part_numbers true 0 text) starts chosen
+header_row (headers page chosen) starts = row_at (header_numbers 0 page) starts chosen
 header_row content starts = None
 
 -- What closes it: nothing else.
@@ -284,7 +279,7 @@ pub record IsClosed (below : Leaf) (new : View) : Type 0 where
 
 -- What takes the header that is chosen: it is on top of the text.
 pub record IsTaken (page below : Leaf) (new : View) : Type 0 where
-  pub text : new.text ≡ record below { state = at_header (header_row page.content below.state.starts) below.state }
+  pub text : new.text ≡ record below { state = at_header (header_row page.content below.state.laid.starts.items) below.state }
   pub over : new.over ≡ None
 
 -- What chooses another header.
@@ -346,11 +341,11 @@ turn_in event v = turn_at v.over event v.text
 -- it is laid out for the size that was told, if one was
 pub record IsLeafSettled (old new : Leaf) : Type 0 where
   pub same : IsSameLeaf old new
-  pub settled : IsSettled old.skin (leaf_lines old) old.state new.state
+  pub settled : IsSettled old.skin (leaf_page old) old.state new.state
 
 -- the header that is chosen, if one is, is on the screen
 abbrev pub sighted : Content → State → State
-sighted (headers text chosen) s = record s { page = in_sight s.page (slice_index s.starts chosen) }
+sighted (headers page chosen) s = record s { page = in_sight s.page (slice_index s.laid.starts.items chosen) }
 sighted content s = s
 
 -- what is shown, with the header that is chosen on the screen
@@ -371,7 +366,7 @@ pub record IsViewSettled (old new : View) : Type 0 where
 
 -- the session of what is shown is orderly
 abbrev pub IsOrderlyLeaf : Leaf → Type 0
-IsOrderlyLeaf l = IsOrderly l.skin (leaf_lines l) l.state
+IsOrderlyLeaf l = IsOrderly l.skin (leaf_page l) l.state
 
 -- so is that of the page over a text, while one is open
 abbrev pub IsOrderlyOver : Option Leaf → Type 0

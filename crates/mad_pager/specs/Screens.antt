@@ -1,9 +1,9 @@
 -- What the screen shows of a session.
-use Rattle.std.specs.Prelude.{◌≡◌, ℕ, ◌+◌, ◌-◌, ◌<◌, ◌≤◌, ◌++◌, nat_lt, ◌||◌, Bool, true, false, List, [], ◌∷◌, length, min, take, drop, codes, decimal, Option, Some, None, IfSome, if◌then◌else◌}
+use Rattle.std.specs.Prelude.{◌≡◌, ℕ, ◌+◌, ◌-◌, ◌<◌, ◌≤◌, ◌++◌, nat_lt, ◌||◌, Bool, true, false, List, [], ◌∷◌, length, count_by, min, take, codes, decimal, Option, Some, None, IfSome, if◌then◌else◌}
 use Rattle.std.specs.List.{flat_map, range_with_len}
 use Rattle.std.specs.Str.{chars}
 use Rattle.mad_md.specs.Flagged.{flagged, flagged_of, unflagged}
-use Rattle.mad_md.specs.Lines.{LineContent}
+use Rattle.mad_sections.specs.Sections.{SectionContent}
 use Rattle.mad_md.specs.declared.alignment.Alignment.TheVariants.{Left}
 use Rattle.mad_measure.specs.TextColumns.{width_of}
 use Rattle.mad_style.specs.CompoundStyles.{attribute_added, unstyled}
@@ -14,10 +14,11 @@ use Rattle.mad_format.specs.Wraps.{IsMeasured}
 use Rattle.mad_format.specs.declared.composite.FmtComposite.{FmtComposite}
 use Rattle.mad_format.specs.declared.line.FmtLine.TheVariants.{Normal}
 use Rattle.mad_wrap.specs.WrapLines.{capped}
-use Rattle.mad_blocks.specs.TextParts.{lines_in_parts}
-use Rattle.mad_hits.specs.Parts.{AreRowsMarked}
-use Rattle.mad_layout.specs.Premises.{KeepsPremises, AreTyped}
-use Rattle.mad_rows.specs.RowStyles.{line_rules, with_links}
+use Rattle.mad_hits.specs.FrontHits.{AreRowsMarked}
+use Rattle.mad_hits.specs.Panes.{page_rows}
+use Rattle.mad_page_rows.specs.FaceLaws.{AreFacesShown}
+use Rattle.mad_page_rows.specs.PageFits.{KeepsRoom, sections_at}
+use Rattle.mad_rows.specs.RowStyles.{line_rules}
 use Rattle.mad_page.specs.Pages.{percent}
 use Rattle.mad_search.specs.Searches.{composite_text}
 use Rattle.mad_term.specs.Trace.{Trace, after, flushed, CutShort}
@@ -27,7 +28,7 @@ use Rattle.mad_term.specs.declared.errors.Error.TheVariants.{IO, InsufficientWid
 use Rattle.mad_measure.specs.declared.area.Area.{Area}
 use Rattle.mad_format.specs.declared.line.FmtLine.{FmtLine}
 use Rattle.mad_draw.specs.BarsApart.{AreShownBeside}
-use Rattle.mad_draw.specs.BesideBar.{bar_beside, columns_beside, IsBarShown}
+use Rattle.mad_draw.specs.BesideBar.{bar_beside, beside_bar, columns_beside, IsBarShown}
 use Rattle.mad_draw.specs.DrawnRows.{AreRowsShown}
 use Rattle.mad_draw.specs.Panes.{Pane, ArePanesShown, ShowsEach}
 use Rattle.mad_draw.specs.Pieces.{RowPiece, char_piece}
@@ -36,12 +37,12 @@ use Rattle.mad_field.specs.Drawn.{row_pieces}
 use Rattle.mad_layout.specs.Drawable.{AreDrawable}
 use Rattle.mad_layout.specs.RowSkins.{row_skin}
 use Rattle.mad_layout.specs.Skins.{no_style_skin}
-use Rattle.mad_layout.specs.Shown.{area_row, text_row}
+use Rattle.mad_layout.specs.Shown.{area_row}
 use Rattle.mad_layout.specs.declared.skin.MadSkin.{MadSkin}
 use Rattle.mad_rows.specs.declared.row_skin.RowSkin.{RowSkin}
 use Rattle.std.specs.List.{AllByRecursion}
 use Rattle.mad_characters.specs.Columns.{char_columns}
-use Rattle.mad_pager.specs.Sessions.{State, IsLaidFor, field_row, last_row, layout_width, prompt_cell, text_area}
+use Rattle.mad_pager.specs.Sessions.{State, IsLaidFor, paged_skin, field_row, last_row, layout_width, prompt_cell, text_area}
 
 -- a screen that shows nothing: it has under five columns or under two rows
 abbrev pub is_small : State → Bool
@@ -53,11 +54,7 @@ area_of s = text_area s.page.columns s.page.rows
 
 -- the bar beside the text, if not all its rows fit
 abbrev pub bar_of : MadSkin → State → Option ScrollBar
-bar_of skin s = bar_beside (area_of s) s.page.top (length s.lines) skin.scrollbar
-
--- what rows show of the skin, with links that one sees
-abbrev pub paged_skin : MadSkin → RowSkin
-paged_skin skin = with_links (row_skin skin)
+bar_of skin s = bar_beside (area_of s) s.page.top (length s.laid.lines.items) skin.scrollbar
 
 -- the columns that the bar leaves to the text, if there is a bar
 abbrev pub text_columns : MadSkin → State → ℕ
@@ -65,11 +62,11 @@ text_columns skin s = columns_beside (bar_of skin s) (area_of s).width
 
 -- the text's rows from the top one on, in these columns
 abbrev pub text_rows : MadSkin → State → ℕ → List RowPiece
-text_rows skin s = text_row (paged_skin skin) (text_columns skin s) s.lines s.page.top
+text_rows skin s = page_rows (paged_skin skin) (bar_of skin s) s.laid.lines.items s.laid.fronts.items s.page.top s.page.columns
 
 -- the text's rows beside the bar
 abbrev pub text_pane : MadSkin → State → Pane
-text_pane skin s = record { area = area_of s; row = area_row (paged_skin skin) (bar_of skin s) s.lines (area_of s) s.page.top }
+text_pane skin s = record { area = area_of s; row = beside_bar (bar_of skin s) (text_rows skin s) }
 
 -- one line in the last row
 abbrev pub status_pane : RowSkin → FmtLine → State → Pane
@@ -142,20 +139,24 @@ pub record IsFieldInRow (s : State) : Type 0 where
   pub area : s.field.area ≡ field_row s.page.columns s.page.rows
   pub typed : TakeColumns s.field.content.text
 
--- What a session keeps from its start on: its lines are a layout of the text for its screen, and its field is in the last row.
-pub record IsOrderly (skin : MadSkin) (text : List LineContent) (s : State) : Type 0 where
-  pub lines : IsLaidFor skin text s.page.columns s.lines
+-- What a session keeps from its start on: the text is laid out for its screen, and its field is in the last row.
+pub record IsOrderly (skin : MadSkin) (page : List SectionContent) (s : State) : Type 0 where
+  pub laid : IsLaidFor skin page s.page.columns s.laid
   pub field : IsFieldInRow s
 
 -- ---- what is shown
 
--- What the text has to keep: the rows on the screen are a layout of a text that, as far as the screen reaches, is as its types promise and keeps
--- the premises, and the characters of the bar, if there is one, take one column each.
+-- the count of the sections that begin above the end of the screen
+abbrev pub count_begun : State → ℕ
+count_begun s = count_by (λ start. nat_lt start (s.page.top + (area_of s).height)) s.laid.starts.items
+
+-- What the text has to keep: what is laid out is a page each of whose sections, as far as the screen reaches, keeps the premises. The characters that the
+-- skin shows beside text, and those of the bar, if there is one, take one column each.
 pub record KeepsTextPremises (skin : MadSkin) (s : State) : Type 0 where
-  pub text : List LineContent
-  pub layout : IsLaidFor skin text s.page.columns s.lines
-  pub typed : AreTyped (take (s.page.top + (area_of s).height) (lines_in_parts text))
-  pub keeps : KeepsPremises (paged_skin skin) (layout_width s.page.columns) (take (s.page.top + (area_of s).height) (lines_in_parts text))
+  pub page : List SectionContent
+  pub laid : IsLaidFor skin page s.page.columns s.laid
+  pub keeps : AllByRecursion (KeepsRoom (paged_skin skin) (layout_width s.page.columns)) (sections_at (paged_skin skin) (layout_width s.page.columns) (take (count_begun s) page))
+  pub faces : AreFacesShown (paged_skin skin)
   pub bar : IfSome (bar_of skin s) (IsBarShown s.page.columns)
 
 -- These bytes show the text from its top row on, beside its bar. The bar has bytes of its own, which show it in the last column whatever was read
@@ -200,11 +201,11 @@ pub record ArePanesDrawn (skin : MadSkin) (name : List ℕ) (s : State) (bytes :
 
 -- the text's rows that are on the screen
 abbrev pub rows_shown : State → List ℕ
-rows_shown s = range_with_len s.page.top (min (area_of s).height (length s.lines - s.page.top))
+rows_shown s = range_with_len s.page.top (min (area_of s).height (length s.laid.lines.items - s.page.top))
 
 -- these bytes mark what is sought in these rows, which have the columns that the text is drawn in
 abbrev pub AreHitsDrawn : MadSkin → State → List ℕ → Type 0
-AreHitsDrawn skin s bytes = AreRowsMarked (paged_skin skin) (text_columns skin s) s.sought s.lines s.starts 0 (rows_shown s) bytes
+AreHitsDrawn skin s bytes = AreRowsMarked (paged_skin skin) (text_columns skin s) s.sought s.laid.lines.items s.laid.fronts.items s.laid.parts.items 0 (rows_shown s) bytes
 
 -- These bytes show a session: first the text and the last row, and then, over the text, what is sought. Each byte of a hit is written in the cells of
 -- the hit alone.

@@ -1,7 +1,7 @@
 -- A session of the pager: what is shown and sought, and what an event does.
 use Rattle.std.specs.Prelude.{◌≡◌, ◌≢◌, ℕ, ◌+◌, ◌-◌, ◌*◌, ◌^◌, ◌==◌, nat_lt, not, Bool, true, false, List, [], Option, Some, None, length, min, encode_utf8_all, string_bytes, if◌then◌else◌}
 use Rattle.mad_characters.specs.Columns.{char_columns}
-use Rattle.mad_md.specs.Lines.{LineContent}
+use Rattle.mad_sections.specs.Sections.{SectionContent}
 use Rattle.mad_term.specs.declared.events.Event.{Event}
 use Rattle.mad_term.specs.declared.events.Event.TheVariants.{Key, Mouse, Resize}
 use Rattle.mad_term.specs.declared.keys.KeyCode.{KeyCode}
@@ -9,14 +9,16 @@ use Rattle.mad_term.specs.declared.keys.KeyCode.TheVariants.{Char, Enter, Esc}
 use Rattle.mad_term.specs.declared.keys.KeyEvent.{KeyEvent}
 use Rattle.mad_term.specs.Events.{modifier_bits}
 use Rattle.mad_measure.specs.declared.area.Area.{Area}
-use Rattle.mad_format.specs.declared.line.FmtLine.{FmtLine}
+use Rattle.mad_page_rows.specs.Faces.{has_ascii_boxes}
+use Rattle.mad_pages.specs.PagedPages.{IsPagedAt}
+use Rattle.mad_pages.specs.declared.paged.PagedPage.{PagedPage}
 use Rattle.mad_field.specs.Fields.{Field, new_field}
 use Rattle.mad_field.specs.Keys.{key_outcome}
 use Rattle.mad_field.specs.Scrolls.{rescrolled}
-use Rattle.mad_blocks.specs.Layouts.{IsLayoutAt}
 use Rattle.mad_layout.specs.RowSkins.{row_skin}
 use Rattle.mad_layout.specs.declared.skin.MadSkin.{MadSkin}
-use Rattle.mad_rows.specs.RowStyles.{line_rules}
+use Rattle.mad_rows.specs.RowStyles.{line_rules, with_links}
+use Rattle.mad_rows.specs.declared.row_skin.RowSkin.{RowSkin}
 use Rattle.mad_page.specs.PageKeys.{after_key, after_mouse, is_break}
 use Rattle.mad_page.specs.Pages.{in_sight, shows_row}
 use Rattle.mad_page.specs.declared.commands.Ask.{Ask}
@@ -24,7 +26,7 @@ use Rattle.mad_page.specs.declared.commands.Ask.TheVariants.{Search, Next, Previ
 use Rattle.mad_page.specs.declared.page.Files.{Files}
 use Rattle.mad_page.specs.declared.page.Page.{Page}
 use Rattle.mad_search.specs.Headers.{next_header, previous_header}
-use Rattle.mad_search.specs.KeptRows.{ArePartStarts, row_in_parts}
+use Rattle.mad_search.specs.KeptRows.{row_in_parts}
 use Rattle.mad_search.specs.Searches.{IsNextRowIn, IsPreviousRowIn}
 use Rattle.mad_pager.specs.declared.session.Session.{Session}
 use Rattle.mad_pager.specs.declared.session.End.{End}
@@ -37,12 +39,11 @@ use Rattle.mad_pager.specs.declared.sizes.ScreenSize.{ScreenSize}
 
 -- ---- what it is of
 
--- What is shown and sought: which row is on top of which lines, the rows in which parts of the text begin, what is being typed, if it is, and what
--- is sought. Then which row the last search found, or that it found none, and the size that the terminal told, until the text is laid out for it.
+-- What is shown and sought: which row is on top of which page, what is being typed, if it is, and what is sought. Then which row the last search found,
+-- or that it found none, and the size that the terminal told, until the text is laid out for it.
 pub record State : Type 0 where
   pub page : Page
-  pub lines : List FmtLine
-  pub starts : List ℕ
+  pub laid : PagedPage
   pub field : Field
   pub is_typing : Bool
   pub sought : List ℕ
@@ -54,8 +55,7 @@ pub record State : Type 0 where
 abbrev pub state_of : Session → State
 state_of s = record {
   page = s.page;
-  lines = s.text.lines.items;
-  starts = s.starts.items;
+  laid = s.laid;
   field = s.field;
   is_typing = s.is_typing;
   sought = string_bytes s.sought;
@@ -64,11 +64,11 @@ state_of s = record {
   told = s.told;
 }
 
--- what stays the same in a session: its text and its skin, in which the lines are laid out
+-- what stays the same in a session: its text and its skin, in which it is laid out
 pub record HasSameText (old new : Session) : Type 0 where
   pub name : new.name.now ≡ old.name.now
   pub source : new.source ≡ old.source
-  pub skin : new.text.skin.now ≡ old.text.skin.now
+  pub skin : new.skin.now ≡ old.skin.now
 
 -- the area of the text on a screen of this size: all rows but the last
 abbrev pub text_area : ℕ → ℕ → Area
@@ -90,19 +90,18 @@ field_row columns rows = record { left = 1; top = rows - 1; width = columns - 1;
 abbrev pub layout_width : ℕ → ℕ
 layout_width columns = columns - 1
 
--- these lines are a layout of a text for a screen of these columns
-abbrev pub IsLaidFor : MadSkin → List LineContent → ℕ → List FmtLine → Type 0
-IsLaidFor skin text columns lines = IsLayoutAt (line_rules (row_skin skin)) (Some (layout_width columns)) text lines
+-- what rows show of the skin, with links that one sees
+abbrev pub paged_skin : MadSkin → RowSkin
+paged_skin skin = with_links (row_skin skin)
 
--- in these rows its parts begin
-abbrev pub AreStartsFor : MadSkin → List LineContent → ℕ → List ℕ → Type 0
-AreStartsFor skin text columns starts = ArePartStarts (line_rules (row_skin skin)) (layout_width columns) text starts
+-- sections are laid out for a screen of these columns
+abbrev pub IsLaidFor : MadSkin → List SectionContent → ℕ → PagedPage → Type 0
+IsLaidFor skin page columns laid = IsPagedAt (line_rules (paged_skin skin)) (has_ascii_boxes (paged_skin skin)) (Some (layout_width columns)) page laid
 
 -- the start of a text on a screen of this size: its first row is on top, nothing is being typed and nothing is sought; these files are beside it
-pub record IsStart (skin : MadSkin) (text : List LineContent) (columns rows : ℕ) (files : Files) (s : State) : Type 0 where
-  pub lines : IsLaidFor skin text columns s.lines
-  pub starts : AreStartsFor skin text columns s.starts
-  pub page : s.page ≡ record { columns = columns; rows = rows; height = length s.lines; top = 0; count = 0; holds_bar = false; has_colon = false; files = files }
+pub record IsStart (skin : MadSkin) (page : List SectionContent) (columns rows : ℕ) (files : Files) (s : State) : Type 0 where
+  pub laid : IsLaidFor skin page columns s.laid
+  pub page : s.page ≡ record { columns = columns; rows = rows; height = length s.laid.lines.items; top = 0; count = 0; holds_bar = false; has_colon = false; files = files }
   pub field : s.field ≡ new_field (field_row columns rows)
   pub is_typing : s.is_typing ≡ false
   pub sought : s.sought ≡ []
@@ -147,10 +146,10 @@ forgotten s = record s { sought = []; found = None; is_missing = false }
 -- What is asked for is done.
 abbrev pub IsAsked : Ask → State → State → Type 0
 IsAsked Search s new = new ≡ record s { field = new_field (field_row s.page.columns s.page.rows); is_typing = true }
-IsAsked Next s new = (row : Option ℕ) × IsNextRowIn s.sought s.lines s.starts (search_start s) row × (new ≡ at_found row s)
-IsAsked Previous s new = (row : Option ℕ) × IsPreviousRowIn s.sought s.lines s.starts (search_end s) row × (new ≡ at_found row s)
-IsAsked NextHeader s new = new ≡ at_header (next_header s.lines s.starts s.page.top) s
-IsAsked PreviousHeader s new = new ≡ at_header (previous_header s.lines s.starts s.page.top) s
+IsAsked Next s new = (row : Option ℕ) × IsNextRowIn s.sought s.laid.lines.items s.laid.parts.items (search_start s) row × (new ≡ at_found row s)
+IsAsked Previous s new = (row : Option ℕ) × IsPreviousRowIn s.sought s.laid.lines.items s.laid.parts.items (search_end s) row × (new ≡ at_found row s)
+IsAsked NextHeader s new = new ≡ at_header (next_header s.laid.lines.items s.laid.starts.items s.page.top) s
+IsAsked PreviousHeader s new = new ≡ at_header (previous_header s.laid.lines.items s.laid.starts.items s.page.top) s
 IsAsked Forget s new = new ≡ forgotten s
 IsAsked ask s new = new ≡ s
 
@@ -183,15 +182,14 @@ pub record IsMovedTo (area : Area) (old new : Field) : Type 0 where
   pub same : area ≡ old.area → new ≡ old
   pub other : area ≢ old.area → new ≡ rescrolled (record old { area = area })
 
--- the row that stays on top on a screen of other columns, by the rows in which parts begin; of as many columns it is the same
+-- the row that stays on top on a screen of other columns, by the rows in which sections begin; of as many columns it is the same
 abbrev pub kept_row : ℕ → ℕ → List ℕ → List ℕ → ℕ → ℕ
 kept_row old_columns new_columns old new row = if new_columns == old_columns then row else row_in_parts old new row
 
--- The screen has another size: the lines are a layout for it, and what was on top stays there.
-pub record IsResized (skin : MadSkin) (text : List LineContent) (columns rows : ℕ) (old new : State) : Type 0 where
-  pub lines : IsLaidFor skin text columns new.lines
-  pub starts : AreStartsFor skin text columns new.starts
-  pub page : new.page ≡ record old.page { columns = columns; rows = rows; height = length new.lines; top = kept_row old.page.columns columns old.starts new.starts old.page.top }
+-- The screen has another size: the text is laid out for it, and what was on top stays there.
+pub record IsResized (skin : MadSkin) (page : List SectionContent) (columns rows : ℕ) (old new : State) : Type 0 where
+  pub laid : IsLaidFor skin page columns new.laid
+  pub page : new.page ≡ record old.page { columns = columns; rows = rows; height = length new.laid.lines.items; top = kept_row old.page.columns columns old.laid.starts.items new.laid.starts.items old.page.top }
   pub field : IsMovedTo (field_row columns rows) old.field new.field
   pub is_typing : new.is_typing ≡ old.is_typing
   pub sought : new.sought ≡ old.sought
@@ -200,13 +198,13 @@ pub record IsResized (skin : MadSkin) (text : List LineContent) (columns rows : 
   pub told : new.told ≡ None
 
 -- the text is laid out for the size that was told, if one was
-abbrev pub IsLaidAnew : Option ScreenSize → MadSkin → List LineContent → State → State → Type 0
-IsLaidAnew None skin text s new = new ≡ s
-IsLaidAnew (Some size) skin text s new = IsResized skin text size.columns size.rows s new
+abbrev pub IsLaidAnew : Option ScreenSize → MadSkin → List SectionContent → State → State → Type 0
+IsLaidAnew None skin page s new = new ≡ s
+IsLaidAnew (Some size) skin page s new = IsResized skin page size.columns size.rows s new
 
 -- a session is laid out for the size that it was told, if it was told one
-abbrev pub IsSettled : MadSkin → List LineContent → State → State → Type 0
-IsSettled skin text s new = IsLaidAnew s.told skin text s new
+abbrev pub IsSettled : MadSkin → List SectionContent → State → State → Type 0
+IsSettled skin page s new = IsLaidAnew s.told skin page s new
 
 -- a size that the terminal tells is remembered; one of more than a million cells isn't believed
 abbrev pub hears_size : ℕ → ℕ → State → State
@@ -223,11 +221,11 @@ pub record IsAnyKeyStep (key : KeyEvent) (s new : State) : Type 0 where
   pub other : s.is_typing ≡ false → IsKeyStep key s new
 
 -- what an event does
-abbrev pub IsEventStep : MadSkin → List LineContent → Event → State → State → Type 0
-IsEventStep skin text (Key key) s new = IsAnyKeyStep key s new
-IsEventStep skin text (Mouse mouse) s new = new ≡ record s { page = after_mouse mouse s.page }
-IsEventStep skin text (Resize columns rows) s new = new ≡ hears_size columns rows s
-IsEventStep skin text event s new = new ≡ s
+abbrev pub IsEventStep : MadSkin → List SectionContent → Event → State → State → Type 0
+IsEventStep skin page (Key key) s new = IsAnyKeyStep key s new
+IsEventStep skin page (Mouse mouse) s new = new ≡ record s { page = after_mouse mouse s.page }
+IsEventStep skin page (Resize columns rows) s new = new ≡ hears_size columns rows s
+IsEventStep skin page event s new = new ≡ s
 
 -- how the session goes on after what is asked for
 abbrev pub turn_asked : Ask → Turn

@@ -4,15 +4,14 @@ ghost use Rattle.std.specs.Prelude.{◌≡◌, OnOk, IfOk, MatchResult, ℕ, Lis
 ghost use Rattle.mad_term.specs.Trace.{TookWith, Writes};
 ghost use Rattle.mad_pager.specs.Pictures.{picture_trace};
 ghost use Rattle.mad_pager.specs.Sessions.{state_of};
-ghost use Rattle.mad_pager.specs.Screens.{AreHitsDrawn, AreLinesShown, ArePanesDrawn, IsDrawing, IsFieldRow, IsFieldShown, IsLastRow, IsPicture, IsShown, IsUnshown, is_small, question, text_columns};
+ghost use Rattle.mad_pager.specs.Screens.{AreHitsDrawn, AreLinesShown, ArePanesDrawn, IsDrawing, IsFieldRow, IsFieldShown, IsLastRow, IsPicture, IsShown, IsUnshown, bar_of, is_small, question};
 
 use crate::picture::Picture;
 use crate::places::{field_row, prompt_cell, text_area};
 use crate::session::Session;
-use crate::sizes::height_of;
-use mad_draw::{Rows, ScrollBar, columns_beside, draw_rows};
-use mad_hits::draw_row_hits;
-use mad_layout::draw_text_beside;
+use crate::sizes::{height_of, paged_skin};
+use mad_draw::{Rows, ScrollBar, draw_rows};
+use mad_hits::{draw_page_rows, draw_row_hits, left_columns};
 use mad_style::StyledChar;
 use mad_term::{Error, Out, put_all};
 use std::alloc::{AllocError, Global};
@@ -34,8 +33,8 @@ impl Session<'_> {
     ///
     /// A fault of the device, or out of memory. Out of memory nothing went out.
     pub fn show<O: Out>(&self, alloc: Global, out: &mut O, asks: bool) -> Result<(), Error>
-        ensures { MatchResult result (λ _. IsShown self.now.text.skin.now self.now.name.now asks (state_of self.now) (O.seen out.old) (O.seen out.new))
-            (λ e. IsUnshown self.now.text.skin.now self.now.name.now asks (state_of self.now) (O.seen out.old) e (O.seen out.new)) }
+        ensures { MatchResult result (λ _. IsShown self.now.skin.now self.now.name.now asks (state_of self.now) (O.seen out.old) (O.seen out.new))
+            (λ e. IsUnshown self.now.skin.now self.now.name.now asks (state_of self.now) (O.seen out.old) e (O.seen out.new)) }
     {
         let picture = self.picture(alloc)?;
         ask_size(out, asks)?;
@@ -46,7 +45,7 @@ impl Session<'_> {
 
     // The screen, drawn in memory. Nothing is drawn on one that is too small.
     fn picture(&self, alloc: Global) -> Result<Picture, AllocError>
-        ensures { IfOk result (λ picture. (bytes : List ℕ) × ((picture_trace picture).bytes ≡ Some bytes) × IsPicture self.now.text.skin.now self.now.name.now (state_of self.now) bytes) }
+        ensures { IfOk result (λ picture. (bytes : List ℕ) × ((picture_trace picture).bytes ≡ Some bytes) × IsPicture self.now.skin.now self.now.name.now (state_of self.now) bytes) }
     {
         let mut picture = Picture::new(alloc);
         let is_small = self.is_small();
@@ -70,7 +69,7 @@ impl Session<'_> {
     // Draws the text beside its bar, in the last row what is typed or the status, and last what is sought once more, reversed.
     fn draw<O: Out>(&self, alloc: Global, out: &mut O) -> Result<(), Error>
         requires { is_small (state_of self.now) ≡ false }
-        ensures { OnOk result (TookWith (O.seen out.old) (O.seen out.new) (IsDrawing self.now.text.skin.now self.now.name.now (state_of self.now))) }
+        ensures { OnOk result (TookWith (O.seen out.old) (O.seen out.new) (IsDrawing self.now.skin.now self.now.name.now (state_of self.now))) }
     {
         self.draw_panes(alloc, out)?;
         self.draw_hits(alloc, out)?;
@@ -80,7 +79,7 @@ impl Session<'_> {
     // Draws the text beside its bar, and in the last row what is typed or the status.
     fn draw_panes<O: Out>(&self, alloc: Global, out: &mut O) -> Result<(), Error>
         requires { is_small (state_of self.now) ≡ false }
-        ensures { OnOk result (TookWith (O.seen out.old) (O.seen out.new) (ArePanesDrawn self.now.text.skin.now self.now.name.now (state_of self.now))) }
+        ensures { OnOk result (TookWith (O.seen out.old) (O.seen out.new) (ArePanesDrawn self.now.skin.now self.now.name.now (state_of self.now))) }
     {
         self.draw_lines(alloc, out)?;
         self.draw_last_row(alloc, out)?;
@@ -89,40 +88,47 @@ impl Session<'_> {
 
     // Draws what is sought once more, wherever it is on the screen.
     fn draw_hits<O: Out>(&self, alloc: Global, out: &mut O) -> Result<(), Error>
-        ensures { OnOk result (TookWith (O.seen out.old) (O.seen out.new) (AreHitsDrawn self.now.text.skin.now (state_of self.now))) }
+        ensures { OnOk result (TookWith (O.seen out.old) (O.seen out.new) (AreHitsDrawn self.now.skin.now (state_of self.now))) }
     {
         draw_row_hits(
             alloc,
             out,
-            &self.text.skin.row_skin().with_links(),
-            self.text.lines.as_slice(),
-            self.starts.as_slice(),
+            &paged_skin(self.skin),
+            self.laid.lines.as_slice(),
+            self.laid.fronts.as_slice(),
+            self.laid.parts.as_slice(),
             self.page.top,
-            self.text_columns(),
+            left_columns(self.bar(), self.page.columns),
             self.page.body_rows(),
             self.sought.as_str(),
         )?;
         Ok(())
     }
 
-    // The columns that the bar leaves to the text, if there is a bar.
-    fn text_columns(&self) -> u16
-        ensures { result ≡ text_columns self.now.text.skin.now (state_of self.now) }
+    // The bar beside the text, if not all its rows fit.
+    fn bar(&self) -> Option<ScrollBar>
+        ensures { result ≡ bar_of self.now.skin.now (state_of self.now) }
     {
         let area = text_area(self.page.columns, self.page.rows);
-        let height = height_of(&self.text);
-        let bar = ScrollBar::beside(&area, self.page.top, height, self.text.skin.scrollbar);
-        columns_beside(bar, usize::from(area.width)) as u16
+        ScrollBar::beside(&area, self.page.top, height_of(&self.laid), self.skin.scrollbar)
     }
 
     // Draws the text from its top row on, with links that one sees, and its bar by moves of its own.
     fn draw_lines<O: Out>(&self, alloc: Global, out: &mut O) -> Result<(), Error>
         requires { is_small (state_of self.now) ≡ false }
-        ensures { OnOk result (TookWith (O.seen out.old) (O.seen out.new) (AreLinesShown self.now.text.skin.now (state_of self.now))) }
+        ensures { OnOk result (TookWith (O.seen out.old) (O.seen out.new) (AreLinesShown self.now.skin.now (state_of self.now))) }
     {
-        let area = text_area(self.page.columns, self.page.rows);
-        let skin = self.text.skin.row_skin().with_links();
-        draw_text_beside(alloc, out, &skin, &self.text, &area, self.page.top, true)?;
+        draw_page_rows(
+            alloc,
+            out,
+            &paged_skin(self.skin),
+            self.bar(),
+            self.laid.lines.as_slice(),
+            self.laid.fronts.as_slice(),
+            self.page.top,
+            self.page.columns,
+            self.page.body_rows(),
+        )?;
         Ok(())
     }
 

@@ -48,13 +48,13 @@ impl Session<'_> {
 
     // The next row that has what is sought: after the one found last, where that is on the screen, and else from the top on.
     fn row_after(&self, alloc: Global) -> Result<Option<usize>, AllocError>
-        ensures { IfOk result (IsNextRowIn (string_bytes self.now.sought) self.now.text.lines.items self.now.starts.items (search_start (state_of self.now))) }
+        ensures { IfOk result (IsNextRowIn (string_bytes self.now.sought) self.now.laid.lines.items self.now.laid.parts.items (search_start (state_of self.now))) }
     {
         let from = self.search_start();
         let row = next_row_in(
             alloc,
-            self.text.lines.as_slice(),
-            self.starts.as_slice(),
+            self.laid.lines.as_slice(),
+            self.laid.parts.as_slice(),
             self.sought.as_str(),
             from,
         )?;
@@ -63,13 +63,13 @@ impl Session<'_> {
 
     // The row before that has it: before the one found last, where that is on the screen, and else before the top.
     fn row_before(&self, alloc: Global) -> Result<Option<usize>, AllocError>
-        ensures { IfOk result (IsPreviousRowIn (string_bytes self.now.sought) self.now.text.lines.items self.now.starts.items (search_end (state_of self.now))) }
+        ensures { IfOk result (IsPreviousRowIn (string_bytes self.now.sought) self.now.laid.lines.items self.now.laid.parts.items (search_end (state_of self.now))) }
     {
         let end = self.search_end();
         let row = previous_row_in(
             alloc,
-            self.text.lines.as_slice(),
-            self.starts.as_slice(),
+            self.laid.lines.as_slice(),
+            self.laid.parts.as_slice(),
             self.sought.as_str(),
             end,
         )?;
@@ -108,7 +108,7 @@ impl Session<'_> {
 
     // Puts the next header on top, if there is one.
     pub(crate) fn go_to_next_header(&mut self)
-        ensures done { state_of self.new ≡ at_header (next_header self.old.text.lines.items self.old.starts.items self.old.page.top) (state_of self.old) }
+        ensures done { state_of self.new ≡ at_header (next_header self.old.laid.lines.items self.old.laid.starts.items self.old.page.top) (state_of self.old) }
         ensures text { HasSameText self.old self.new }
     {
         let row = self.header_after();
@@ -117,7 +117,7 @@ impl Session<'_> {
 
     // Puts the header before on top, if there is one.
     pub(crate) fn go_to_previous_header(&mut self)
-        ensures done { state_of self.new ≡ at_header (previous_header self.old.text.lines.items self.old.starts.items self.old.page.top) (state_of self.old) }
+        ensures done { state_of self.new ≡ at_header (previous_header self.old.laid.lines.items self.old.laid.starts.items self.old.page.top) (state_of self.old) }
         ensures text { HasSameText self.old self.new }
     {
         let row = self.header_before();
@@ -126,22 +126,22 @@ impl Session<'_> {
 
     // The next header, below the top row.
     fn header_after(&self) -> Option<usize>
-        ensures { result ≡ next_header self.now.text.lines.items self.now.starts.items self.now.page.top }
+        ensures { result ≡ next_header self.now.laid.lines.items self.now.laid.starts.items self.now.page.top }
     {
         next_header(
-            self.text.lines.as_slice(),
-            self.starts.as_slice(),
+            self.laid.lines.as_slice(),
+            self.laid.starts.as_slice(),
             self.page.top,
         )
     }
 
     // The header before, above the top row.
     fn header_before(&self) -> Option<usize>
-        ensures { result ≡ previous_header self.now.text.lines.items self.now.starts.items self.now.page.top }
+        ensures { result ≡ previous_header self.now.laid.lines.items self.now.laid.starts.items self.now.page.top }
     {
         previous_header(
-            self.text.lines.as_slice(),
-            self.starts.as_slice(),
+            self.laid.lines.as_slice(),
+            self.laid.starts.as_slice(),
             self.page.top,
         )
     }

@@ -1,18 +1,16 @@
 //! A page over a text: what it shows, and what keys say there.
 
 ghost use Rattle.std.specs.Prelude.{◌≡◌, IfOk, OnOk, slice_index};
-ghost use Rattle.mad_pager.specs.Pagers.{choice_after, content_chosen, contents_page, has_choice, header_row, is_enter, key_over, last_row_of, leaf_of, links_in, links_page, over_answer, row_at, sighted, size_to_lay, IsChoice};
+ghost use Rattle.mad_pager.specs.Pagers.{choice_after, content_chosen, contents_page, has_choice, header_row, is_enter, key_over, last_row_of, leaf_of, links_page, over_answer, row_at, sighted, size_to_lay, IsChoice};
 ghost use Rattle.mad_pager.specs.Sessions.{at_header, state_of, HasSameText};
-ghost use Rattle.mad_outline.specs.Sources.{addresses, content_of, said_of, text_said};
-ghost use Rattle.markdown_reader.specs.MarkdownSays.{links_said, markdown_says};
+ghost use Rattle.mad_outline.specs.Sources.{content_of, said_of, text_said};
 
 use crate::session::Session;
 use crate::sizes::ScreenSize;
-use mad_outline::{NEVER_LINKS, Source, lines_before, part_at, part_numbers, start_at, text_of};
+use mad_outline::{NEVER_LINKS, Source, count_below, header_numbers, section_at, start_at};
 use mad_page::{Ask, Command, Page, command_of, is_break};
 use mad_search::PagedText;
 use mad_term::{Event, KeyCode, KeyEvent, KeyModifiers};
-use markdown_reader::Markdown;
 use std::alloc::{AllocError, Global};
 
 /// What an event says while a page is over the text.
@@ -104,7 +102,7 @@ impl<'s> Session<'s> {
         let mut page = Page {
             columns: self.page.columns,
             rows: 2,
-            height: self.starts.len().saturating_sub(1),
+            height: self.laid.starts.len().saturating_sub(1),
             top: chosen,
             count: self.page.count,
             holds_bar: false,
@@ -135,7 +133,7 @@ impl<'s> Session<'s> {
     {
         match self.source {
             Source::Contents(_, chosen) => {
-                let row = start_at(self.starts.as_slice(), chosen);
+                let row = start_at(self.laid.starts.as_slice(), chosen);
                 self.page.show_row(row);
             }
             _ => {}
@@ -152,32 +150,19 @@ impl<'s> Session<'s> {
         }
     }
 
-    // What the page of links shows over this text.
-    pub(crate) fn links(&self, alloc: Global) -> Result<Source<'s>, AllocError>
-        ensures { IfOk result (λ source. content_of source ≡ links_page (said_of (content_of self.now.source)) (state_of self.now)) }
+    // What the page of links shows over this text: those of the sections that are on the screen.
+    pub(crate) fn links(&self) -> Source<'s>
+        ensures { content_of result ≡ links_page (said_of (content_of self.now.source)) (state_of self.now) }
     {
-        let text = self.paged();
-        match text {
-            PagedText::Lines(_) => Ok(Source::Text(PagedText::Lines(NEVER_LINKS))),
+        match self.paged() {
+            PagedText::Lines(_) => Source::Text(PagedText::Lines(NEVER_LINKS)),
             PagedText::Markdown(markdown) => {
-                let source = self.links_of(alloc, markdown)?;
-                Ok(source)
+                let starts = self.laid.starts.as_slice();
+                let first = section_at(starts, self.page.top);
+                let last = section_at(starts, self.last_row());
+                Source::Links(markdown, first, last.saturating_add(1))
             }
         }
-    }
-
-    // The links of the lines whose parts are on the screen.
-    fn links_of(&self, alloc: Global, markdown: &'s Markdown) -> Result<Source<'s>, AllocError>
-        ensures { IfOk result (λ source. content_of source ≡ addresses (links_in (markdown_says markdown.now) (links_said markdown.now) (state_of self.now))) }
-    {
-        let text = markdown.text(alloc)?;
-        let numbers = part_numbers(alloc, text.lines.as_slice(), false)?;
-        let starts = self.starts.as_slice();
-        let first = part_at(starts, self.page.top);
-        let last = part_at(starts, self.last_row());
-        let from = lines_before(numbers.as_slice(), first);
-        let to = lines_before(numbers.as_slice(), last.saturating_add(1));
-        Ok(Source::Links(markdown, from, to))
     }
 
     // The text's row in the last row of the screen that it has.
@@ -190,19 +175,18 @@ impl<'s> Session<'s> {
 
     // What the page of contents shows over this text: the header is chosen that the top row is below, or has.
     pub(crate) fn headers(&self, alloc: Global) -> Result<Source<'s>, AllocError>
-        ensures { IfOk result (λ source. content_of source ≡ contents_page (said_of (content_of self.now.source)).lines (state_of self.now)) }
+        ensures { IfOk result (λ source. content_of source ≡ contents_page (said_of (content_of self.now.source)).page (state_of self.now)) }
     {
         let text = self.paged();
-        let whole = text_of(alloc, text)?;
-        let parts = part_numbers(alloc, whole.lines.as_slice(), true)?;
-        let part = part_at(self.starts.as_slice(), self.page.top);
-        let begun = lines_before(parts.as_slice(), part.saturating_add(1));
+        let numbers = header_numbers(alloc, text)?;
+        let section = section_at(self.laid.starts.as_slice(), self.page.top);
+        let begun = count_below(numbers.as_slice(), section.saturating_add(1));
         Ok(Source::Contents(text, begun.saturating_sub(1)))
     }
 
     // Puts the header that is chosen on a page over this text on top, if there is one.
     pub(crate) fn take_choice(&mut self, alloc: Global, over: Source<'s>) -> Result<(), AllocError>
-        ensures done { OnOk result (state_of self.new ≡ at_header (header_row (content_of over.entry) self.old.starts.items) (state_of self.old)) }
+        ensures done { OnOk result (state_of self.new ≡ at_header (header_row (content_of over.entry) self.old.laid.starts.items) (state_of self.old)) }
         ensures text { OnOk result (HasSameText self.old self.new) }
     {
         let row = self.header_row(alloc, over)?;
@@ -212,25 +196,28 @@ impl<'s> Session<'s> {
 
     // The row of the header that is chosen on a page over this text.
     fn header_row(&self, alloc: Global, over: Source<'s>) -> Result<Option<usize>, AllocError>
-        ensures { IfOk result (λ row. row ≡ header_row (content_of over.entry) self.now.starts.items) }
+        ensures { IfOk result (λ row. row ≡ header_row (content_of over.entry) self.now.laid.starts.items) }
     {
         match over {
             Source::Contents(text, chosen) => {
-                let whole = text_of(alloc, text)?;
-                let parts = part_numbers(alloc, whole.lines.as_slice(), true)?;
-                Ok(row_at(parts.as_slice(), self.starts.as_slice(), chosen))
+                let numbers = header_numbers(alloc, text)?;
+                Ok(row_at(
+                    numbers.as_slice(),
+                    self.laid.starts.as_slice(),
+                    chosen,
+                ))
             }
             _ => Ok(None),
         }
     }
 }
 
-// The row in which the part begins whose number has this index, if one has it.
-fn row_at(parts: &[usize], starts: &[usize], index: usize) -> Option<usize>
-    ensures { result ≡ row_at parts.now starts.now index }
+// The row in which the section begins whose number has this index, if one has it.
+fn row_at(numbers: &[usize], starts: &[usize], index: usize) -> Option<usize>
+    ensures { result ≡ row_at numbers.now starts.now index }
 {
-    match parts.get(index) {
-        Some(part) => Some(start_at(starts, *part)),
+    match numbers.get(index) {
+        Some(number) => Some(start_at(starts, *number)),
         None => None,
     }
 }

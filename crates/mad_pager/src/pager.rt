@@ -141,7 +141,7 @@ impl<'s> Pager<'s> {
                 Ok(over)
             }
             Overlay::Links => {
-                let source = self.text.links(alloc)?;
+                let source = self.text.links();
                 let over = self.page_of(alloc, LINKS_NAME, source)?;
                 Ok(over)
             }
@@ -163,7 +163,7 @@ impl<'s> Pager<'s> {
         ensures { IfOk result (λ over. IsPageStart name.now (content_of source.entry) (leaf_of self.now.text) (leaf_of over)) }
     {
         let page = self.text.page;
-        let skin = self.text.text.skin;
+        let skin = self.text.skin;
         let mut over = Session::new(
             alloc,
             name,

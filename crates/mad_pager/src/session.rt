@@ -2,15 +2,16 @@
 
 ghost use Rattle.std.specs.Prelude.{◌≡◌, IfOk, OnOk};
 ghost use Rattle.mad_page.specs.PageKeys.{after_key};
-ghost use Rattle.mad_outline.specs.Sources.{source_lines};
+ghost use Rattle.mad_outline.specs.Sources.{source_page};
 ghost use Rattle.mad_pager.specs.Sessions.{asks_size, end_of, opens, state_of, turn_of, turn_of_key, turn_asked, turn_typed, HasSameText, IsAsked, IsAnyKeyStep, IsKeyStep, IsEventStep, IsStart};
 
 use crate::places::field_row;
 use crate::sizes::{ScreenSize, height_of, lay};
 use mad_field::InputField;
-use mad_layout::{FmtText, MadSkin};
+use mad_layout::MadSkin;
 use mad_outline::Source;
 use mad_page::{Ask, Files, Page, is_break};
+use mad_pages::PagedPage;
 use mad_term::{Event, KeyEvent};
 use std::alloc::{AllocError, Global};
 
@@ -85,10 +86,10 @@ pub struct Session<'s> {
     pub name: &'s str,
     /// What is shown, before it is laid out.
     pub source: Source<'s>,
-    /// The text, laid out for the screen in its skin.
-    pub text: FmtText<'s, 's>,
-    /// The rows in which its parts begin, and last the count of all rows.
-    pub starts: Vec<usize>,
+    /// The skin that it is shown in.
+    pub skin: &'s MadSkin,
+    /// What is shown, laid out for the screen in its skin.
+    pub laid: PagedPage<'s>,
     /// Which of its rows is on top.
     pub page: Page,
     /// What is being typed, or was typed last.
@@ -122,14 +123,14 @@ impl<'s> Session<'s> {
     ) -> Result<Self, AllocError>
         ensures name { IfOk result (λ s. s.name ≡ name.entry) }
         ensures source { IfOk result (λ s. s.source ≡ source.entry) }
-        ensures skin { IfOk result (λ s. s.text.skin.now ≡ skin.now) }
-        ensures start { IfOk result (λ s. IsStart skin.now (source_lines source.entry) columns rows files (state_of s)) }
+        ensures skin { IfOk result (λ s. s.skin.now ≡ skin.now) }
+        ensures start { IfOk result (λ s. IsStart skin.now (source_page source.entry) columns rows files (state_of s)) }
     {
         let laid = lay(alloc, skin, source, columns)?;
         let page = Page {
             columns,
             rows,
-            height: height_of(&laid.text),
+            height: height_of(&laid),
             top: 0,
             count: 0,
             holds_bar: false,
@@ -140,8 +141,8 @@ impl<'s> Session<'s> {
         Ok(Session {
             name,
             source,
-            text: laid.text,
-            starts: laid.starts,
+            skin,
+            laid,
             page,
             field,
             is_typing: false,
@@ -158,7 +159,7 @@ impl<'s> Session<'s> {
     ///
     /// Out of memory is the only error.
     pub fn apply(&mut self, alloc: Global, event: Event) -> Result<Turn, AllocError>
-        ensures step { OnOk result (IsEventStep self.old.text.skin.now (source_lines self.old.source) event (state_of self.old) (state_of self.new)) }
+        ensures step { OnOk result (IsEventStep self.old.skin.now (source_page self.old.source) event (state_of self.old) (state_of self.new)) }
         ensures turn { IfOk result (λ turn. turn ≡ turn_of event (state_of self.old)) }
         ensures text { OnOk result (HasSameText self.old self.new) }
     {

@@ -1,14 +1,17 @@
 //! The size of the screen: what the terminal tells of it, and the text laid out for it.
 
 ghost use Rattle.std.specs.Prelude.{◌≡◌, IfOk, OnOk, length};
-ghost use Rattle.mad_outline.specs.Sources.{source_lines};
-ghost use Rattle.mad_pager.specs.Sessions.{hears, hears_size, kept_row, state_of, AreStartsFor, HasSameText, IsLaidFor, IsResized, IsSettled};
+ghost use Rattle.mad_outline.specs.Sources.{source_page};
+ghost use Rattle.mad_pager.specs.Sessions.{hears, hears_size, kept_row, paged_skin, state_of, HasSameText, IsLaidFor, IsResized, IsSettled};
 
 use crate::places::{field_row, layout_width};
 use crate::session::Session;
-use mad_layout::{FmtText, MadSkin};
+use mad_layout::MadSkin;
 use mad_outline::Source;
 use mad_page::Page;
+use mad_page_rows::has_ascii_boxes;
+use mad_pages::PagedPage;
+use mad_rows::RowSkin;
 use mad_search::row_in_parts;
 use mad_term::Event;
 use std::alloc::{AllocError, Global};
@@ -32,7 +35,7 @@ impl<'s> Session<'s> {
     ///
     /// Out of memory is the only error.
     pub fn settle(&mut self, alloc: Global) -> Result<(), AllocError>
-        ensures settled { OnOk result (IsSettled self.old.text.skin.now (source_lines self.old.source) (state_of self.old) (state_of self.new)) }
+        ensures settled { OnOk result (IsSettled self.old.skin.now (source_page self.old.source) (state_of self.old) (state_of self.new)) }
         ensures text { OnOk result (HasSameText self.old self.new) }
     {
         if let Some(size) = self.told {
@@ -70,45 +73,37 @@ impl<'s> Session<'s> {
         columns: u16,
         rows: u16,
     ) -> Result<(), AllocError>
-        ensures step { OnOk result (IsResized self.old.text.skin.now (source_lines self.old.source) columns rows (state_of self.old) (state_of self.new)) }
+        ensures step { OnOk result (IsResized self.old.skin.now (source_page self.old.source) columns rows (state_of self.old) (state_of self.new)) }
         ensures text { OnOk result (HasSameText self.old self.new) }
     {
-        let laid = lay(alloc, self.text.skin, self.source, columns)?;
+        let laid = lay(alloc, self.skin, self.source, columns)?;
         let top = self.row_kept(columns, laid.starts.as_slice());
         self.page = Page {
             columns,
             rows,
-            height: height_of(&laid.text),
+            height: height_of(&laid),
             top,
             count: self.page.count,
             holds_bar: self.page.holds_bar,
             has_colon: self.page.has_colon,
             files: self.page.files,
         };
-        self.text = laid.text;
-        self.starts = laid.starts;
+        self.laid = laid;
         self.found = None;
         self.told = None;
         self.field.set_area(field_row(columns, rows));
         Ok(())
     }
 
-    // The row that stays on top where the screen has these columns and parts begin in these rows.
+    // The row that stays on top where the screen has these columns and sections begin in these rows.
     fn row_kept(&self, columns: u16, starts: &[usize]) -> usize
-        ensures { result ≡ kept_row self.now.page.columns columns self.now.starts.items starts.now self.now.page.top }
+        ensures { result ≡ kept_row self.now.page.columns columns self.now.laid.starts.items starts.now self.now.page.top }
     {
         if columns == self.page.columns {
             return self.page.top;
         }
-        row_in_parts(self.starts.as_slice(), starts, self.page.top)
+        row_in_parts(self.laid.starts.as_slice(), starts, self.page.top)
     }
-}
-
-/// A text, laid out for a screen, and the rows in which its parts begin.
-#[derive(Drop)]
-pub(crate) struct Laid<'s> {
-    pub text: FmtText<'s, 's>,
-    pub starts: Vec<usize>,
 }
 
 /// Lays a text out for a screen of these columns.
@@ -118,29 +113,27 @@ pub(crate) struct Laid<'s> {
 /// Out of memory is the only error.
 pub(crate) fn lay<'s>(
     alloc: Global,
-    skin: &'s MadSkin,
+    skin: &MadSkin,
     source: Source<'s>,
     columns: u16,
-) -> Result<Laid<'s>, AllocError>
-    ensures skin { IfOk result (λ laid. laid.text.skin.now ≡ skin.now) }
-    ensures lines { IfOk result (λ laid. IsLaidFor skin.now (source_lines source.entry) columns laid.text.lines.items) }
-    ensures starts { IfOk result (λ laid. AreStartsFor skin.now (source_lines source.entry) columns laid.starts.items) }
+) -> Result<PagedPage<'s>, AllocError>
+    ensures { IfOk result (IsLaidFor skin.now (source_page source.entry) columns) }
 {
-    let width = layout_width(columns);
-    let layout = source.lay(alloc, skin, width)?;
-    Ok(Laid {
-        text: FmtText {
-            skin,
-            lines: layout.lines,
-            width: Some(width),
-        },
-        starts: layout.starts,
-    })
+    let rows = paged_skin(skin);
+    let laid = source.lay(alloc, &rows, layout_width(columns), has_ascii_boxes(&rows))?;
+    Ok(laid)
 }
 
-/// How many lines a text has.
-pub(crate) fn height_of(text: &FmtText) -> usize
-    ensures { result ≡ length text.now.lines.items }
+/// What rows show of a skin, with links that one sees.
+pub(crate) fn paged_skin(skin: &MadSkin) -> RowSkin
+    ensures { result ≡ paged_skin skin.now }
 {
-    text.lines.len()
+    skin.row_skin().with_links()
+}
+
+/// How many rows what is laid out has.
+pub(crate) fn height_of(laid: &PagedPage) -> usize
+    ensures { result ≡ length laid.now.lines.items }
+{
+    laid.lines.len()
 }

@@ -1,79 +1,286 @@
 -- Pages that are laid out as lines and fronts, section by section.
-use Rattle.std.proofs.Common.{◌≡◌, ℕ, ◌+◌, Bool, List, [], ◌∷◌, ◌++◌, map, length, Option, Some, None, refl, ap, sym, ◌∙◌, subst, append_assoc, append-nil, length-append}
+use Rattle.std.proofs.Common.{◌≡◌, ℕ, suc, ◌+◌, ◌-◌, ◌<◌, Bool, List, [], ◌∷◌, ◌++◌, map, length, Option, Some, None, refl, ap, sym, ◌∙◌, subst, arith, append_assoc, append-nil, length-append}
 use Rattle.std.specs.Prelude.{slice_get, option_map}
+use Rattle.std.specs.List.{flat_map}
 use Rattle.std.proofs.lemmas.Option.{same_Some, slice_get-map}
 use Rattle.std.proofs.lemmas.List.{map-append, length-map}
+use Rattle.mad_md.specs.Lines.{LineContent}
 use Rattle.mad_format.specs.LineRules.{LineRules}
 use Rattle.mad_format.specs.Lists.{EachBecomes}
 use Rattle.mad_format.specs.declared.line.FmtLine.{FmtLine}
-use Rattle.mad_sections.specs.Gutters.{shown}
+use Rattle.mad_format.proofs.ListLemmas.{both_become}
+use Rattle.mad_blocks.specs.PartCursors.{LaidPart}
+use Rattle.mad_blocks.specs.TextParts.{text_parts}
+use Rattle.mad_blocks.proofs.PartCursorLemmas as parts_laid
+use Rattle.mad_sections.specs.Gutters.{room, shown}
 use Rattle.mad_sections.specs.Sections.{SectionContent}
 use Rattle.mad_sections.specs.Unfolded.{unfolded}
+use Rattle.mad_sections.specs.declared.gutters.Gutter.{Gutter}
 use Rattle.mad_pages.specs.PageLayouts.{IsSectionAt, BecomesAt, IsPageAt}
-use Rattle.mad_pages.specs.PageRows.{RowContent}
-use Rattle.mad_pages.specs.Fronts.{FrontContent, front_at, front_content, front_of, front_or_none, line_of, row_behind}
+use Rattle.mad_pages.specs.PageRows.{RowContent, behind, rest_behind}
+use Rattle.mad_pages.specs.Fronts.{FrontContent, front_at, front_content, front_of, front_or_none, fronts_behind, line_of, row_behind}
 use Rattle.mad_pages.specs.BesideLaws.{IsTextAt, LinesAreTheTexts, RowsAreThePage}
-use Rattle.mad_pages.specs.PagedPages.{BeginIn, IsPagedAt}
+use Rattle.mad_pages.specs.PagedPages.{AreAdded, ArePartsAdded, BeginIn, EndIn, IsPagedAt, IsPartAt, PlacedPart, page_parts, parts_in, parts_shown}
 use Rattle.mad_pages.specs.declared.fronts.Front.{Front}
 use Rattle.mad_pages.specs.declared.paged.PagedPage.{PagedPage}
 use Rattle.mad_pages.proofs.PageLemmas.{lines_behind}
 
--- ---- section by section
+-- ---- where each begins
 
--- what is left goes on from the rows and the starts so far
-pub record PagedSoFar (rules : LineRules) (ascii : Bool) (width : Option ℕ) (all left : List SectionContent) (lines : List FmtLine) (fronts : List FrontContent) (starts : List ℕ) : Type 0 where
-  pub rows : List RowContent
-  pub front : List ℕ
-  pub lines_are : lines ≡ map line_of rows
-  pub fronts_are : fronts ≡ map front_of rows
-  pub starts_are : starts ≡ front ++ length lines ∷ []
-  pub goes : (others : List RowContent) (rest : List ℕ) → BeginIn rules ascii width left (length lines) others rest → BeginIn rules ascii width all 0 (rows ++ others) (front ++ rest)
+-- those of more come behind
+pub ends_join : {A R : Type 0} (P : A → List R → Type 0) (xs ys : List A) (row : ℕ) (rows more : List R) (ends others : List ℕ)
+    → EndIn P xs row rows ends → EndIn P ys (row + length rows) more others → EndIn P (xs ++ ys) row (rows ++ more) (ends ++ others)
+ends_join {R = R} P [] ys row rows more ends others h k =
+    let at : row + length rows ≡ row = omega (arith, ap length h.0) in
+    subst (λ (r : List R). EndIn P ys row (r ++ more) (ends ++ others)) (sym h.0)
+    (subst (λ (e : List ℕ). EndIn P ys row more (e ++ others)) (sym h.1) (subst (λ (n : ℕ). EndIn P ys n more others) at k))
+ends_join {R = R} P (x ∷ xs) ys row rows more ends others (own, rest, later, are, is, ends_are, h) k =
+    let at : row + length rows ≡ (row + length own) + length rest = omega (arith, ap length are, length-append own rest) in (
+      own,
+      rest ++ more,
+      later ++ others,
+      ap (λ (r : List R). r ++ more) are ∙ append_assoc own rest more,
+      is,
+      ap (λ (e : List ℕ). e ++ others) ends_are,
+      ends_join P xs ys (row + length own) rest more later others h (subst (λ (n : ℕ). EndIn P ys n more others) at k),
+    )
+
+-- those of one more
+pub begin_more : {A R : Type 0} (P : A → List R → Type 0) (xs ys : List A) (rows more new : List R) (starts ends later : List ℕ)
+    → BeginIn P xs rows starts → EndIn P ys (length rows) more ends → new ≡ rows ++ more → later ≡ starts ++ ends → BeginIn P (xs ++ ys) new later
+begin_more {R = R} P xs ys rows more new starts ends later (own, are, h) k new_is later_is =
+    (own ++ ends, later_is ∙ ap (λ (l : List ℕ). l ++ ends) are, subst (λ (r : List R). EndIn P (xs ++ ys) 0 r (own ++ ends)) (sym new_is) (ends_join P xs ys 0 rows more own ends h (subst (λ (n : ℕ). EndIn P ys n more ends) (let it : length rows ≡ 0 + length rows = omega arith in it) k)))
+
+one_end : {A R : Type 0} (P : A → List R → Type 0) (x : A) (row : ℕ) (rows : List R) → P x rows → EndIn P (x ∷ []) row rows ((row + length rows) ∷ [])
+one_end P x row rows h = (rows, [], [], sym (append-nil rows), h, refl, (refl, refl))
+
+-- rows that begin somewhere are those of each
+pub each_begins : {A R : Type 0} (P : A → List R → Type 0) (xs : List A) (row : ℕ) (rows : List R) (ends : List ℕ) → EndIn P xs row rows ends → EachBecomes P xs rows
+each_begins P [] row rows ends h = h.0
+each_begins P (x ∷ xs) row rows ends (own, others, more, are, is, ends_are, h) = (own, others, are, is, each_begins P xs (row + length own) others more h)
+
+-- the rows of a page that is laid out are those of its sections
+pub paged_rows : (rules : LineRules) (ascii : Bool) (width : Option ℕ) (page : List SectionContent) (paged : PagedPage) (is : IsPagedAt rules ascii width page paged) → IsPageAt rules ascii width page is.rows
+paged_rows rules ascii width page paged is = each_begins (BecomesAt rules ascii width) page 0 is.rows is.sections.0 is.sections.2
+
+-- ---- the parts of a text
+
+-- The lines are a layout of the text up to what is left, and the starts of the parts that come next are behind those that were there.
+pub record PartsSoFar (rules : LineRules) (width : Option ℕ) (all left : List LineContent) (old : List FmtLine) (old_starts : List ℕ) (lines : List FmtLine) (starts : List ℕ) : Type 0 where
+  pub own : List FmtLine
+  pub ends : List ℕ
+  pub front : List (List LineContent)
+  pub lines_are : lines ≡ old ++ own
+  pub starts_are : starts ≡ old_starts ++ ends
+  pub laid : parts_laid.LaidSoFar rules width all left own
+  pub parts_are : text_parts all ≡ front ++ text_parts left
+  pub end : EndIn (IsPartAt rules) (map (λ (part : List LineContent). record { room = width; lines = part }) front) (length old) own ends
+
+-- no part is laid out yet
+pub no_part : (rules : LineRules) (width : Option ℕ) (all : List LineContent) (old : List FmtLine) (starts : List ℕ) → PartsSoFar rules width all all old starts old starts
+no_part rules width all old starts = record {
+  own = [];
+  ends = [];
+  front = [];
+  lines_are = sym (append-nil old);
+  starts_are = sym (append-nil starts);
+  laid = parts_laid.laid_none rules width all;
+  parts_are = refl;
+  end = (refl, refl);
+}
+
+-- a part more
+pub part_more : (rules : LineRules) (width : Option ℕ) (all left after : List LineContent) (old : List FmtLine) (old_starts : List ℕ) (lines new : List FmtLine) (starts more : List ℕ)
+    → PartsSoFar rules width all left old old_starts lines starts → LaidPart rules width left lines after new → more ≡ starts ++ length new ∷ [] → PartsSoFar rules width all after old old_starts new more
+part_more rules width all left after old old_starts lines new starts more h p starts_more =
+    let placed : List LineContent → PlacedPart = λ (part : List LineContent). record { room = width; lines = part } in
+    let part : List LineContent = p.first ∷ p.others in
+    let count : length new ≡ (length old + length h.own) + length p.own = omega (arith, ap length p.added, ap length h.lines_are, length-append lines p.own, length-append old h.own) in
+    record {
+      own = h.own ++ p.own;
+      ends = h.ends ++ length new ∷ [];
+      front = h.front ++ part ∷ [];
+      lines_are = p.added ∙ ap (λ (l : List FmtLine). l ++ p.own) h.lines_are ∙ append_assoc old h.own p.own;
+      starts_are = starts_more ∙ ap (λ (l : List ℕ). l ++ length new ∷ []) h.starts_are ∙ append_assoc old_starts h.ends (length new ∷ []);
+      laid = parts_laid.laid_more rules width all left after h.own lines new h.laid p;
+      parts_are = h.parts_are ∙ ap (λ (ps : List (List LineContent)). h.front ++ ps) p.is_part ∙ sym (append_assoc h.front (part ∷ []) (text_parts after));
+      end =
+          subst (λ (ps : List PlacedPart). EndIn (IsPartAt rules) ps (length old) (h.own ++ p.own) (h.ends ++ length new ∷ [])) (sym (map-append placed h.front (part ∷ [])))
+          (ends_join (IsPartAt rules) (map placed h.front) (placed part ∷ []) (length old) h.own p.own h.ends (length new ∷ []) h.end
+          (subst (λ (n : ℕ). EndIn (IsPartAt rules) (placed part ∷ []) (length old + length h.own) p.own (n ∷ [])) (sym count) (one_end (IsPartAt rules) (placed part) (length old + length h.own) p.own p.layout)));
+    }
+
+-- where none are left, all parts are there
+pub parts_whole : (rules : LineRules) (width : Option ℕ) (all left : List LineContent) (old : List FmtLine) (old_starts : List ℕ) (lines : List FmtLine) (starts : List ℕ)
+    → PartsSoFar rules width all left old old_starts lines starts → left ≡ [] → ArePartsAdded rules width all old old_starts lines starts
+parts_whole rules width all left old old_starts lines starts h none =
+    let parts : text_parts all ≡ h.front = h.parts_are ∙ ap (λ (l : List LineContent). h.front ++ text_parts l) none ∙ append-nil h.front in
+    record {
+      own = h.own;
+      ends = h.ends;
+      lines = h.lines_are;
+      starts = h.starts_are;
+      layout = parts_laid.laid_whole rules width all left h.own h.own h.laid none refl;
+      end = subst (λ (ps : List (List LineContent)). EndIn (IsPartAt rules) (map (λ (part : List LineContent). record { room = width; lines = part }) ps) (length old) h.own h.ends) (sym parts) h.end;
+    }
+
+-- ---- sections that are shown
+
+rest_fronts : (gutters : List Gutter) (lines : List FmtLine) → map front_of (rest_behind gutters lines) ≡ fronts_behind gutters 0 (length lines)
+rest_fronts gutters [] = refl
+rest_fronts gutters (line ∷ lines) = ap (λ (fs : List FrontContent). record { gutters = gutters; fresh = 0 } ∷ fs) (rest_fronts gutters lines)
+
+fronts_are : (gutters : List Gutter) (fresh : ℕ) (lines : List FmtLine) → map front_of (behind gutters fresh lines) ≡ fronts_behind gutters fresh (length lines)
+fronts_are gutters fresh [] = refl
+fronts_are gutters fresh (line ∷ lines) = ap (λ (fs : List FrontContent). record { gutters = gutters; fresh = fresh } ∷ fs) (rest_fronts gutters lines)
+
+-- a front more; those that are left come behind it
+pub front_more : (fronts new : List Front) (front : Front) (whole : List FrontContent) (count row : ℕ) → row < count → new ≡ fronts ++ front ∷ []
+    → map front_content fronts ++ fronts_behind front.gutters.now front.fresh (count - row) ≡ whole → map front_content new ++ fronts_behind front.gutters.now 0 (count - (row + 1)) ≡ whole
+front_more fronts new front whole count row inside pushed h =
+    let n : ℕ = count - (row + 1) in
+    let here : count - row ≡ suc n = omega (arith, inside) in
+    ap (λ (fs : List Front). map front_content fs ++ fronts_behind front.gutters.now 0 n) pushed
+    ∙ ap (λ (fs : List FrontContent). fs ++ fronts_behind front.gutters.now 0 n) (map-append front_content fronts (front ∷ []))
+    ∙ append_assoc (map front_content fronts) (front_content front ∷ []) (fronts_behind front.gutters.now 0 n)
+    ∙ ap (λ (k : ℕ). map front_content fronts ++ fronts_behind front.gutters.now front.fresh k) (sym here)
+    ∙ h
+
+-- one is there, where its parts and its fronts are
+pub section_added : (rules : LineRules) (ascii : Bool) (width : Option ℕ) (section : SectionContent) (old new : PagedPage) (count : ℕ)
+    → ArePartsAdded rules (room ascii width section.gutters) section.lines old.lines.items old.parts.items new.lines.items new.parts.items → count ≡ length new.lines.items - length old.lines.items
+    → map front_content new.fronts.items ≡ map front_content old.fronts.items ++ fronts_behind (shown ascii width section.gutters) section.fresh count → AreAdded rules ascii width (section ∷ []) old new
+section_added rules ascii width section old new count h counted fronts =
+    let own = behind (shown ascii width section.gutters) section.fresh h.own in
+    let lines : map line_of own ≡ h.own = lines_behind (shown ascii width section.gutters) section.fresh h.own in
+    let many : count ≡ length h.own = omega (arith, counted, ap length h.lines, length-append old.lines.items h.own) in
+    record {
+      own = own;
+      ends = h.ends;
+      are = (own, [], sym (append-nil own), record { lines = h.own; layout = h.layout; rows_are = refl }, refl);
+      lines = h.lines ∙ ap (λ (l : List FmtLine). old.lines.items ++ l) (sym lines);
+      fronts = fronts ∙ ap (λ (n : ℕ). map front_content old.fronts.items ++ fronts_behind (shown ascii width section.gutters) section.fresh n) many
+          ∙ ap (λ (fs : List FrontContent). map front_content old.fronts.items ++ fs) (sym (fronts_are (shown ascii width section.gutters) section.fresh h.own));
+      parts = h.starts;
+      end =
+          subst (λ (ps : List PlacedPart). EndIn (IsPartAt rules) ps (length old.lines.items) (map line_of own) h.ends) (sym (append-nil (parts_in (room ascii width section.gutters) section.lines)))
+          (subst (λ (l : List FmtLine). EndIn (IsPartAt rules) (parts_in (room ascii width section.gutters) section.lines) (length old.lines.items) l h.ends) (sym lines) h.end);
+    }
+
+flat_map_append : {A B : Type 0} (f : A → List B) (xs ys : List A) → flat_map f (xs ++ ys) ≡ flat_map f xs ++ flat_map f ys
+flat_map_append f [] ys = refl
+flat_map_append {B = B} f (x ∷ xs) ys = ap (λ (l : List B). f x ++ l) (flat_map_append f xs ys) ∙ sym (append_assoc (f x) (flat_map f xs) (flat_map f ys))
+
+-- nothing is there of no section
+pub none_added : (rules : LineRules) (ascii : Bool) (width : Option ℕ) (old : PagedPage) → AreAdded rules ascii width [] old old
+none_added rules ascii width old = record {
+  own = [];
+  ends = [];
+  are = refl;
+  lines = sym (append-nil old.lines.items);
+  fronts = sym (append-nil (map front_content old.fronts.items));
+  parts = sym (append-nil old.parts.items);
+  end = (refl, refl);
+}
+
+-- sections behind sections
+pub added_join : (rules : LineRules) (ascii : Bool) (width : Option ℕ) (xs ys : List SectionContent) (old mid new : PagedPage) → AreAdded rules ascii width xs old mid → AreAdded rules ascii width ys mid new → AreAdded rules ascii width (xs ++ ys) old new
+added_join rules ascii width xs ys old mid new h k =
+    let lines : map line_of (h.own ++ k.own) ≡ map line_of h.own ++ map line_of k.own = map-append line_of h.own k.own in
+    let count : length mid.lines.items ≡ length old.lines.items + length (map line_of h.own) = ap length h.lines ∙ length-append old.lines.items (map line_of h.own) in
+    record {
+      own = h.own ++ k.own;
+      ends = h.ends ++ k.ends;
+      are = both_become (IsSectionAt rules ascii width) xs ys h.own k.own h.are k.are;
+      lines = k.lines ∙ ap (λ (l : List FmtLine). l ++ map line_of k.own) h.lines ∙ append_assoc old.lines.items (map line_of h.own) (map line_of k.own) ∙ ap (λ (l : List FmtLine). old.lines.items ++ l) (sym lines);
+      fronts = k.fronts ∙ ap (λ (l : List FrontContent). l ++ map front_of k.own) h.fronts ∙ append_assoc (map front_content old.fronts.items) (map front_of h.own) (map front_of k.own)
+          ∙ ap (λ (l : List FrontContent). map front_content old.fronts.items ++ l) (sym (map-append front_of h.own k.own));
+      parts = k.parts ∙ ap (λ (l : List ℕ). l ++ k.ends) h.parts ∙ append_assoc old.parts.items h.ends k.ends;
+      end =
+          subst (λ (ps : List PlacedPart). EndIn (IsPartAt rules) ps (length old.lines.items) (map line_of (h.own ++ k.own)) (h.ends ++ k.ends))
+          (sym (flat_map_append (λ (section : SectionContent). parts_in (room ascii width section.gutters) section.lines) xs ys))
+          (subst (λ (l : List FmtLine). EndIn (IsPartAt rules) (parts_shown ascii width xs ++ parts_shown ascii width ys) (length old.lines.items) l (h.ends ++ k.ends)) (sym lines)
+          (ends_join (IsPartAt rules) (parts_shown ascii width xs) (parts_shown ascii width ys) (length old.lines.items) (map line_of h.own) (map line_of k.own) h.ends k.ends h.end
+          (subst (λ (n : ℕ). EndIn (IsPartAt rules) (parts_shown ascii width ys) n (map line_of k.own) k.ends) count k.end)));
+    }
+
+-- the items of a list up to what is left
+pub record ItemsAdded (rules : LineRules) (ascii : Bool) (width : Option ℕ) (all left : List SectionContent) (old new : PagedPage) : Type 0 where
+  pub front : List SectionContent
+  pub joins : all ≡ front ++ left
+  pub added : AreAdded rules ascii width front old new
+  pub starts : new.starts ≡ old.starts
+
+-- before the first item
+pub no_item_added : (rules : LineRules) (ascii : Bool) (width : Option ℕ) (all : List SectionContent) (old : PagedPage) → ItemsAdded rules ascii width all all old old
+no_item_added rules ascii width all old = record { front = []; joins = refl; added = none_added rules ascii width old; starts = refl }
+
+-- an item more
+pub item_added : (rules : LineRules) (ascii : Bool) (width : Option ℕ) (all left : List SectionContent) (item : SectionContent) (old mid new : PagedPage)
+    → ItemsAdded rules ascii width all (item ∷ left) old mid → AreAdded rules ascii width (item ∷ []) mid new → new.starts ≡ mid.starts → ItemsAdded rules ascii width all left old new
+item_added rules ascii width all left item old mid new h k same = record {
+  front = h.front ++ item ∷ [];
+  joins = h.joins ∙ sym (append_assoc h.front (item ∷ []) left);
+  added = added_join rules ascii width h.front (item ∷ []) old mid new h.added k;
+  starts = same ∙ h.starts;
+}
+
+-- where none is left, all items are there
+pub items_added : (rules : LineRules) (ascii : Bool) (width : Option ℕ) (all left : List SectionContent) (old new : PagedPage) → ItemsAdded rules ascii width all left old new → left ≡ [] → AreAdded rules ascii width all old new
+items_added rules ascii width all left old new h none =
+    subst (λ (s : List SectionContent). AreAdded rules ascii width s old new) (sym (h.joins ∙ ap (λ (s : List SectionContent). h.front ++ s) none ∙ append-nil h.front)) h.added
+
+-- ---- pages
+
+-- the page up to what is left
+pub record PagedSoFar (rules : LineRules) (ascii : Bool) (width : Option ℕ) (all left : List SectionContent) (paged : PagedPage) : Type 0 where
+  pub front : List SectionContent
+  pub joins : all ≡ front ++ left
+  pub is : IsPagedAt rules ascii width front paged
 
 -- before the first section there are no lines and no fronts
-pub nothing_paged : (rules : LineRules) (ascii : Bool) (width : Option ℕ) (all : List SectionContent) (lines : List FmtLine) (fronts : List Front) (starts : List ℕ) → lines ≡ [] → fronts ≡ [] → starts ≡ 0 ∷ []
-    → PagedSoFar rules ascii width all all lines (map front_content fronts) starts
-nothing_paged rules ascii width all lines fronts starts no_line no_front one = record {
-  rows = [];
+pub nothing_paged : (rules : LineRules) (ascii : Bool) (width : Option ℕ) (all : List SectionContent) (paged : PagedPage) → paged.lines.items ≡ [] → paged.fronts.items ≡ [] → paged.starts.items ≡ 0 ∷ [] → paged.parts.items ≡ 0 ∷ []
+    → PagedSoFar rules ascii width all all paged
+nothing_paged rules ascii width all paged no_line no_front one one_part = record {
   front = [];
-  lines_are = no_line;
-  fronts_are = ap (map front_content) no_front;
-  starts_are = one ∙ ap (λ (l : List FmtLine). length l ∷ []) (sym no_line);
-  goes = λ others rest h. subst (λ (l : List FmtLine). BeginIn rules ascii width all (length l) others rest) no_line h;
+  joins = refl;
+  is = record { rows = []; sections = ([], one, (refl, refl)); parts = ([], one_part, (no_line, refl)); lines = no_line; fronts = ap (map front_content) no_front };
 }
 
 -- a section more
-pub section_paged : (rules : LineRules) (ascii : Bool) (width : Option ℕ) (all left : List SectionContent) (section : SectionContent) (lines new : List FmtLine) (fronts fronts_new : List FrontContent) (starts more : List ℕ) (own : List RowContent)
-    → PagedSoFar rules ascii width all (section ∷ left) lines fronts starts → BecomesAt rules ascii width section own → new ≡ lines ++ map line_of own → fronts_new ≡ fronts ++ map front_of own → more ≡ starts ++ length new ∷ []
-    → PagedSoFar rules ascii width all left new fronts_new more
-section_paged rules ascii width all left section lines new fronts fronts_new starts more own h becomes lines_more fronts_more starts_more =
-    let count : length new ≡ length lines + length own = ap length lines_more ∙ length-append lines (map line_of own) ∙ ap (λ (n : ℕ). length lines + n) (length-map own line_of) in
+pub section_paged : (rules : LineRules) (ascii : Bool) (width : Option ℕ) (all left : List SectionContent) (section : SectionContent) (old mid new : PagedPage)
+    → PagedSoFar rules ascii width all (section ∷ left) old → AreAdded rules ascii width (unfolded rules.whole_words ascii width section) old mid → mid.starts ≡ old.starts
+    → new.lines ≡ mid.lines → new.fronts ≡ mid.fronts → new.parts ≡ mid.parts → new.starts.items ≡ mid.starts.items ++ length mid.lines.items ∷ [] → PagedSoFar rules ascii width all left new
+section_paged rules ascii width all left section old mid new h added same same_lines same_fronts same_parts pushed =
+    let so_far = h.is in
+    let lines : new.lines.items ≡ old.lines.items ++ map line_of added.own = ap (λ v. v.items) same_lines ∙ added.lines in
+    let rows_count : length so_far.rows ≡ length old.lines.items = sym (ap length so_far.lines ∙ length-map so_far.rows line_of) in
+    let count : length mid.lines.items ≡ length so_far.rows + length added.own =
+    omega (arith, ap length added.lines, length-append old.lines.items (map line_of added.own), length-map added.own line_of, rows_count) in
+    let starts : new.starts.items ≡ old.starts.items ++ (length so_far.rows + length added.own) ∷ [] = pushed ∙ ap (λ v. v.items ++ length mid.lines.items ∷ []) same ∙ ap (λ (n : ℕ). old.starts.items ++ n ∷ []) count in
+    let shown_here = parts_shown ascii width (unfolded rules.whole_words ascii width section) in
     record {
-      rows = h.rows ++ own;
-      front = h.front ++ length lines ∷ [];
-      lines_are = lines_more ∙ ap (λ (l : List FmtLine). l ++ map line_of own) h.lines_are ∙ sym (map-append line_of h.rows own);
-      fronts_are = fronts_more ∙ ap (λ (l : List FrontContent). l ++ map front_of own) h.fronts_are ∙ sym (map-append front_of h.rows own);
-      starts_are = starts_more ∙ ap (λ (l : List ℕ). l ++ length new ∷ []) h.starts_are;
-      goes = λ others rest k.
-          subst (λ (rs : List RowContent). BeginIn rules ascii width all 0 rs ((h.front ++ length lines ∷ []) ++ rest)) (sym (append_assoc h.rows own others))
-          (subst (λ (l : List ℕ). BeginIn rules ascii width all 0 (h.rows ++ (own ++ others)) l) (sym (append_assoc h.front (length lines ∷ []) rest))
-          (h.goes (own ++ others) (length lines ∷ rest) (own, others, rest, refl, becomes, refl, subst (λ (n : ℕ). BeginIn rules ascii width left n others rest) count k)));
+      front = h.front ++ section ∷ [];
+      joins = h.joins ∙ sym (append_assoc h.front (section ∷ []) left);
+      is = record {
+        rows = so_far.rows ++ added.own;
+        sections =
+            begin_more (BecomesAt rules ascii width) h.front (section ∷ []) so_far.rows added.own (so_far.rows ++ added.own) old.starts.items ((length so_far.rows + length added.own) ∷ []) new.starts.items so_far.sections
+            (one_end (BecomesAt rules ascii width) section (length so_far.rows) added.own added.are) refl starts;
+        parts =
+            subst (λ (ps : List PlacedPart). BeginIn (IsPartAt rules) ps new.lines.items new.parts.items)
+            (sym (flat_map_append (λ (s : SectionContent). parts_shown ascii width (unfolded rules.whole_words ascii width s)) h.front (section ∷ []) ∙ ap (λ (ps : List PlacedPart). page_parts rules.whole_words ascii width h.front ++ ps) (append-nil shown_here)))
+            (begin_more (IsPartAt rules) (page_parts rules.whole_words ascii width h.front) shown_here old.lines.items (map line_of added.own) new.lines.items old.parts.items added.ends new.parts.items so_far.parts added.end lines
+            (ap (λ v. v.items) same_parts ∙ added.parts));
+        lines = lines ∙ ap (λ (l : List FmtLine). l ++ map line_of added.own) so_far.lines ∙ sym (map-append line_of so_far.rows added.own);
+        fronts = ap (λ v. map front_content v.items) same_fronts ∙ added.fronts ∙ ap (λ (l : List FrontContent). l ++ map front_of added.own) so_far.fronts ∙ sym (map-append front_of so_far.rows added.own);
+      };
     }
 
--- rows with their starts are a page's rows
-begin_page : (rules : LineRules) (ascii : Bool) (width : Option ℕ) (page : List SectionContent) (row : ℕ) (rows : List RowContent) (starts : List ℕ) → BeginIn rules ascii width page row rows starts → IsPageAt rules ascii width page rows
-begin_page rules ascii width [] row rows starts h = h.0
-begin_page rules ascii width (section ∷ page) row rows starts (own, others, more, are, becomes, begun, rest) = (own, others, are, becomes, begin_page rules ascii width page (row + length own) others more rest)
-
 -- where no section is left, the page is laid out
-pub paged_whole : (rules : LineRules) (ascii : Bool) (width : Option ℕ) (all left : List SectionContent) (paged : PagedPage) → PagedSoFar rules ascii width all left paged.lines.items (map front_content paged.fronts.items) paged.starts.items → left ≡ []
-    → IsPagedAt rules ascii width all paged
+pub paged_whole : (rules : LineRules) (ascii : Bool) (width : Option ℕ) (all left : List SectionContent) (paged : PagedPage) → PagedSoFar rules ascii width all left paged → left ≡ [] → IsPagedAt rules ascii width all paged
 paged_whole rules ascii width all left paged h none =
-    let lines = paged.lines.items in
-    let begin : BeginIn rules ascii width all 0 h.rows paged.starts.items =
-    subst (λ (rs : List RowContent). BeginIn rules ascii width all 0 rs paged.starts.items) (append-nil h.rows)
-    (subst (λ (l : List ℕ). BeginIn rules ascii width all 0 (h.rows ++ []) l) (sym h.starts_are)
-    (h.goes [] (length lines ∷ []) (subst (λ (l : List SectionContent). BeginIn rules ascii width l (length lines) [] (length lines ∷ [])) (sym none) (refl, refl)))) in
-    record { rows = h.rows; is_page = begin_page rules ascii width all 0 h.rows paged.starts.items begin; begin = begin; lines = h.lines_are; fronts = h.fronts_are }
+    subst (λ (s : List SectionContent). IsPagedAt rules ascii width s paged) (sym (h.joins ∙ ap (λ (s : List SectionContent). h.front ++ s) none ∙ append-nil h.front)) h.is
 
 -- ---- laws
 
@@ -110,4 +317,4 @@ page_text rules ascii width (section ∷ page) rows (own, others, are, becomes, 
 -- the lines of a page are layouts of its texts, each in the room behind its gutters
 pub lines_are_the_texts : LinesAreTheTexts
 lines_are_the_texts rules ascii width page paged is =
-    subst (λ (lines : List FmtLine). EachBecomes (EachBecomes (IsTextAt rules ascii width)) (map (unfolded rules.whole_words ascii width) page) lines) (sym is.lines) (page_text rules ascii width page is.rows is.is_page)
+    subst (λ (lines : List FmtLine). EachBecomes (EachBecomes (IsTextAt rules ascii width)) (map (unfolded rules.whole_words ascii width) page) lines) (sym is.lines) (page_text rules ascii width page is.rows (paged_rows rules ascii width page paged is))

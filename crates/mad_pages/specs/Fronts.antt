@@ -1,5 +1,5 @@
 -- What stands in front of lines.
-use Rattle.std.specs.Prelude.{ℕ, List, [], Option, Some, None, slice_get}
+use Rattle.std.specs.Prelude.{ℕ, zero, suc, List, [], ◌∷◌, Option, Some, None, slice_get}
 use Rattle.mad_format.specs.declared.line.FmtLine.{FmtLine}
 use Rattle.mad_sections.specs.declared.gutters.Gutter.{Gutter}
 use Rattle.mad_pages.specs.PageRows.{RowContent}
@@ -34,3 +34,8 @@ line_of row = row.line
 -- a line behind a front
 abbrev pub row_behind : FrontContent → FmtLine → RowContent
 row_behind front line = record { gutters = front.gutters; fresh = front.fresh; line = line }
+
+-- what stands in front of so many rows of a section: in the first one the last so many gutters have their first face
+abbrev pub fronts_behind : List Gutter → ℕ → ℕ → List FrontContent
+fronts_behind gutters fresh zero = []
+fronts_behind gutters fresh (suc n) = record { gutters = gutters; fresh = fresh } ∷ fronts_behind gutters 0 n

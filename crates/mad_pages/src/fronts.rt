@@ -1,16 +1,11 @@
-//! Lines of a page, and what stands in front of each.
+//! What stands in front of the lines of a page.
 
-ghost use Rattle.std.specs.Prelude.{◌≡◌, ◌++◌, ℕ, List, OnOk, IfOk, Some, None, map, slice_get};
-ghost use Rattle.mad_sections.specs.Sections.{section_content};
-ghost use Rattle.mad_pages.specs.PageLayouts.{BecomesAt};
-ghost use Rattle.mad_pages.specs.PageRows.{RowContent, row_content};
-ghost use Rattle.mad_pages.specs.Fronts.{front_at, front_content, front_of, line_of};
+ghost use Rattle.std.specs.Prelude.{◌≡◌, ◌++◌, OnOk, map};
+ghost use Rattle.mad_pages.specs.Fronts.{front_at, front_content, fronts_behind};
 
-use crate::layout::lay_section;
 use crate::page_rows::PageRow;
-use mad_format::{FmtLine, LineSkin};
-use mad_sections::{Gutter, Section};
-use std::alloc::{AllocError, Global};
+use mad_sections::Gutter;
+use std::alloc::AllocError;
 
 /// What stands in front of a row's line.
 #[derive(Clone, Copy)]
@@ -44,45 +39,27 @@ pub fn front_of<'s>(row: &PageRow<'s>) -> Front<'s>
     }
 }
 
-/// Lays out a section at a width in columns, if there is one: puts the lines of its rows after those that are there, and what stands in front
-/// of each after the fronts that are there.
+/// Puts what stands in front of so many rows of a section behind the fronts that are there. The last `fresh` gutters have their first face in the
+/// first row.
 ///
 /// # Errors
 ///
 /// Out of memory is the only error.
-pub fn push_section_beside<'s, S: LineSkin>(
-    alloc: Global,
-    lines: &mut Vec<FmtLine<'s>>,
+pub(crate) fn push_fronts<'s>(
     fronts: &mut Vec<Front<'s>>,
-    section: Section<'s>,
-    width: Option<usize>,
-    ascii: bool,
-    skin: &S,
+    gutters: &'s [Gutter],
+    fresh: usize,
+    count: usize,
 ) -> Result<(), AllocError>
-    ensures { OnOk result ((own : List RowContent) × BecomesAt (S.rules skin.now) ascii width (section_content section.entry) own × (lines.new.items ≡ lines.old.items ++ map line_of own) × (map front_content fronts.new.items ≡ map front_content fronts.old.items ++ map front_of own)) }
+    ensures { OnOk result (map front_content fronts.new.items ≡ map front_content fronts.old.items ++ fronts_behind gutters.entry.now fresh count) }
 {
-    let rows = lay_section(alloc, skin, section, width, ascii)?;
-    push_beside(lines, fronts, rows)?;
-    Ok(())
-}
-
-// Puts the lines of rows after those that are there, and what stands in front of each after the fronts.
-fn push_beside<'s>(
-    lines: &mut Vec<FmtLine<'s>>,
-    fronts: &mut Vec<Front<'s>>,
-    rows: Vec<PageRow<'s>>,
-) -> Result<(), AllocError>
-    ensures lines { OnOk result (lines.new.items ≡ lines.old.items ++ map line_of (map row_content rows.entry.items)) }
-    ensures fronts { OnOk result (map front_content fronts.new.items ≡ map front_content fronts.old.items ++ map front_of (map row_content rows.entry.items)) }
-{
-    for row in rows {
-        let PageRow {
+    let mut here = fresh;
+    for _row in 0..count {
+        fronts.push(Front {
             gutters,
-            fresh,
-            line,
-        } = row;
-        lines.push(line)?;
-        fronts.push(Front { gutters, fresh })?;
+            fresh: here,
+        })?;
+        here = 0;
     }
     Ok(())
 }

@@ -1,12 +1,19 @@
-//! A page that is laid out for a pager: its lines, what stands in front of each, and where its sections begin.
+//! A page that is laid out for a pager: its lines, what stands in front of each, and where its sections and their parts begin.
 
-ghost use Rattle.std.specs.Prelude.{◌≡◌, [], ◌∷◌, IfOk, length};
-ghost use Rattle.mad_sections.specs.Sections.{page_content};
-ghost use Rattle.mad_pages.specs.PagedPages.{IsPagedAt};
+ghost use Rattle.std.specs.Prelude.{◌≡◌, ◌++◌, [], ◌∷◌, IfOk, OnOk, List, ℕ, length, map};
+ghost use Rattle.mad_blocks.specs.Layouts.{IsLayoutAt};
+ghost use Rattle.mad_md.specs.Lines.{contents};
+ghost use Rattle.mad_format.specs.declared.line.FmtLine.{FmtLine};
+ghost use Rattle.mad_sections.specs.Sections.{page_content, section_content};
+ghost use Rattle.mad_sections.specs.Unfolded.{unfolded};
+ghost use Rattle.mad_pages.specs.Fronts.{front_content};
+ghost use Rattle.mad_pages.specs.PagedPages.{AreAdded, ArePartsAdded, IsPagedAt};
 
-use crate::fronts::{Front, push_section_beside};
+use crate::fronts::{Front, push_fronts};
+use mad_blocks::PartCursor;
 use mad_format::{FmtLine, LineSkin};
-use mad_sections::Page;
+use mad_md::Text;
+use mad_sections::{Page, Section, Unfolded, room_behind, unfold};
 use std::alloc::{AllocError, Global};
 
 /// A page that is laid out.
@@ -16,8 +23,10 @@ pub struct PagedPage<'s> {
     pub lines: Vec<FmtLine<'s>>,
     /// What stands in front of each.
     pub fronts: Vec<Front<'s>>,
-    /// The rows in which its sections begin, and last the count of all rows.
+    /// The rows in which its sections begin, and last the count of all rows. There are as many at each width.
     pub starts: Vec<usize>,
+    /// The rows in which the parts of what is shown of them begin, and last the count of all rows. No line of a text goes over two parts.
+    pub parts: Vec<usize>,
 }
 
 /// A page at a width in columns, if there is one. Boxes of tasks are of ASCII characters, or not.
@@ -34,21 +43,116 @@ pub fn lay_beside<'s, S: LineSkin>(
 ) -> Result<PagedPage<'s>, AllocError>
     ensures { IfOk result (λ paged. IsPagedAt (S.rules skin.now) ascii width (page_content page.entry) paged) }
 {
-    let mut lines = Vec::new(alloc);
-    let mut fronts = Vec::new(alloc);
-    let mut starts = first_start(alloc)?;
+    let mut paged = PagedPage::new(alloc)?;
     for section in page.sections {
-        push_section_beside(alloc, &mut lines, &mut fronts, section, width, ascii, skin)?;
-        starts.push(count_of(&lines))?;
+        paged.push_section(alloc, section, width, ascii, skin)?;
+        let count = count_of(&paged.lines);
+        paged.starts.push(count)?;
     }
-    Ok(PagedPage {
-        lines,
-        fronts,
-        starts,
-    })
+    Ok(paged)
 }
 
-// The start of the first section alone.
+impl<'s> PagedPage<'s> {
+    // A page without sections.
+    fn new(alloc: Global) -> Result<Self, AllocError>
+        ensures lines { IfOk result (λ paged. paged.lines.items ≡ []) }
+        ensures fronts { IfOk result (λ paged. paged.fronts.items ≡ []) }
+        ensures starts { IfOk result (λ paged. paged.starts.items ≡ 0 ∷ []) }
+        ensures parts { IfOk result (λ paged. paged.parts.items ≡ 0 ∷ []) }
+    {
+        let starts = first_start(alloc)?;
+        let parts = first_start(alloc)?;
+        Ok(PagedPage {
+            lines: Vec::new(alloc),
+            fronts: Vec::new(alloc),
+            starts,
+            parts,
+        })
+    }
+
+    // Puts what is shown of a section behind what is there.
+    fn push_section<S: LineSkin>(
+        &mut self,
+        alloc: Global,
+        section: Section<'s>,
+        width: Option<usize>,
+        ascii: bool,
+        skin: &S,
+    ) -> Result<(), AllocError>
+        ensures added { OnOk result (AreAdded (S.rules skin.now) ascii width (unfolded (S.rules skin.now).whole_words ascii width (section_content section.entry)) self.old self.new) }
+        ensures starts { OnOk result (self.new.starts ≡ self.old.starts) }
+    {
+        match unfold(alloc, section, width, ascii, skin.whole_words())? {
+            Unfolded::Itself(section) => self.push_shown(alloc, section, width, ascii, skin),
+            Unfolded::Items(items) => self.push_items(alloc, items, width, ascii, skin),
+        }
+    }
+
+    // Puts a list's items behind what is there.
+    fn push_items<S: LineSkin>(
+        &mut self,
+        alloc: Global,
+        items: Vec<Section<'s>>,
+        width: Option<usize>,
+        ascii: bool,
+        skin: &S,
+    ) -> Result<(), AllocError>
+        ensures added { OnOk result (AreAdded (S.rules skin.now) ascii width (map section_content items.entry.items) self.old self.new) }
+        ensures starts { OnOk result (self.new.starts ≡ self.old.starts) }
+    {
+        for item in items {
+            self.push_shown(alloc, item, width, ascii, skin)?;
+        }
+        Ok(())
+    }
+
+    // Puts a section that isn't unfolded behind what is there.
+    fn push_shown<S: LineSkin>(
+        &mut self,
+        alloc: Global,
+        section: Section<'s>,
+        width: Option<usize>,
+        ascii: bool,
+        skin: &S,
+    ) -> Result<(), AllocError>
+        ensures added { OnOk result (AreAdded (S.rules skin.now) ascii width (section_content section.entry ∷ []) self.old self.new) }
+        ensures starts { OnOk result (self.new.starts ≡ self.old.starts) }
+    {
+        let room = room_behind(section.gutters, width, ascii);
+        let above = count_of(&self.lines);
+        push_parts(
+            alloc,
+            &mut self.lines,
+            &mut self.parts,
+            section.text,
+            room.columns,
+            skin,
+        )?;
+        let count = count_of(&self.lines).saturating_sub(above);
+        push_fronts(&mut self.fronts, room.gutters, section.fresh, count)?;
+        Ok(())
+    }
+}
+
+// Puts the lines of a text, laid out at a width, behind those that are there, and behind the starts of parts those of the parts that come next.
+fn push_parts<'s, S: LineSkin>(
+    alloc: Global,
+    lines: &mut Vec<FmtLine<'s>>,
+    starts: &mut Vec<usize>,
+    text: Text<'s>,
+    width: Option<usize>,
+    skin: &S,
+) -> Result<(), AllocError>
+    ensures { OnOk result (ArePartsAdded (S.rules skin.now) width (contents text.entry) lines.old.items starts.old.items lines.new.items starts.new.items) }
+{
+    let mut parts = PartCursor::of_text(text);
+    'parts: while parts.lay_next(alloc, lines, width, skin)? {
+        starts.push(count_of(lines))?;
+    }
+    Ok(())
+}
+
+// The start of the first section alone, or of the first part.
 fn first_start(alloc: Global) -> Result<Vec<usize>, AllocError>
     ensures { IfOk result (λ starts. starts.items ≡ 0 ∷ []) }
 {

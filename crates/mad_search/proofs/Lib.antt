@@ -1,4 +1,4 @@
 pub mod BreakLemmas
-pub mod KeptLemmas
 pub mod LetterLemmas
+pub mod PlainLemmas
 pub mod SearchLemmas

@@ -1,6 +1,6 @@
 //! A text that is paged, and rows of it that are looked for.
 //!
-//! 1. [`paged`]: the text, laid out.
+//! 1. [`paged`], [`plain`]: the sections of the text.
 //! 2. [`letters`], [`breaks`], [`search`]: which row has what is sought.
 //! 3. [`headers`]: which rows begin a header.
 //! 4. [`kept`]: which row stays on top where the width changes.
@@ -11,11 +11,13 @@ mod headers;
 mod kept;
 mod letters;
 mod paged;
+mod plain;
 mod search;
 
 pub use breaks::{rows_after, rows_up_to};
 pub use headers::{next_header, previous_header};
 pub use kept::row_in_parts;
 pub use letters::{has_capital, small};
-pub use paged::{Layout, PagedText};
+pub use paged::PagedText;
+pub use plain::plain_page;
 pub use search::{next_row_in, previous_row_in, row_text, text_after};

@@ -14,4 +14,4 @@ pub mod writing;
 
 pub use drawing::{draw_markdown, draw_page, lay_markdown, read_drawable};
 pub use page_writing::{append_page_row, append_section};
-pub use writing::{markdown_skin, write_markdown_on, write_page_on};
+pub use writing::{append_sections, markdown_skin, write_markdown_on, write_page_on};

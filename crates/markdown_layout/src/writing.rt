@@ -88,8 +88,12 @@ fn markdown_rows(
     Ok(rows)
 }
 
-// The rows of sections.
-fn append_sections(
+/// Puts the rows of sections, each with a newline, after the rows that are there, at a width in columns, if there is one.
+///
+/// # Errors
+///
+/// Out of memory. What the rows then end with is open.
+pub fn append_sections(
     alloc: Global,
     rows: &mut String,
     sections: Sections<'_>,

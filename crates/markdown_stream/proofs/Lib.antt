@@ -1,9 +1,12 @@
-pub mod ContentLemmas
-pub mod CutLemmas
-pub mod GapLemmas
-pub mod PartLawLemmas
-pub mod PieceLemmas
-pub mod ShownLemmas
-pub mod SourceLemmas
+pub mod ReadingLemmas
+pub mod MappingLemmas
+pub mod StreamingLemmas
+pub mod KnownLemmas
+pub mod RowLemmas
+pub mod HeldLemmas
+pub mod EarlyLemmas
+pub mod GatheredLemmas
+pub mod ComeLemmas
 pub mod StreamLemmas
-mod SourceLineLemmas
+pub mod PieceLemmas
+pub mod SourceLemmas

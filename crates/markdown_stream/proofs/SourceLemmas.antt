@@ -1,5 +1,5 @@
 -- How the steps of a source join that is written as it comes.
-use Rattle.std.proofs.Common.{◌≡◌, ℕ, suc, ◌+◌, ◌<◌, ◌≤◌, Bool, true, false, List, [], ◌∷◌, ◌++◌, length, take, drop, Option, Result, Ok, Err, inl, refl, sym, ap, ◌∙◌, subst, arith, string_bytes}
+use Rattle.std.proofs.Common.{◌≡◌, ℕ, suc, ◌+◌, ◌<◌, ◌≤◌, Bool, true, false, List, [], ◌∷◌, ◌++◌, length, take, drop, Option, Some, None, Result, Ok, Err, inl, refl, sym, ap, ◌∙◌, subst, arith, string_bytes}
 use Rattle.std.specs.Result.{IsErrAnd}
 use Rattle.std.specs.declared.io.Error.{Error as IoError}
 use Rattle.std.proofs.lemmas.List.{append-nil, length-append, take-append-drop}
@@ -16,11 +16,25 @@ use Rattle.mad_term.specs.Trace.{Trace, after, failed, flushed, ahead_all}
 use Rattle.mad_term.specs.declared.errors.Error.{Error}
 use Rattle.mad_term.specs.declared.errors.Error.TheVariants as writing
 use Rattle.mad_term.proofs.Traces.{after-nil}
+use Rattle.mad_md.specs.Parts.{HasNoNewline}
+use Rattle.mad_page_rows.specs.Faces.{has_ascii_boxes}
+use Rattle.mad_pages.specs.PageLayouts.{IsPageAt}
+use Rattle.mad_pages.specs.PageRows.{RowContent}
+use Rattle.mad_rows.specs.RowStyles.{line_rules}
+use Rattle.mad_sections.specs.Sections.{SectionContent}
+use Rattle.markdown_blocks.specs.Lines.{text_lines}
+use Rattle.markdown_layout.specs.WrittenPages.{rows_bytes}
 use Rattle.markdown_lines.specs.Texts.{behind_mark}
-use Rattle.markdown_stream.specs.Cuts.{source_lines}
+use Rattle.markdown_reader.specs.Mapping.{LinkSaid}
+use Rattle.markdown_reader.specs.Steady.{steady_sections}
+use Rattle.markdown_stream.specs.Come.{lines_streamed}
+use Rattle.markdown_stream.specs.Readings.{lines_read}
+use Rattle.markdown_stream.specs.Streamed.{parts_streamed}
+use Rattle.markdown_stream.specs.declared.section_stream.SectionStream.{SectionStream}
+use Rattle.markdown_stream.proofs.ComeLemmas.{all_taken}
 use Rattle.markdown_stream.specs.Sources.{AreCompleteRows, StreamsMarkdown}
 use Rattle.markdown_stream.specs.SourceSteps.{FeedsBlock, StopsInBlock, EndsFlushed, EndsSource}
-use Rattle.markdown_stream.specs.Streams.{IsInStep, IsPrompt, IsStreamed, BeginsStreamed, Fed, Feeds, Finishes}
+use Rattle.markdown_stream.specs.Streams.{HasBegun, IsInStep, IsPrompt, IsStreamed, BeginsStreamed, Fed, Feeds, Finishes, streamed_page}
 use Rattle.markdown_stream.specs.declared.stream.MarkdownStream.{MarkdownStream}
 use Rattle.markdown_stream.proofs.StreamLemmas.{begins_streamed}
 
@@ -37,7 +51,7 @@ end_refused T U (writing.InsufficientWidth e) s is_whole before now ends = λ re
 end_refused T U writing.Memory s is_whole before now ends = ends
 
 all_front : (s : MarkdownStream) (read bytes : List ℕ) → IsStreamed s.skin s.width read bytes → BeginsStreamed s.skin s.width read bytes
-all_front s read bytes h = record { front = _; rest = []; joins = sym (append-nil _); lines = h.lines; layout = h.layout; left = []; rows = sym h.rows ∙ sym (append-nil bytes) }
+all_front s read bytes h = record { front = streamed_page read; rest = []; joins = sym (append-nil (streamed_page read)); rows = h.rows; page = h.page; left = []; written = sym h.written ∙ sym (append-nil bytes) }
 
 -- the flush was refused
 pub end_unflushed : (T U V : Type 0) (x : T) (e : SourceError) (r : Result V SourceError) (s : MarkdownStream) (is_whole : Bool) (before written now : Trace) → Ends {T = T} s before (Ok x) written → FlushesOut {T = U} written (Err e) now → IsErrAnd r (λ d. d ≡ e)
@@ -162,16 +176,31 @@ source_more skin width source out old new waiting got block left used blocks is_
 
 -- ---- exits
 
+complete_if : (read sent bytes : List ℕ) (s : MarkdownStream) (sections : List SectionContent) (links : List LinkSaid) (o : Option SectionStream) (rows : List RowContent) → HasBegun read sections links o
+    → IsPageAt (line_rules s.skin) (has_ascii_boxes s.skin) s.width (steady_sections sections) rows → bytes ≡ rows_bytes s.skin s.width rows
+    → (done : List (List ℕ)) × (begun : List ℕ) × (text_lines read ≡ done ++ text_lines begun) × HasNoNewline begun × IsPageAt (line_rules s.skin) (has_ascii_boxes s.skin) s.width (steady_sections (lines_streamed done).mapping.sections) rows
+unfolding lines_read parts_streamed text_lines
+complete_if read sent bytes s sections links None rows h page written = (
+  [],
+  [],
+  ap text_lines h.0,
+  tt,
+  subst (λ (ss : List SectionContent). IsPageAt (line_rules s.skin) (has_ascii_boxes s.skin) s.width (steady_sections ss) rows) h.1 page,
+)
+complete_if read sent bytes s sections links (Some t) rows h page written = (
+  h.0.done,
+  string_bytes t.line,
+  ap text_lines (sym (append-nil read)) ∙ h.0.joins [] ∙ ap (λ (l : List ℕ). h.0.done ++ text_lines l) (append-nil (string_bytes t.line)),
+  h.0.begun,
+  subst (λ (ss : List SectionContent). IsPageAt (line_rules s.skin) (has_ascii_boxes s.skin) s.width (steady_sections ss) rows) (sym (all_taken h.0.done sections links t h.0.shown h.1)) page,
+)
+
 complete_rows : (read sent : List ℕ) (s : MarkdownStream) → IsInStep read s sent → IsPrompt s → AreCompleteRows s.skin s.width read sent
-complete_rows read sent s h prompt = record {
-  done = h.behind.done;
-  begun = string_bytes s.line;
-  joins = ap source_lines (sym (append-nil (behind_mark read))) ∙ h.behind.joins [] ∙ ap (λ (l : List ℕ). h.behind.done ++ source_lines l) (append-nil (string_bytes s.line));
-  line = h.behind.begun;
-  lines = h.behind.stands.rows.lines;
-  layout = h.behind.stands.rows.layout;
-  rows = sym (h.behind.stands.rows.bytes ∙ ap (λ (b : List ℕ). sent ++ b) prompt ∙ append-nil sent);
-}
+complete_rows read sent s h prompt =
+    let b = h.behind in
+    let written : sent ≡ rows_bytes s.skin s.width b.rows = sym (b.written ∙ ap (λ (x : List ℕ). sent ++ x) prompt ∙ append-nil sent) in
+    let c = complete_if (behind_mark read) sent sent s b.sections b.links s.sections b.rows b.come b.page written in
+    record { done = c.0; begun = c.1; joins = c.2; line = c.3; rows = b.rows; page = c.4; written = written }
 
 -- where the source fails, the answer says so
 pub source_failed : (T : Type 0) (e : IoError) (skin : RowSkin) (width : Option ℕ) (source out : Trace) (s : MarkdownStream) (waiting : List ℕ) (blocks : ℕ) (source_now source_next out_now : Trace) → SourceSoFar skin width source out s waiting blocks source_now out_now

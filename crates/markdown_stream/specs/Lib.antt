@@ -1,7 +1,11 @@
-pub mod Cuts
-pub mod Gaps
-pub mod PartLaws
-pub mod SourceSteps
-pub mod Sources
+pub mod Readings
 pub mod Streamed
+pub mod Streaming
+pub mod Known
+pub mod ShowingOf
+pub mod Held
+pub mod Come
 pub mod Streams
+pub mod Sources
+pub mod SourceSteps
+pub mod Laws

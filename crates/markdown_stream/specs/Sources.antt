@@ -1,9 +1,9 @@
 -- Sources whose text of Markdown as people write it is written as it comes.
 use Rattle.std.specs.Prelude.{◌≡◌, ℕ, ◌<◌, List, ◌++◌, length, Option, Result, Ok, Err}
-use Rattle.mad_blocks.specs.Layouts.{IsLayoutAt}
-use Rattle.mad_format.specs.declared.line.FmtLine.{FmtLine}
 use Rattle.mad_md.specs.Parts.{HasNoNewline}
-use Rattle.mad_rows.specs.Rows.{text_bytes}
+use Rattle.mad_page_rows.specs.Faces.{has_ascii_boxes}
+use Rattle.mad_pages.specs.PageLayouts.{IsPageAt}
+use Rattle.mad_pages.specs.PageRows.{RowContent}
 use Rattle.mad_rows.specs.RowStyles.{line_rules}
 use Rattle.mad_rows.specs.declared.row_skin.RowSkin.{RowSkin}
 use Rattle.mad_stream.specs.Sources.{Streamed, IsReadOut, IsNoText}
@@ -11,19 +11,21 @@ use Rattle.mad_stream.specs.declared.source_error.SourceError.{SourceError}
 use Rattle.mad_stream.specs.declared.source_error.SourceError.TheVariants.{Source, Device, NotUtf8, Memory}
 use Rattle.mad_term.specs.Trace.{Trace, failed}
 use Rattle.markdown_lines.specs.Texts.{behind_mark}
-use Rattle.markdown_stream.specs.Cuts.{source_lines, cut_so_far}
-use Rattle.markdown_stream.specs.Streamed.{nothing_shown, parts_shown}
+use Rattle.markdown_blocks.specs.Lines.{text_lines}
+use Rattle.markdown_layout.specs.WrittenPages.{rows_bytes}
+use Rattle.markdown_reader.specs.Steady.{steady_sections}
+use Rattle.markdown_stream.specs.Come.{lines_streamed}
 use Rattle.markdown_stream.specs.Streams.{IsStreamed, BeginsStreamed}
 
--- These bytes are all rows of the parts of a text that its whole lines complete. The line that has begun is left, and the lines of one part that may go on.
+-- These bytes are all rows of the leaves of a text that its whole lines complete. The line that has begun is left, and the lines of the leaf that is open.
 pub record AreCompleteRows (skin : RowSkin) (width : Option ℕ) (text bytes : List ℕ) : Type 0 where
   pub done : List (List ℕ)
   pub begun : List ℕ
-  pub joins : source_lines (behind_mark text) ≡ done ++ source_lines begun
+  pub joins : text_lines (behind_mark text) ≡ done ++ text_lines begun
   pub line : HasNoNewline begun
-  pub lines : List FmtLine
-  pub layout : IsLayoutAt (line_rules skin) width (parts_shown nothing_shown (cut_so_far done).parts).lines lines
-  pub rows : bytes ≡ text_bytes skin width lines
+  pub rows : List RowContent
+  pub page : IsPageAt (line_rules skin) (has_ascii_boxes skin) width (steady_sections (lines_streamed done).mapping.sections) rows
+  pub written : bytes ≡ rows_bytes skin width rows
 
 -- ---- how it ends
 
@@ -45,7 +47,7 @@ pub record MeetsNoText (skin : RowSkin) (width : Option ℕ) (source out source_
   pub wrong : IsNoText streamed.read source_now
   pub writes : WritesAllRows skin width source out source_now out_now streamed
 
--- The source failed. All rows of the parts that were complete by then went out, and were flushed.
+-- The source failed. All rows of the leaves that were complete by then went out, and were flushed.
 pub record SourceFails (skin : RowSkin) (width : Option ℕ) (source out source_now out_now : Trace) : Type 0 where
   pub last : Trace
   pub fault : source_now ≡ failed last

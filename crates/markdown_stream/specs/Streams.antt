@@ -1,38 +1,44 @@
 -- Markdown as people write it that comes in pieces: what a stream has read, what it has laid out, and what its device took.
-use Rattle.std.specs.Prelude.{◌≡◌, ℕ, ◌==◌, ◌&&◌, Bool, if◌then◌else◌, List, [], ◌++◌, length, Option, Result, Ok, Err, string_bytes}
-use Rattle.mad_blocks.specs.Layouts.{IsLayoutAt}
-use Rattle.mad_format.specs.declared.line.FmtLine.{FmtLine}
-use Rattle.mad_md.specs.Lines.{LineContent}
-use Rattle.mad_md.specs.Parts.{HasNoNewline}
-use Rattle.mad_rows.specs.Rows.{text_bytes}
+use Rattle.std.specs.Prelude.{◌≡◌, ℕ, ◌==◌, ◌&&◌, Bool, if◌then◌else◌, List, [], ◌++◌, length, Option, None, Some, Result, Ok, Err}
+use Rattle.mad_page_rows.specs.Faces.{has_ascii_boxes}
+use Rattle.mad_pages.specs.PageLayouts.{IsPageAt}
+use Rattle.mad_pages.specs.PageRows.{RowContent}
 use Rattle.mad_rows.specs.RowStyles.{line_rules}
 use Rattle.mad_rows.specs.declared.row_skin.RowSkin.{RowSkin}
+use Rattle.mad_sections.specs.Sections.{SectionContent}
 use Rattle.mad_term.specs.Trace.{Trace, after, failed}
 use Rattle.mad_term.specs.declared.errors.Error.{Error}
 use Rattle.mad_term.specs.declared.errors.Error.TheVariants.{IO, InsufficientWidth, Memory}
-use Rattle.markdown_blocks.specs.Steps.{state_of}
+use Rattle.markdown_layout.specs.WrittenPages.{rows_bytes}
 use Rattle.markdown_lines.specs.Texts.{behind_mark}
-use Rattle.markdown_stream.specs.Cuts.{Cutting, source_lines, source_read, line_cut, nothing_open, open_after, cut_so_far}
-use Rattle.markdown_stream.specs.Streamed.{Showing, nothing_shown, parts_shown, streamed_lines, added, last_after}
+use Rattle.markdown_reader.specs.Mapping.{LinkSaid}
+use Rattle.markdown_reader.specs.Steady.{steady_sections}
+use Rattle.markdown_stream.specs.Come.{HasCome, sections_there}
+use Rattle.markdown_stream.specs.Streamed.{streamed_sections}
+use Rattle.markdown_stream.specs.declared.section_stream.SectionStream.{SectionStream}
 use Rattle.markdown_stream.specs.declared.stream.MarkdownStream.{MarkdownStream}
 
 -- ---- what is promised of the whole
 
--- these bytes are the rows of a layout of what a text shows that comes in pieces
-pub record IsStreamed (skin : RowSkin) (width : Option ℕ) (text bytes : List ℕ) : Type 0 where
-  pub lines : List FmtLine
-  pub layout : IsLayoutAt (line_rules skin) width (streamed_lines text) lines
-  pub rows : bytes ≡ text_bytes skin width lines
+-- what a text is shown as that comes in pieces
+abbrev pub streamed_page : List ℕ → List SectionContent
+streamed_page text = steady_sections (streamed_sections (behind_mark text))
 
--- these bytes are a front of the rows of its first lines
+-- these bytes are the rows of a page of what a text shows that comes in pieces
+pub record IsStreamed (skin : RowSkin) (width : Option ℕ) (text bytes : List ℕ) : Type 0 where
+  pub rows : List RowContent
+  pub page : IsPageAt (line_rules skin) (has_ascii_boxes skin) width (streamed_page text) rows
+  pub written : bytes ≡ rows_bytes skin width rows
+
+-- these bytes are a front of the rows of its first sections
 pub record BeginsStreamed (skin : RowSkin) (width : Option ℕ) (text bytes : List ℕ) : Type 0 where
-  pub front : List LineContent
-  pub rest : List LineContent
-  pub joins : streamed_lines text ≡ front ++ rest
-  pub lines : List FmtLine
-  pub layout : IsLayoutAt (line_rules skin) width front lines
+  pub front : List SectionContent
+  pub rest : List SectionContent
+  pub joins : streamed_page text ≡ front ++ rest
+  pub rows : List RowContent
+  pub page : IsPageAt (line_rules skin) (has_ascii_boxes skin) width front rows
   pub left : List ℕ
-  pub rows : text_bytes skin width lines ≡ bytes ++ left
+  pub written : rows_bytes skin width rows ≡ bytes ++ left
 
 -- What a call does at the end of a text, of whose rows these bytes were sent before. The others go out; or a front of them, and then the device
 -- fails or memory is refused.
@@ -44,20 +50,6 @@ Finishes skin width text sent before (Err Memory) now = (bytes : List ℕ) × Be
 
 -- ---- how far it has come
 
--- The device took these bytes, and these are kept: together they are the rows of a layout of what was shown.
-pub record HasRows (shown : Showing) (s : MarkdownStream) (sent : List ℕ) : Type 0 where
-  pub last : s.last ≡ shown.last
-  pub lines : List FmtLine
-  pub layout : IsLayoutAt (line_rules s.skin) s.width shown.lines lines
-  pub bytes : text_bytes s.skin s.width lines ≡ sent ++ s.rows.items
-
--- A stream has come so far: the parts that are complete are laid out, and the lines of the next one are held.
-pub record Stands (cut : Cutting) (s : MarkdownStream) (sent : List ℕ) : Type 0 where
-  pub held : string_bytes s.held ≡ cut.held
-  pub apart : s.apart ≡ cut.apart
-  pub passed : s.passed ≡ cut.passed
-  pub rows : HasRows (parts_shown nothing_shown cut.parts) s sent
-
 -- what a piece adds to a text behind its byte order mark: all of it, unless nothing came before
 abbrev pub coming : Bool → List ℕ → List ℕ
 coming fresh piece = if fresh then behind_mark piece else piece
@@ -66,21 +58,27 @@ coming fresh piece = if fresh then behind_mark piece else piece
 abbrev pub still_fresh : Bool → List ℕ → Bool
 still_fresh fresh piece = fresh && (length piece == 0)
 
--- A stream has read this text behind its byte order mark, whose whole lines are these, and its device took these bytes. What comes yet goes on with
--- the line that has begun.
-pub record HasRead (read : List ℕ) (s : MarkdownStream) (sent : List ℕ) : Type 0 where
-  pub done : List (List ℕ)
-  pub joins : (later : List ℕ) → source_lines (read ++ later) ≡ done ++ source_lines (string_bytes s.line ++ later)
-  pub begun : HasNoNewline (string_bytes s.line)
-  pub «open» : state_of s.reader ≡ open_after nothing_open done
-  pub stands : Stands (cut_so_far done) s sent
+-- A stream of sections has read this text, and these sections and links were taken; none are there. Before the first piece there is none.
+abbrev pub HasBegun : List ℕ → List SectionContent → List LinkSaid → Option SectionStream → Type 0
+HasBegun read sections links None = (read ≡ []) × (sections ≡ []) × (links ≡ [])
+HasBegun read sections links (Some s) = HasCome read sections links s × (sections_there s ≡ [])
+
+-- A stream has read this text behind its byte order mark. Its device took these bytes, and others are kept: together they are the rows of a page of all
+-- sections that are complete.
+pub record HasLaid (read : List ℕ) (s : MarkdownStream) (sent : List ℕ) : Type 0 where
+  pub sections : List SectionContent
+  pub links : List LinkSaid
+  pub come : HasBegun read sections links s.sections
+  pub rows : List RowContent
+  pub page : IsPageAt (line_rules s.skin) (has_ascii_boxes s.skin) s.width (steady_sections sections) rows
+  pub written : rows_bytes s.skin s.width rows ≡ sent ++ s.rows.items
 
 -- a stream has read this text, and its device took these bytes
 pub record IsInStep (read : List ℕ) (s : MarkdownStream) (sent : List ℕ) : Type 0 where
   pub goes_on : (later : List ℕ) → behind_mark (read ++ later) ≡ behind_mark read ++ coming s.fresh later
-  pub behind : HasRead (behind_mark read) s sent
+  pub behind : HasLaid (behind_mark read) s sent
 
--- all rows of complete parts went out
+-- all rows of complete leaves went out
 abbrev pub IsPrompt : MarkdownStream → Type 0
 IsPrompt s = s.rows.items ≡ []
 
@@ -107,51 +105,19 @@ pub record TakesPiece (old : MarkdownStream) (piece : List ℕ) (new : MarkdownS
   pub skin : new.skin ≡ old.skin
   pub width : new.width ≡ old.width
 
--- so was a piece of the text behind its byte order mark
-pub record TakesText (old : MarkdownStream) (text : List ℕ) (new : MarkdownStream) : Type 0 where
-  pub keeps : (read sent : List ℕ) → HasRead read old sent → HasRead (read ++ text) new sent
-  pub skin : new.skin ≡ old.skin
-  pub width : new.width ≡ old.width
-
 -- the text is at its end, and nothing went out: the rows that are kept are all that are left
 pub record EndsText (old new : MarkdownStream) : Type 0 where
   pub whole : (read sent : List ℕ) → IsInStep read old sent → IsStreamed old.skin old.width read (sent ++ new.rows.items)
 
--- a line was taken
-pub record ReadsLine (old : MarkdownStream) (text : List ℕ) (new : MarkdownStream) : Type 0 where
-  pub «open» : state_of new.reader ≡ (source_read (state_of old.reader) text).state
-  pub stands : (cut : Cutting) (sent : List ℕ) → Stands cut old sent → Stands (line_cut (source_read (state_of old.reader) text).role text cut) new sent
-  pub line : string_bytes new.line ≡ string_bytes old.line
-  pub skin : new.skin ≡ old.skin
-  pub width : new.width ≡ old.width
+-- the sections that came so far, of which none are there
+abbrev pub Begins : MarkdownStream → SectionStream → Type 0
+Begins old s = (read : List ℕ) (sections : List SectionContent) (links : List LinkSaid) → HasBegun read sections links old.sections → HasCome read sections links s × (sections_there s ≡ [])
 
--- the line that had begun ended so, and was taken
-pub record EndsLine (old : MarkdownStream) (end : List ℕ) (new : MarkdownStream) : Type 0 where
-  pub «open» : state_of new.reader ≡ (source_read (state_of old.reader) (string_bytes old.line ++ end)).state
-  pub stands : (cut : Cutting) (sent : List ℕ) → Stands cut old sent → Stands (line_cut (source_read (state_of old.reader) (string_bytes old.line ++ end)).role (string_bytes old.line ++ end) cut) new sent
-  pub line : string_bytes new.line ≡ []
-  pub skin : new.skin ≡ old.skin
-  pub width : new.width ≡ old.width
-
--- what is held has become this; what is open stays
-pub record Turns (f : Cutting → Cutting) (old new : MarkdownStream) : Type 0 where
-  pub stands : (cut : Cutting) (sent : List ℕ) → Stands cut old sent → Stands (f cut) new sent
-  pub reader : new.reader ≡ old.reader
-  pub line : new.line ≡ old.line
-  pub skin : new.skin ≡ old.skin
-  pub width : new.width ≡ old.width
-
--- rows of a layout of these lines are kept after those that were
-pub record KeepsRows (shown : List LineContent) (old new : MarkdownStream) : Type 0 where
-  pub lines : List FmtLine
-  pub layout : IsLayoutAt (line_rules old.skin) old.width shown lines
-  pub rows : new.rows.items ≡ old.rows.items ++ text_bytes old.skin old.width lines
-
--- a part that shows these lines was laid out
-pub record ShowsLines (shown : List LineContent) (old new : MarkdownStream) : Type 0 where
-  pub last : new.last ≡ last_after old.last old.apart shown
-  pub rows : KeepsRows (added old.last old.apart shown) old new
-  pub same : new ≡ record old { last = new.last; rows = new.rows }
+-- rows of a page of these sections are kept after those that were
+pub record LaysRows (shown : List SectionContent) (old new : MarkdownStream) : Type 0 where
+  pub own : List RowContent
+  pub page : IsPageAt (line_rules old.skin) (has_ascii_boxes old.skin) old.width (steady_sections shown) own
+  pub rows : new.rows.items ≡ old.rows.items ++ rows_bytes old.skin old.width own
 
 -- some of the rows went out, and the others are kept; then there was this
 pub record Sent (old new : MarkdownStream) (before : Trace) (fault : Trace → Trace) (now : Trace) : Type 0 where

@@ -1,21 +1,26 @@
-//! Markdown as people write it that comes in pieces, laid out as it comes.
+//! Markdown as people write it that comes in pieces, laid out as it comes. The reader, the gatherer of leaves and the mapper go on from line to
+//! line, so nothing is read by itself.
 //!
 //! In the order of the work:
 //!
-//! 1. [`cuts`]: where a text is cut into parts, by what its lines are.
-//! 2. [`gaps`]: which lines want blank rows beside them.
-//! 3. [`stream`]: a text in pieces, part by part.
-//! 4. [`pieces`]: a text that is given in pieces; [`sources`]: one that a source gives.
-//! 5. [`laws`]: what one may rely on of the parts of a text.
+//! 1. [`open_leaf`]: the leaf that is open between two lines, which owns its lines.
+//! 2. [`showing`]: what the parts so far are shown as, and what the next ones depend on.
+//! 3. [`section_stream`]: a text in pieces, as sections.
+//! 4. [`stream`]: a text in pieces, whose rows go out leaf by leaf.
+//! 5. [`pieces`]: a text that is given in pieces; [`sources`]: one that a source gives.
+//! 6. [`laws`]: what is shown of pieces is what is shown of the whole.
 #![tactic(auto)]
 
-mod cuts;
-mod gaps;
 pub mod laws;
+mod open_leaf;
 mod pieces;
+mod section_stream;
+pub mod showing;
 mod sources;
 mod stream;
 
 pub use pieces::write_markdown_pieces_on;
+pub use section_stream::SectionStream;
+pub use showing::Showing;
 pub use sources::write_markdown_source_on;
 pub use stream::MarkdownStream;

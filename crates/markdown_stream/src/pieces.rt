@@ -2,7 +2,7 @@
 
 ghost use Rattle.std.specs.Prelude.{[]};
 ghost use Rattle.std.specs.List.{flat_map};
-ghost use Rattle.markdown_layout.specs.WrittenMarkdown.{markdown_skin};
+ghost use Rattle.markdown_layout.specs.WrittenPages.{markdown_skin};
 ghost use Rattle.markdown_stream.specs.Streams.{Finishes};
 
 use crate::stream::MarkdownStream;

@@ -1,7 +1,7 @@
 //! A text that a source gives, written as it comes.
 
 ghost use Rattle.std.specs.Prelude.{MatchResult};
-ghost use Rattle.markdown_layout.specs.WrittenMarkdown.{markdown_skin};
+ghost use Rattle.markdown_layout.specs.WrittenPages.{markdown_skin};
 ghost use Rattle.markdown_stream.specs.Sources.{StreamsMarkdown};
 ghost use Rattle.markdown_stream.specs.SourceSteps.{FeedsBlock, StopsInBlock, EndsSource};
 

@@ -19,7 +19,7 @@ pub fn shown(alloc: Global, call: &str, text: &str) -> Result<String, AllocError
         Some(call) => (true, call),
         None => (false, call),
     };
-    let (skin, call) = match call.strip_prefix("plain ") {
+    let (mut skin, call) = match call.strip_prefix("plain ") {
         Some(call) => (plain_skin(), call),
         None => (MadSkin::default(), call),
     };
@@ -27,6 +27,8 @@ pub fn shown(alloc: Global, call: &str, text: &str) -> Result<String, AllocError
         Some(call) => (Grammar::Markdown, call),
         None => (Grammar::Lines, call),
     };
+    // As the program has it: words of Markdown stay whole.
+    skin.whole_words = grammar == Grammar::Markdown;
     let (files, call) = files_in(call);
     let mut words = call.splitn(3, ' ');
     let columns = number(words.next());

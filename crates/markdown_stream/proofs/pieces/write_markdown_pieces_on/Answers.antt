@@ -1,7 +1,7 @@
 use Rattle.std.proofs.Common.{◌≡◌, ◌+◌, [], List, ℕ, Bor, length, take, drop, get_or, ap, ◌∙◌, ◌++◌, subst, arith}
 use Rattle.std.proofs.lemmas.List.{take_all}
 use Rattle.mad_stream.proofs.StreamLemmas.{joined_text, pieces_cut, pieces_step}
-use Rattle.markdown_layout.specs.WrittenMarkdown.{markdown_skin}
+use Rattle.markdown_layout.specs.WrittenPages.{markdown_skin}
 use Rattle.markdown_stream.specs.Streams.{Finishes}
 use Rattle.markdown_stream.proofs.PieceLemmas.{pieces_done, pieces_more, pieces_refused, pieces_start}
 use Rattle.markdown_stream.proofs.pieces.write_markdown_pieces_on.Goals as goal

@@ -1,6 +1,6 @@
 use Rattle.std.proofs.Common.{take, List, ℕ, Bor}
 use Rattle.std.specs.List.{flat_map}
-use Rattle.markdown_layout.specs.WrittenMarkdown.{markdown_skin}
+use Rattle.markdown_layout.specs.WrittenPages.{markdown_skin}
 use Rattle.markdown_stream.proofs.PieceLemmas.{PiecesFed}
 use Rattle.markdown_stream.proofs.pieces.write_markdown_pieces_on.Given as goal
 

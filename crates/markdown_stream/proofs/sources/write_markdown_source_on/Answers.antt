@@ -1,6 +1,6 @@
 use Rattle.std.proofs.Common.{◌≡◌, [], false, inl, inr, length, take, refl, ap, rules, arith}
 use Rattle.std.proofs.lemmas.List.{length-append, length-take-le}
-use Rattle.markdown_layout.specs.WrittenMarkdown.{markdown_skin}
+use Rattle.markdown_layout.specs.WrittenPages.{markdown_skin}
 use Rattle.mad_stream.proofs.SourceLemmas.{block_come, none_waits, some_came, some_wait}
 use Rattle.markdown_stream.proofs.SourceLemmas.{block_stopped, read_out, source_ended, source_failed, source_more, source_start, text_ended}
 use Rattle.markdown_stream.proofs.sources.write_markdown_source_on.Goals as goal

@@ -1,5 +1,5 @@
 use Rattle.std.proofs.Common.{◌≡◌, ◌≤◌, length, take}
-use Rattle.markdown_layout.specs.WrittenMarkdown.{markdown_skin}
+use Rattle.markdown_layout.specs.WrittenPages.{markdown_skin}
 use Rattle.markdown_stream.proofs.SourceLemmas.{SourceSoFar}
 use Rattle.markdown_stream.proofs.sources.write_markdown_source_on.Given as goal
 

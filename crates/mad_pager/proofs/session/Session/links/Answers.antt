@@ -1,8 +1,13 @@
 use Rattle.std.proofs.Common.{ap, sym, ◌∙◌}
 use Rattle.mad_outline.specs.Sources.{TextSaid, text_said}
+use Rattle.markdown_reader.specs.MarkdownSays.{links_said}
 use Rattle.mad_pager.specs.Pagers.{links_page}
 use Rattle.mad_pager.specs.Sessions.{state_of}
+use Rattle.mad_pager.proofs.PagerSteps.{links_shown}
 use Rattle.mad_pager.proofs.session.Session.links.Goals as goal
 
 pub returns-in-Lines : goal.returns-in-Lines
-returns-in-Lines c = ap (λ (t : TextSaid). links_page t (state_of c.args.self.now)) (ap text_said (sym c.in-Lines.is) ∙ c.paged-text.ensures)
+returns-in-Lines c = ap (λ (t : TextSaid). links_page t (state_of c.args.self.now)) (ap text_said (sym c.in-Lines.is) ∙ c.paged.ensures)
+
+pub returns-in-Markdown : goal.returns-in-Markdown
+returns-in-Markdown c = ?

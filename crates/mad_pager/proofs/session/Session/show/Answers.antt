@@ -12,7 +12,7 @@ returns-in_err-ask_size g c =
 pub returns-in_err-put_all : goal.returns-in_err-put_all
 returns-in_err-put_all g c =
     let s = state_of c.args.self.now in
-    let shows = IsPicture c.args.self.now.text.skin.now c.args.self.now.name.now s in
+    let shows = IsPicture c.args.self.now.skin.now c.args.self.now.name.now s in
     let it = c.in_ok-picture.ensures in
     unshown_exit _ _ _ _ _ _ _ _ c.from_residual-in_err-put_all.ensures.1
     (unshown_in_picture _ _ _ _ _ _ _ _ c.in_err-put_all.field-0.0 (subst shows (same_Some _ _ (sym it.1 ∙ c.taken.ensures)) it.2) c.in_ok-ask_size.ensures c.in_err-put_all.ensures)
@@ -20,7 +20,7 @@ returns-in_err-put_all g c =
 pub returns-in_err-flush : goal.returns-in_err-flush
 returns-in_err-flush g c =
     let s = state_of c.args.self.now in
-    let shows = IsPicture c.args.self.now.text.skin.now c.args.self.now.name.now s in
+    let shows = IsPicture c.args.self.now.skin.now c.args.self.now.name.now s in
     let it = c.in_ok-picture.ensures in
     unshown_exit _ _ _ _ _ _ _ _ c.from_residual-in_err-flush.ensures.1
     (unshown_at_flush _ _ _ _ _ _ _ _ _ c.in_err-flush.field-0.0 (subst shows (same_Some _ _ (sym it.1 ∙ c.taken.ensures)) it.2) c.in_ok-ask_size.ensures c.in_ok-put_all.ensures c.in_err-flush.ensures)
@@ -28,6 +28,6 @@ returns-in_err-flush g c =
 pub returns : goal.returns
 returns g c =
     let s = state_of c.args.self.now in
-    let shows = IsPicture c.args.self.now.text.skin.now c.args.self.now.name.now s in
+    let shows = IsPicture c.args.self.now.skin.now c.args.self.now.name.now s in
     let it = c.in_ok-picture.ensures in
     shown_whole _ _ _ _ _ _ _ _ _ (subst shows (same_Some _ _ (sym it.1 ∙ c.taken.ensures)) it.2) c.in_ok-ask_size.ensures c.in_ok-put_all.ensures c.in_ok-flush.ensures

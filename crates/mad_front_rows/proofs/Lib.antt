@@ -1,5 +1,0 @@
-mod FrontHitLemmas
-mod PageLemmas
-mod PageStandLemmas
-mod RowStandLemmas
-mod StandLemmas

@@ -1,0 +1,31 @@
+-- Rows of a page that are drawn beside a bar.
+use Rattle.std.proofs.Common.{◌≡◌, ℕ, ◌-◌, List, drop, length, min, Option, refl, ap, ◌∙◌, subst}
+use Rattle.std.specs.List.{range_with_len}
+use Rattle.mad_term.specs.Trace.{Trace, TookWith, after}
+use Rattle.mad_draw.specs.BarsApart.{AreShownBeside, FillBeside}
+use Rattle.mad_draw.specs.BesideBar.{columns_beside}
+use Rattle.mad_draw.specs.Pieces.{RowPiece}
+use Rattle.mad_draw.specs.declared.scroll_bars.ScrollBar.{ScrollBar}
+use Rattle.mad_format.specs.declared.line.FmtLine.{FmtLine}
+use Rattle.mad_rows.specs.declared.row_skin.RowSkin.{RowSkin}
+use Rattle.mad_hits.proofs.TookLemmas.{known, took_in_turn}
+use Rattle.mad_pages.specs.declared.fronts.Front.{Front}
+use Rattle.mad_hits.specs.FrontHits.{AreRowsMarked}
+use Rattle.mad_hits.specs.FrontRows.{page_row}
+use Rattle.mad_hits.specs.Panes.{ArePageRowsDrawn, IsPageDrawn, page_rows, whole_area}
+
+rows_are : (skin : RowSkin) (bar : Option ScrollBar) (lines : List FmtLine) (fs : List Front) (top width : ℕ) (shown : List FmtLine) (front : List Front) (wide : ℕ) → shown ≡ drop top lines → front ≡ drop top fs → wide ≡ columns_beside bar width
+    → page_row skin wide shown front ≡ page_rows skin bar lines fs top width
+rows_are skin bar lines fs top width shown front wide lines_are fronts_are wide_is =
+    ap (λ (ls : List FmtLine). page_row skin wide ls front) lines_are ∙ ap (λ (f : List Front). page_row skin wide (drop top lines) f) fronts_are ∙ ap (λ (n : ℕ). page_row skin n (drop top lines) (drop top fs)) wide_is
+
+-- where the rows from the top one on are drawn, so are the panes
+pub panes_drawn : (skin : RowSkin) (bar : Option ScrollBar) (lines : List FmtLine) (fs : List Front) (top width height : ℕ) (shown : List FmtLine) (front : List Front) (wide : ℕ) (old new : Trace) (bytes : List ℕ)
+    → shown ≡ drop top lines → front ≡ drop top fs → wide ≡ columns_beside bar width → new ≡ after old bytes
+    → (FillBeside bar (page_row skin wide shown front) (whole_area width height) → TookWith old new (AreShownBeside bar (page_row skin wide shown front) (whole_area width height)))
+    → TookWith old new (ArePageRowsDrawn skin bar lines fs top width height)
+panes_drawn skin bar lines fs top width height shown front wide old new bytes lines_are fronts_are wide_is taken h =
+    let area = whole_area width height in
+    let row : ℕ → List RowPiece = page_rows skin bar lines fs top width in
+    known old new bytes (FillBeside bar row area) (AreShownBeside bar row area) taken
+    (subst (λ (r : ℕ → List RowPiece). FillBeside bar r area → TookWith old new (AreShownBeside bar r area)) (rows_are skin bar lines fs top width shown front wide lines_are fronts_are wide_is) h)

@@ -1,0 +1,69 @@
+//! Rows of a page in an area of the screen, each a line and what stands in front of it.
+
+ghost use Rattle.std.specs.Prelude.{◌≡◌, ◌++◌, OnOk, string_bytes, slice_get};
+ghost use Rattle.std.specs.Option.{option_copied};
+ghost use Rattle.mad_draw.specs.Pieces.{AreKnown, pieces_bytes};
+ghost use Rattle.mad_pages.specs.Fronts.{front_content};
+ghost use Rattle.mad_hits.specs.FrontRows.{row_shown};
+
+use mad_draw::Rows;
+use mad_format::FmtLine;
+use mad_page_rows::area_rows::{push_blanks, push_placed};
+use mad_pages::{Front, front_at};
+use mad_rows::RowSkin;
+use std::alloc::AllocError;
+
+/// Rows of a page in a place: each shows the line of its number behind the front of the same number, and past the last one spaces in the
+/// paragraph's style.
+#[derive(Clone, Copy)]
+pub struct FrontRows<'a, 's> {
+    /// The skin that they are drawn in.
+    pub skin: &'a RowSkin,
+    /// The lines.
+    pub lines: &'a [FmtLine<'s>],
+    /// What stands in front of each.
+    pub fronts: &'a [Front<'s>],
+    /// The columns of each row.
+    pub width: usize,
+}
+
+impl Rows for FrontRows<'_, '_> {
+    ghost use Rattle.mad_hits.specs.FrontRows.{page_row};
+
+    ghost pieces = { λ rows y. page_row rows.skin.now rows.width rows.lines.now rows.fronts.now y };
+
+    fn push_row(&self, bytes: &mut String, y: u16) -> Result<(), AllocError> {
+        let row = usize::from(y);
+        push_shown(
+            bytes,
+            self.skin,
+            front_at(self.fronts, row),
+            line_at(self.lines, row),
+            self.width,
+        )
+    }
+}
+
+// The line of this number, if there is one.
+fn line_at<'a, 's>(lines: &'a [FmtLine<'s>], row: usize) -> Option<&'a FmtLine<'s>>
+    ensures { option_copied result ≡ slice_get lines.entry.now row }
+{
+    lines.get(row)
+}
+
+// What a place of this width shows: a row, or past the last one spaces.
+fn push_shown(
+    bytes: &mut String,
+    skin: &RowSkin,
+    front: Front,
+    line: Option<&FmtLine>,
+    width: usize,
+) -> Result<(), AllocError>
+    ensures writes { OnOk result (string_bytes bytes.new ≡ string_bytes bytes.old ++ pieces_bytes (row_shown skin.now width (front_content front.entry) (option_copied line.entry))) }
+    ensures known { AreKnown (row_shown skin.now width (front_content front.entry) (option_copied line.entry)) }
+{
+    match line {
+        Some(line) => push_placed(bytes, skin, front, line, width),
+        None => push_blanks(bytes, skin, width),
+    }
+}

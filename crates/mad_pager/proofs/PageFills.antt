@@ -1,0 +1,130 @@
+-- The rows on the screen are drawn exactly, where the sections that begin above its end keep the premises.
+use Rattle.std.proofs.Common.{◌≡◌, ◌⊎◌, inl, inr, ℕ, zero, suc, ◌+◌, ◌-◌, ◌^◌, ◌<◌, ◌≤◌, Bool, true, false, nat_lt, List, [], ◌∷◌, ◌++◌, drop, take, length, Option, Some, None, refl, ap, sym, ◌∙◌, subst, arith}
+use Rattle.std.specs.Prelude.{cond, count_by, slice_get}
+use Rattle.std.specs.List.{AllByRecursion}
+use Rattle.std.proofs.lemmas.Bool.Decides.{nat_tests}
+use Rattle.std.proofs.lemmas.Option.{same_Some}
+use Rattle.mad_measure.proofs.AllLemmas.{all_front, all_back}
+use Rattle.mad_draw.specs.BarsApart.{FillBeside}
+use Rattle.mad_draw.specs.BesideBar.{columns_beside}
+use Rattle.mad_draw.specs.Pieces.{FillsRow, RowPiece}
+use Rattle.mad_draw.specs.declared.scroll_bars.ScrollBar.{ScrollBar}
+use Rattle.mad_draw.proofs.PieceLemmas.{shown_spaces, spaces_columns}
+use Rattle.mad_format.specs.declared.line.FmtLine.{FmtLine}
+use Rattle.mad_hits.specs.FrontRows.{row_shown}
+use Rattle.mad_layout.specs.declared.skin.MadSkin.{MadSkin}
+use Rattle.mad_rows.specs.RowStyles.{line_rules}
+use Rattle.mad_rows.specs.declared.row_skin.RowSkin.{RowSkin}
+use Rattle.mad_sections.specs.Sections.{SectionContent}
+use Rattle.mad_sections.specs.Unfolded.{unfolded}
+use Rattle.mad_pages.specs.PageLayouts.{BecomesAt}
+use Rattle.mad_pages.specs.PageRows.{RowContent}
+use Rattle.mad_pages.specs.Fronts.{FrontContent, front_at, front_or_none, row_behind}
+use Rattle.mad_pages.specs.PagedPages.{EndIn}
+use Rattle.mad_pages.specs.declared.fronts.Front.{Front}
+use Rattle.mad_pages.proofs.BesideLemmas.{rows_are}
+use Rattle.mad_page_rows.specs.FaceLaws.{AreFacesShown}
+use Rattle.mad_page_rows.specs.Faces.{blanks, has_ascii_boxes}
+use Rattle.mad_page_rows.specs.PageFits.{KeepsRoom, sections_at}
+use Rattle.mad_page_rows.proofs.FitLemmas.{AreDrawableBehind, IsDrawableBehind, row_fills, shown_drawable}
+use Rattle.mad_pager.specs.Screens.{KeepsTextPremises, area_of, bar_of, count_begun, text_columns, text_rows}
+use Rattle.mad_pager.specs.Sessions.{State, layout_width, paged_skin}
+
+-- ---- rows by their numbers
+
+-- those from one on
+pub got_behind : {A : Type 0} (xs : List A) (top y : ℕ) → slice_get (drop top xs) y ≡ slice_get xs (top + y)
+got_behind xs zero y = ap (slice_get xs) (let same : y ≡ 0 + y = omega arith in same)
+got_behind [] (suc top) y = refl
+got_behind (x ∷ xs) (suc top) y = got_behind xs top y ∙ ap (slice_get (x ∷ xs)) (let same : suc (top + y) ≡ suc top + y = omega arith in same)
+
+got_own : {A : Type 0} (own others : List A) (y : ℕ) → y < length own → slice_get (own ++ others) y ≡ slice_get own y
+got_own [] others y inside = absurd (omega (arith, inside))
+got_own (x ∷ own) others zero inside = refl
+got_own (x ∷ own) others (suc y) inside = got_own own others y (omega (arith, inside))
+
+got_other : {A : Type 0} (own others : List A) (y : ℕ) → length own ≤ y → slice_get (own ++ others) y ≡ slice_get others (y - length own)
+got_other [] others y past = ap (slice_get others) (let same : y ≡ y - 0 = omega arith in same)
+got_other (x ∷ own) others zero past = absurd (omega (arith, past))
+got_other (x ∷ own) others (suc y) past = got_other own others y (omega (arith, past)) ∙ ap (slice_get others) (let same : y - length own ≡ suc y - suc (length own) = omega arith in same)
+
+all_got : {A : Type 0} (P : A → Type 0) (xs : List A) (y : ℕ) (x : A) → AllByRecursion P xs → slice_get xs y ≡ Some x → P x
+all_got P [] y x h is = absurd (cc)
+all_got P (a ∷ xs) zero x h is = subst P (same_Some _ _ is) h.0
+all_got P (a ∷ xs) (suc y) x h is = all_got P xs y x h.1 is
+
+-- ---- sections that begin above a row
+
+one_begun : (b : Bool) (n : ℕ) (section : SectionContent) (page : List SectionContent) → b ≡ true → take (cond b 1 0 + n) (section ∷ page) ≡ section ∷ take n page
+one_begun b n section page is =
+    ap (λ (c : Bool). take (cond c 1 0 + n) (section ∷ page)) is ∙ ap (λ (m : ℕ). take m (section ∷ page)) (let same : 1 + n ≡ suc n = omega arith in same)
+
+-- the rows above this one are drawn exactly, where the sections that begin above it keep the premises
+begun_drawable : (skin : RowSkin) (width drawn end row : ℕ) (page : List SectionContent) (rows : List RowContent) (ends : List ℕ) → 3 ≤ width → width ≤ drawn → drawn < 2 ^ 64 - 1 → AreFacesShown skin
+    → EndIn (BecomesAt (line_rules skin) (has_ascii_boxes skin) (Some width)) page row rows ends → AllByRecursion (KeepsRoom skin width) (sections_at skin width (take (count_by (λ start. nat_lt start end) (row ∷ ends)) page))
+    → (y : ℕ) (r : RowContent) → slice_get rows y ≡ Some r → row + y < end → IsDrawableBehind skin drawn r
+begun_drawable skin width drawn end row [] rows ends three wider bound faces h keeps y r is above =
+    let none : slice_get [] y ≡ Some r = ap (λ (l : List RowContent). slice_get l y) (sym h.0) ∙ is in absurd (cc)
+begun_drawable skin width drawn end row (section ∷ page) rows ends three wider bound faces (own, others, more, are, becomes, ends_are, h) keeps y r is above =
+    let begun : nat_lt row end ≡ true = grind (arith, nat_tests, above) in
+    let n : ℕ = count_by (λ start. nat_lt start end) ends in
+    let one : List SectionContent = unfolded (line_rules skin).whole_words (has_ascii_boxes skin) (Some width) section in
+    let kept : AllByRecursion (KeepsRoom skin width) (sections_at skin width (section ∷ take n page)) =
+    subst (λ (p : List SectionContent). AllByRecursion (KeepsRoom skin width) (sections_at skin width p)) (one_begun (nat_lt row end) n section page begun) keeps in
+    let rest : AllByRecursion (KeepsRoom skin width) (sections_at skin width (take n page)) = all_back (KeepsRoom skin width) one (sections_at skin width (take n page)) kept in
+    let here : AreDrawableBehind skin drawn own = shown_drawable skin width drawn one own three wider bound faces (all_front (KeepsRoom skin width) one (sections_at skin width (take n page)) kept) becomes in
+    let got : slice_get (own ++ others) y ≡ Some r = ap (λ (l : List RowContent). slice_get l y) (sym are) ∙ is in
+    elim (nat_cases y (length own)) [
+      | inl inside ↦ all_got (IsDrawableBehind skin drawn) own y r here (sym (got_own own others y inside) ∙ got)
+      | inr past ↦
+          begun_drawable skin width drawn end (row + length own) page others more three wider bound faces h
+          (subst (λ (l : List ℕ). AllByRecursion (KeepsRoom skin width) (sections_at skin width (take (count_by (λ start. nat_lt start end) l) page))) ends_are rest) (y - length own) r (sym (got_other own others y past) ∙ got) (omega (arith, above, past))
+    ]
+  where
+    nat_cases : (a b : ℕ) → (a < b) ⊎ (b ≤ a)
+    nat_cases a zero = inr (omega arith)
+    nat_cases zero (suc b) = inl (omega arith)
+    nat_cases (suc a) (suc b) = elim (nat_cases a b) [ inl less ↦ inl (omega (arith, less)) | inr more ↦ inr (omega (arith, more)) ]
+
+-- ---- the screen
+
+wide_enough : (bar : Option ScrollBar) (width : ℕ) → width - 1 ≤ columns_beside bar width
+wide_enough None width = omega arith
+wide_enough (Some bar) width = omega arith
+
+narrow_enough : (bar : Option ScrollBar) (width : ℕ) → width < 2 ^ 16 → columns_beside bar width < 2 ^ 64 - 1
+narrow_enough None width h = omega (arith, h)
+narrow_enough (Some bar) width h = omega (arith, h)
+
+-- the front of a row from one on
+pub front_behind : (fronts : List Front) (top y : ℕ) → front_at (drop top fronts) y ≡ front_at fronts (top + y)
+front_behind fronts top y = ap front_or_none (got_behind fronts top y)
+
+-- blanks fill a row
+blanks_fill : (skin : RowSkin) (width : ℕ) → FillsRow width (blanks skin width)
+blanks_fill skin width = record { shown = shown_spaces skin.paragraph.compound_style width; columns = spaces_columns skin.paragraph.compound_style width }
+
+-- a line on the screen is drawn exactly behind its front
+pub drawable_on_screen : (skin : MadSkin) (s : State) (y : ℕ) (line : FmtLine) → 5 ≤ s.page.columns → s.page.columns < 2 ^ 16 → KeepsTextPremises skin s → y < (area_of s).height → slice_get s.laid.lines.items (s.page.top + y) ≡ Some line
+    → IsDrawableBehind (paged_skin skin) (text_columns skin s) (row_behind (front_at s.laid.fronts.items (s.page.top + y)) line)
+drawable_on_screen skin s y line wide narrow keeps inside is =
+    let dress : RowSkin = paged_skin skin in
+    let width : ℕ = layout_width s.page.columns in
+    let end : ℕ = s.page.top + (area_of s).height in
+    let row : ℕ = s.page.top + y in
+    let sections = keeps.laid.sections in
+    begun_drawable dress width (text_columns skin s) end 0 keeps.page keeps.laid.rows sections.0 (omega (arith, wide)) (wide_enough (bar_of skin s) s.page.columns) (narrow_enough (bar_of skin s) s.page.columns narrow) keeps.faces sections.2
+    (subst (λ (l : List ℕ). AllByRecursion (KeepsRoom dress width) (sections_at dress width (take (count_by (λ start. nat_lt start end) l) keeps.page))) sections.1 keeps.keeps) row
+    (row_behind (front_at s.laid.fronts.items row) line) (rows_are (line_rules dress) (has_ascii_boxes dress) (Some width) keeps.page s.laid keeps.laid row line is) (omega (arith, inside))
+
+-- each row of the screen fills the columns that the bar leaves
+pub text_fills : (skin : MadSkin) (s : State) → 5 ≤ s.page.columns → s.page.columns < 2 ^ 16 → KeepsTextPremises skin s → FillBeside (bar_of skin s) (text_rows skin s) (area_of s)
+text_fills skin s wide narrow keeps = record { column = keeps.bar; rows = λ y inside. row_full y inside (slice_get (drop s.page.top s.laid.lines.items) y) refl }
+  where
+    row_full : (y : ℕ) → y < (area_of s).height → (o : Option FmtLine) → slice_get (drop s.page.top s.laid.lines.items) y ≡ o → FillsRow (columns_beside (bar_of skin s) (area_of s).width) (text_rows skin s y)
+    row_full y inside None is =
+        subst (λ (o : Option FmtLine). FillsRow (text_columns skin s) (row_shown (paged_skin skin) (text_columns skin s) (front_at (drop s.page.top s.laid.fronts.items) y) o)) (sym is) (blanks_fill (paged_skin skin) (text_columns skin s))
+    row_full y inside (Some line) is =
+        subst (λ (o : Option FmtLine). FillsRow (text_columns skin s) (row_shown (paged_skin skin) (text_columns skin s) (front_at (drop s.page.top s.laid.fronts.items) y) o)) (sym is)
+        (subst (λ (f : FrontContent). FillsRow (text_columns skin s) (row_shown (paged_skin skin) (text_columns skin s) f (Some line))) (sym (front_behind s.laid.fronts.items s.page.top y))
+        (row_fills (paged_skin skin) (text_columns skin s) (row_behind (front_at s.laid.fronts.items (s.page.top + y)) line) keeps.faces (drawable_on_screen skin s y line wide narrow keeps inside (sym (got_behind s.laid.lines.items s.page.top y) ∙ is))))

@@ -1,0 +1,119 @@
+-- Definitions that don't stand before a part don't matter to it, where it asks for none.
+use Rattle.std.proofs.Common.{◌≡◌, true, false, List, [], ◌∷◌, ◌++◌, refl, sym, ap, ◌∙◌, subst}
+use Rattle.std.specs.List.{list_all}
+use Rattle.std.proofs.lemmas.Bool.{and_parts}
+use Rattle.markdown_leaves.specs.Parts.{PartContent, begins, ends, block}
+use Rattle.markdown_leaves.specs.Told.{parts_of}
+use Rattle.markdown_leaves.specs.declared.parts.Kind.{Kind}
+use Rattle.markdown_leaves.specs.declared.parts.Kind.TheVariants.{Nothing, Paragraph, Heading, Indented, Fenced, Html, Table, Rule, Definitions}
+use Rattle.markdown_marks.specs.Remaining.{Remaining}
+use Rattle.markdown_lines.specs.Links.{Defined}
+use Rattle.markdown_reader.specs.Definitions.{leaf_defined, part_defined, parts_defined, nothing_defined, definitions_of}
+use Rattle.markdown_reader.specs.Mapping.{Mapping, passed, list_ended, leaf_shown, shown_part, shown_parts}
+use Rattle.markdown_reader.specs.Markdown.{printable_sections, unmarked_links}
+use Rattle.markdown_stream.specs.Known.{asks_nothing, AreKnown, defines_nothing}
+use Rattle.markdown_stream.specs.Laws.{KnownIsWhole, KnownHasLinks, UndefinedIsWhole, DefinedInFrontIsWhole, WithoutWordsIsSame}
+use Rattle.markdown_stream.specs.Streamed.{Streamed, nothing_streamed, part_streamed, parts_streamed, streamed_sections, streamed_links}
+
+-- ---- what a part asks for
+
+leaf_same : (kind : Kind) (lines : List Remaining) (defined all : Defined) (m : Mapping) → asks_nothing (block (record { kind = kind; apart = false; lines = lines })) ≡ true → leaf_shown defined kind lines m ≡ leaf_shown all kind lines m
+leaf_same Nothing lines defined all m h = refl
+leaf_same Paragraph lines defined all m h = let no : false ≡ true = h in absurd (cc)
+leaf_same (Heading level) lines defined all m h = let no : false ≡ true = h in absurd (cc)
+leaf_same Indented lines defined all m h = refl
+leaf_same Fenced lines defined all m h = refl
+leaf_same Html lines defined all m h = refl
+leaf_same (Table columns) lines defined all m h = let no : false ≡ true = h in absurd (cc)
+leaf_same Rule lines defined all m h = refl
+leaf_same Definitions lines defined all m h = refl
+
+part_same : (part : PartContent) (defined all : Defined) (m : Mapping) → asks_nothing part ≡ true → shown_part defined part m ≡ shown_part all part m
+unfolding shown_part
+part_same (begins container apart) defined all m h = refl
+part_same ends defined all m h = refl
+part_same (block leaf) defined all m h = leaf_same leaf.kind leaf.lines defined all (list_ended (passed leaf.apart m)) h
+
+-- a part without words says the same by any definitions
+pub without_words : WithoutWordsIsSame
+without_words part defined other h m = part_same part defined other m h
+
+-- ---- parts
+
+known : (all : Defined) (parts : List PartContent) (s : Streamed) → AreKnown all s.defined parts → (parts_streamed parts s).mapping ≡ shown_parts all parts s.mapping
+unfolding parts_streamed shown_parts
+known all [] s h = refl
+known all (part ∷ parts) s h =
+    known all parts (part_streamed part s) h.1
+    ∙ ap (shown_parts all parts) (h.0 s.mapping)
+
+-- a text whose parts are known is shown as the whole
+pub known_is_whole : KnownIsWhole
+unfolding streamed_sections printable_sections
+known_is_whole text h = ap (λ (m : Mapping). m.sections) (known (definitions_of (parts_of text)) (parts_of text) nothing_streamed h)
+
+-- the links of such a text are those of the whole
+pub known_has_links : KnownHasLinks
+unfolding streamed_links unmarked_links
+known_has_links text h = ap (λ (m : Mapping). m.links) (known (definitions_of (parts_of text)) (parts_of text) nothing_streamed h)
+
+-- ---- definitions in front
+
+leaf_defines : (kind : Kind) (lines : List Remaining) (defined : Defined) → defines_nothing (block (record { kind = kind; apart = false; lines = lines })) ≡ true → leaf_defined kind defined lines ≡ defined
+leaf_defines Nothing lines defined h = refl
+leaf_defines Paragraph lines defined h = refl
+leaf_defines (Heading level) lines defined h = refl
+leaf_defines Indented lines defined h = refl
+leaf_defines Fenced lines defined h = refl
+leaf_defines Html lines defined h = refl
+leaf_defines (Table columns) lines defined h = refl
+leaf_defines Rule lines defined h = refl
+leaf_defines Definitions lines defined h = let no : false ≡ true = h in absurd (cc)
+
+part_defines : (part : PartContent) (defined : Defined) → defines_nothing part ≡ true → part_defined defined part ≡ defined
+part_defines (begins container apart) defined h = refl
+part_defines ends defined h = refl
+part_defines (block leaf) defined h = leaf_defines leaf.kind leaf.lines defined h
+
+-- no definitions among these
+none_defined : (parts : List PartContent) (defined : Defined) → list_all defines_nothing parts ≡ true → parts_defined defined parts ≡ defined
+unfolding parts_defined
+none_defined [] defined h = refl
+none_defined (part ∷ parts) defined h =
+    let both = and_parts (defines_nothing part) (list_all defines_nothing parts) h in
+    ap (λ (d : Defined). parts_defined d parts) (part_defines part defined both.0) ∙ none_defined parts defined both.1
+
+all_known : (parts : List PartContent) (defined : Defined) → list_all defines_nothing parts ≡ true → AreKnown defined defined parts
+all_known [] defined h = tt
+all_known (part ∷ parts) defined h =
+    let both = and_parts (defines_nothing part) (list_all defines_nothing parts) h in
+    let same = part_defines part defined both.0 in
+    (λ m. ap (λ (d : Defined). shown_part d part m) same, subst (λ (d : Defined). AreKnown defined d parts) (sym same) (all_known parts defined both.1))
+
+-- parts that ask for nothing, and then parts of which all is known
+in_front : (front others : List PartContent) (all defined : Defined) → list_all asks_nothing front ≡ true → AreKnown all (parts_defined defined front) others → AreKnown all defined (front ++ others)
+unfolding parts_defined
+in_front [] others all defined h later = later
+in_front (part ∷ front) others all defined h later =
+    let both = and_parts (asks_nothing part) (list_all asks_nothing front) h in
+    (λ m. part_same part (part_defined defined part) all m both.0, in_front front others all (part_defined defined part) both.1 later)
+
+defined_joined : (front others : List PartContent) (defined : Defined) → parts_defined defined (front ++ others) ≡ parts_defined (parts_defined defined front) others
+unfolding parts_defined
+defined_joined [] others defined = refl
+defined_joined (part ∷ front) others defined = defined_joined front others (part_defined defined part)
+
+known_behind : (front others : List PartContent) → list_all asks_nothing front ≡ true → list_all defines_nothing others ≡ true → AreKnown (definitions_of (front ++ others)) nothing_defined (front ++ others)
+known_behind front others asks defines =
+    let before = parts_defined nothing_defined front in
+    let same : definitions_of (front ++ others) ≡ before = defined_joined front others nothing_defined ∙ none_defined others before defines in
+    subst (λ (d : Defined). AreKnown d nothing_defined (front ++ others)) (sym same) (in_front front others before nothing_defined asks (all_known others before defines))
+
+-- a text without definitions is shown as the whole
+pub undefined_is_whole : UndefinedIsWhole
+undefined_is_whole text h = known_is_whole text (known_behind [] (parts_of text) refl h)
+
+-- so is a text whose definitions stand in front of all words
+pub in_front_is_whole : DefinedInFrontIsWhole
+in_front_is_whole text front others joins asks defines =
+    known_is_whole text (subst (λ (ps : List PartContent). AreKnown (definitions_of ps) nothing_defined ps) (sym joins) (known_behind front others asks defines))
