@@ -1,4 +1,4 @@
-use Rattle.std.proofs.Common.{◌≡◌, ◌≤◌, OnOk, subst}
+use Rattle.std.proofs.Common.{◌≤◌, OnOk, subst}
 use Rattle.mad_rows.specs.declared.row_skin.RowSkin.{RowSkin}
 use Rattle.mad_sections.specs.Sections.{page_content}
 use Rattle.markdown_reader.specs.Markdown.{markdown_sections}
