@@ -15,4 +15,4 @@ pub mod reading;
 pub mod writing;
 
 pub use reading::{page_from_value, page_skin_from_value};
-pub use writing::page_to_value;
+pub use writing::{page_skin_to_value, page_to_value};
