@@ -1,4 +1,4 @@
-//! The skins of pages as JSON values: the object `page` beside the keys of the other Markdown's skin.
+//! The skins of pages as JSON values: the object `page` beside the keys of the smaller grammar's skin.
 //!
 //! In the order of the work:
 //!

@@ -19,7 +19,7 @@ use mad_parse::PushStyleTokens;
 use serde_json::{Map, Value, put};
 use std::alloc::{AllocError, Global};
 
-/// The object that says a skin: the keys of the other Markdown's skin, and under `page` the object of the page's parts.
+/// The object that says a skin: the keys of the smaller grammar's skin, and under `page` the object of the page's parts.
 ///
 /// # Errors
 ///
