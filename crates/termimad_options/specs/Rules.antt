@@ -1,0 +1,37 @@
+-- Which options there are.
+use Rattle.std.specs.Prelude.{ℕ, List, [], ◌∷◌, foldl, codes, Some}
+use Rattle.clap.specs.Words.{App, Rule, new_app, new_rule, with_rule}
+use Rattle.clap.specs.declared.builder.ArgAction.TheVariants.{Append, Count}
+use Rattle.clap.specs.declared.builder.value_parser.ValueParser.TheVariants.{Unsigned}
+
+-- an option with a value; where it comes twice, the last one counts
+abbrev pub valued : List ℕ → Rule
+valued name = record (new_rule name) { long = Some name; action = Some Append; value_names = 1 }
+
+-- an option without a value, which may come twice
+abbrev pub counted : List ℕ → Rule
+counted name = record (new_rule name) { long = Some name; action = Some Count }
+
+-- the texts to show, in order
+abbrev pub files_rule : Rule
+files_rule = record (new_rule (codes "FILE")) { action = Some Append }
+
+-- `-w`, `--width`: a number of columns from 1 to 65,535
+abbrev pub width_rule : Rule
+width_rule = record (new_rule (codes "width")) { short = Some 119; long = Some (codes "width"); action = Some Append; parser = Some (Unsigned 1 65535) }
+
+-- `-F`
+abbrev pub fits_rule : Rule
+fits_rule = record (new_rule (codes "fits")) { short = Some 70; action = Some Count }
+
+-- a command with these options after those that it has
+abbrev pub with_rules : App → List Rule → App
+with_rules a [] = a
+with_rules a (r ∷ rs) = with_rules (with_rule a r) rs
+
+-- the options that there are
+unfoldable pub termimad_rules : App
+termimad_rules =
+    with_rules (new_app (codes "termimad"))
+    (files_rule ∷ width_rule ∷ valued (codes "skin") ∷ valued (codes "code") ∷ valued (codes "links") ∷ counted (codes "lines") ∷ counted (codes "plain")
+    ∷ counted (codes "stream") ∷ counted (codes "no-pager") ∷ fits_rule ∷ [])
