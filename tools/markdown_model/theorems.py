@@ -1,8 +1,8 @@
-"""The examples as theorems: what one sees of their blocks, and their lines, for crates/markdown_examples.
+"""The examples as theorems: what one sees of their blocks, and their sections, for crates/markdown_examples.
 
     python3 -m markdown_model.theorems [--check]
 
-It writes Blocks*.antt and Lines*.antt in the crate's specs/ and proofs/, the lists of these, and src/blocks.rt and src/lines.rt, by what the model says
+It writes Blocks*.antt and Sections*.antt in the crate's specs/ and proofs/, the lists of these, and src/blocks.rt and src/sections.rt, by what the model says
 of each text. What is of html there is written by `tools/html_theorems`. With --check it writes nothing, and fails if they are others.
 """
 from __future__ import annotations
@@ -10,13 +10,13 @@ from __future__ import annotations
 import json
 import re
 import sys
-from collections.abc import Callable
+from collections.abc import Callable, Iterator
 from typing import NamedTuple
 
 from .blocks import read_blocks
-from .lines import HorizontalRule, Normal, TableRow
-from .mapping import Flat
+from .lines import EMPTY, HorizontalRule, Normal, TableRow
 from .picture import HERE, blocks_of, leaf
+from .sections import Mapping
 
 CRATE = HERE.parent.parent / "crates/markdown_examples"
 PER = 25
@@ -61,11 +61,11 @@ def seen(children):
             yield f"leaf {kind_of(node)} ({listed(alone(literal(line)) for line in kept)})"
 
 
-def blocks_row(text):
-    return f"seen {literal(text)} ≡ {listed(seen(read_blocks(text).children))}"
+def blocks_rows(number, text):
+    yield f"e{number}", f"seen {literal(text)} ≡ {listed(seen(read_blocks(text).children))}"
 
 
-# ---- lines
+# ---- sections
 
 def run(compound):
     flags = (compound.bold, compound.italic, compound.code, compound.strikeout, compound.link is not None)
@@ -76,14 +76,11 @@ def runs(composite):
     return f"({listed(map(run, composite.compounds))})"
 
 
-def style(kind):
-    numbers = {"Header": [kind.level], "ListItem": [kind.level], "ListItemFollowUp": [kind.level], "OrderedListItem": [kind.level, kind.index]}.get(kind.name)
-    return f"({kind.name} {' '.join(map(str, numbers))})" if numbers else kind.name
-
-
 def line(it):
     if isinstance(it, Normal):
-        return f"row {style(it.composite.style)} {runs(it.composite)}"
+        kind = it.composite.style
+        words = {"Code": "code_row", "Header": f"row (Header {kind.level})"}.get(kind.name, f"row {kind.name}")
+        return f"{words} {runs(it.composite)}"
     if isinstance(it, TableRow):
         return f"cells ({listed(map(runs, it.cells))})"
     if isinstance(it, HorizontalRule):
@@ -91,8 +88,28 @@ def line(it):
     return f"table_rule ({listed(a.value.capitalize() for a in it.cells)})"
 
 
-def lines_row(text):
-    return f"printable_lines {literal(text)} ≡ {listed(map(line, Flat(text).lines))}"
+def is_blank(it):
+    return it.fresh == 0 and it.lines == [EMPTY]
+
+
+def section(it):
+    """Its gutters, how many of them begin with it, and its lines. A table's are those of a list too, if it becomes one."""
+    gutters = f"({listed(gutter.term for gutter in it.gutters)})" if it.gutters else "[]"
+    if is_blank(it):
+        return f"blank {gutters}"
+    return f"{'behind' if it.items is None else 'table_behind'} {gutters} {it.fresh} ({listed(map(line, it.lines))})"
+
+
+def link(section, address):
+    return f"link_at {section} {literal(address)}"
+
+
+def sections_rows(number, text):
+    """The sections of a text, and its links, if it has some."""
+    mapping = Mapping(text)
+    yield f"e{number}", f"printable_sections {literal(text)} ≡ {listed(map(section, mapping.sections))}"
+    if mapping.links:
+        yield f"l{number}", f"unmarked_links {literal(text)} ≡ {listed(link(*it) for it in mapping.links)}"
 
 
 # ---- files
@@ -100,7 +117,9 @@ def lines_row(text):
 VARIANTS = {
     "Rattle.markdown_blocks.specs.declared.containers.Container": ["Quote", "Item"],
     "Rattle.markdown_leaves.specs.declared.parts.Kind": ["Paragraph", "Heading", "Indented", "Fenced", "Html", "Table", "Rule", "Definitions"],
-    "Rattle.mad_md.specs.declared.composite.CompositeStyle": ["Paragraph", "Header", "ListItem", "OrderedListItem", "ListItemFollowUp", "Code", "Quote"],
+    "Rattle.mad_sections.specs.declared.gutters.Gutter": ["Bar", "AlertBar", "Bullet", "Number", "Task", "Code"],
+    "Rattle.mad_sections.specs.declared.gutters.Alert": ["Note", "Tip", "Important", "Warning", "Caution"],
+    "Rattle.mad_md.specs.declared.composite.CompositeStyle": ["Paragraph", "Header"],
     "Rattle.mad_md.specs.declared.alignment.Alignment": ["Unspecified", "Left", "Center", "Right"],
 }
 
@@ -124,34 +143,35 @@ def blocks_uses(rows):
     return "", variants(containers, rows) + variants(kinds, rows) + use("Rattle.markdown_examples.specs.Seen", ["opens", "closes", "leaf", "seen"])
 
 
-def lines_uses(rows):
-    styles, alignments = list(VARIANTS)[2:]
-    return ", true, false", variants(styles, rows) + variants(alignments, rows) + use(
+def sections_uses(rows):
+    words = ["plain", "flagged", "row", "code_row", "cells", "behind", "table_behind", "blank"]
+    return ", true, false", "".join(variants(path, rows) for path in list(VARIANTS)[2:]) + use(
         "Rattle.mad_md.specs.Lines", named(["table_rule", "horizontal_rule"], rows)) + use(
-        "Rattle.markdown_examples.specs.Rows", ["plain", "flagged", "row"] + named(["cells"], rows)) + use(
-        "Rattle.markdown_reader.specs.Markdown", ["printable_lines"])
+        "Rattle.markdown_examples.specs.Rows", named(words, rows)) + use(
+        "Rattle.markdown_reader.specs.Mapping", named(["link_at"], rows)) + use(
+        "Rattle.markdown_reader.specs.Markdown", named(["printable_sections", "unmarked_links"], rows))
 
 
-def group_files(part, number, first, rows):
+def group_files(part, number, first, texts):
     """The statements of a group, and their proofs."""
-    title = f"-- Examples {first} to {first + len(rows) - 1}"
-    names = [f"e{first + k}" for k in range(len(rows))]
-    prelude, others = part.uses(rows)
+    title = f"-- Examples {first} to {first + len(texts) - 1}"
+    named_rows = [row for k, text in enumerate(texts, first) for row in part.rows_of(k, text)]
+    prelude, others = part.uses([row for _, row in named_rows])
     module, statement, proof = f"{part.name}{number}", f"Are{part.name}{number}", f"{part.name.lower()}{number}"
-    record = f"pub record {statement} : Type 0 where\n" + "".join(f"  pub {name} : {row}\n" for name, row in zip(names, rows))
+    record = f"pub record {statement} : Type 0 where\n" + "".join(f"  pub {name} : {row}\n" for name, row in named_rows)
     yield f"specs/{module}.antt", (
         f"{title}: {part.said}.\nuse Rattle.std.specs.Prelude.{{◌≡◌, [], ◌∷◌, codes{prelude}}}\n{others}\n{record}")
-    proofs = "".join(f"{name} : {row}\nunfolding {part.unfolded}\n{name} = refl\n\n" for name, row in zip(names, rows))
+    proofs = "".join(f"{name} : {row}\nunfolding {part.unfolded}\n{name} = refl\n\n" for name, row in named_rows)
     yield f"proofs/{module}.antt", (
         f"{title}, computed.\nuse Rattle.std.proofs.Common.{{◌≡◌, [], ◌∷◌, codes{prelude}, refl}}\n{others}"
         + use(f"Rattle.markdown_examples.specs.{module}", [statement]) + use(f"Rattle.{part.computing}.proofs.Computing", [part.unfolded])
-        + f"\n{proofs}pub {proof} : {statement}\n{proof} = record {{ {'; '.join(f'{name} = {name}' for name in names)} }}\n")
+        + f"\n{proofs}pub {proof} : {statement}\n{proof} = record {{ {'; '.join(f'{name} = {name}' for name, _ in named_rows)} }}\n")
 
 
 class Part(NamedTuple):
-    """What is said of the examples: blocks or lines."""
+    """What is said of the examples: blocks or sections."""
     name: str
-    row_of: Callable[[str], str]
+    rows_of: Callable[[int, str], Iterator[tuple[str, str]]]
     uses: Callable[[list[str]], tuple[str, str]]
     said: str
     computing: str
@@ -161,19 +181,18 @@ class Part(NamedTuple):
 
 
 PARTS = [
-    Part("Blocks", blocks_row, blocks_uses, "what one sees of their blocks", "markdown_as_html", "reading", "What the blocks of examples {} are.", "The blocks of examples."),
-    Part("Lines", lines_row, lines_uses, "their lines", "markdown_examples", "lines", "The lines of examples {}.", "The lines that are shown of examples."),
+    Part("Blocks", blocks_rows, blocks_uses, "what one sees of their blocks", "markdown_as_html", "reading", "What the blocks of examples {} are.", "The blocks of examples."),
+    Part("Sections", sections_rows, sections_uses, "their sections and links", "markdown_examples", "sections", "The sections and links of examples {}.", "The sections that are shown of examples, and their links."),
 ]
 
 
 def part_files(part, texts):
-    rows = [part.row_of(text) for text in texts]
-    starts = range(0, len(rows), PER)
+    starts = range(0, len(texts), PER)
     for number, at in enumerate(starts, 1):
-        yield from group_files(part, number, at + 1, rows[at:at + PER])
+        yield from group_files(part, number, at + 1, texts[at:at + PER])
     name, proof = part.name, part.name.lower()
     laws = "".join(
-        f"\n/// {part.law.format(f'{at + 1} to {min(at + PER, len(rows))}')}\n#[tactic(auto, using(crate::proofs::{name}{k}::{proof}{k}))]\n"
+        f"\n/// {part.law.format(f'{at + 1} to {min(at + PER, len(texts))}')}\n#[tactic(auto, using(crate::proofs::{name}{k}::{proof}{k}))]\n"
         f"pub fn examples_{k}()\n    ensures {{ Are{name}{k} }}\n{{}}\n" for k, at in enumerate(starts, 1))
     ghosts = "".join(f"ghost use Rattle.markdown_examples.specs.{name}{k}.{{Are{name}{k}}};\n" for k in range(1, len(starts) + 1))
     yield f"src/{proof}.rt", f"//! {part.head}\n\n{ghosts}{laws}"
@@ -186,7 +205,7 @@ def files(texts):
     made = "".join(f"pub mod {part.name}{k}\n" for part in PARTS for k in range(1, count + 1))
     for folder in ("specs", "proofs"):
         name = f"{folder}/Lib.antt"
-        others = re.sub(r"pub mod (Blocks|Lines)\d+\n", "", (CRATE / name).read_text(encoding="utf-8"))
+        others = re.sub(r"pub mod (Blocks|Sections)\d+\n", "", (CRATE / name).read_text(encoding="utf-8"))
         front, html, rest = others.partition("pub mod Html1\n")
         yield name, front + made + html + rest
 

@@ -10,6 +10,7 @@ pub mod ReadTables
 pub mod TableCursorLemmas
 pub mod TableLemmas
 pub mod TableWidths
+pub mod TypedLayouts
 pub mod WideLayouts
 pub mod WorkedTables
 pub mod WrapKinds

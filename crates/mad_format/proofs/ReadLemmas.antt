@@ -3,6 +3,7 @@ use Rattle.std.proofs.Common.{◌≡◌, true, List, [], ◌∷◌, ◌++◌, re
 use Rattle.std.specs.List.{AllByRecursion}
 use Rattle.std.proofs.lemmas.List.{append-nil}
 use Rattle.mad_md.specs.Lines.{StyledRuns, LineContent, content_of, normal, table_row, table_rule, horizontal_rule}
+use Rattle.mad_md.specs.TypedLines.{IsTypedText, IsTypedLine}
 use Rattle.mad_md.specs.declared.composite.Composite.{Composite}
 use Rattle.mad_md.specs.declared.line.Line.{Line}
 use Rattle.mad_md.specs.declared.line.Line.TheVariants as read
@@ -29,6 +30,24 @@ line_measured skin (table_row cells) (TableRow row) h = cells_measured skin cell
 line_measured skin (table_rule aligns) (TableRule rule) h = tt
 line_measured skin horizontal_rule HorizontalRule h = tt
 line_measured skin _ _ h = absurd h
+
+-- ---- what was read is as types promise
+
+cells_typed : (skin : LineRules) (cs : List StyledRuns) (ls : List FmtComposite) → AreCompositesRead skin cs ls → AllByRecursion IsTypedText cs
+cells_typed skin [] [] h = tt
+cells_typed skin [] (l ∷ ls) h = tt
+cells_typed skin (c ∷ cs) [] h = absurd h
+cells_typed skin (c ∷ cs) (l ∷ ls) h = (h.0.known, cells_typed skin cs ls h.1)
+
+-- a line that was read is so
+pub line_typed : (skin : LineRules) (c : LineContent) (l : FmtLine) → IsLineRead skin c l → IsTypedLine c
+line_typed skin (normal said) (Normal l) h = h.known
+line_typed skin (table_row cells) (TableRow row) h = cells_typed skin cells row.cells.items h
+line_typed skin (table_rule aligns) l h = tt
+line_typed skin horizontal_rule l h = tt
+line_typed skin _ _ h = absurd h
+
+-- ---- lines of tables
 
 -- what is read of a line that is no composite and no rule is a line of a table
 pub table_read : (skin : LineRules) (line : Line) (l : FmtLine) → ((composite : Composite) → line ≡ read.Normal composite → ⊥) → (line ≡ read.HorizontalRule → ⊥) → IsLineRead skin (content_of line) l → is_table_line l ≡ true

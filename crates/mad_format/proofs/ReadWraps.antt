@@ -5,6 +5,7 @@ use Rattle.mad_md.specs.declared.compound.Compound.{Compound}
 use Rattle.mad_md.specs.declared.composite.CompositeStyle.{CompositeStyle}
 use Rattle.mad_md.specs.Flagged.{run_of, flagged_text}
 use Rattle.mad_md.specs.Lines.{StyledRuns}
+use Rattle.mad_md.specs.TypedLines.{IsTypedText}
 use Rattle.mad_style.specs.Kinds.{kind_of}
 use Rattle.mad_style.specs.LineStyles.{margins_at}
 use Rattle.mad_style.specs.declared.line_styles.LineStyle.{LineStyle}
@@ -63,9 +64,9 @@ said_by style compounds = record { style = style; runs = map run_of compounds.it
 pub read_fits : (skin : LineRules) (width columns : ℕ) (style : CompositeStyle) (kind : CompositeKind) (compounds : Vec Compound Global) (margins : ℕ × ℕ) (r : Room) (old new : List FmtLine)
     → kind ≡ kind_of style → margins ≡ margins_at (skin.line_style kind) (Some width) → r ≡ room_of skin kind (width - margins.0 - margins.1) → columns ≡ width_of (flagged_text compounds.items)
     → r.first + columns ≤ r.width → width < 2 ^ 64
-    → new ≡ old ++ Normal (record { kind = kind; compounds = compounds; visible_length = r.first + columns; spacing = None; margins = Some margins }) ∷ []
+    → new ≡ old ++ Normal (record { kind = kind; compounds = compounds; visible_length = r.first + columns; spacing = None; margins = Some margins }) ∷ [] → IsTypedText (said_by style compounds)
     → IsReadAndPushed skin width (said_by style compounds) old new
-read_fits skin width columns style kind compounds margins r old new kind_is margins_are room_is measured fits range pushed =
+read_fits skin width columns style kind compounds margins r old new kind_is margins_are room_is measured fits range pushed typed =
     let source : FmtComposite = record { kind = kind; compounds = compounds; visible_length = r.first + columns; spacing = None; margins = None } in
     let own : ℕ × ℕ = style_margins skin width source in
     let first : r.first ≡ (room_of skin kind (width - margins.0 - margins.1)).first = ap (λ (q : Room). q.first) room_is in
@@ -74,7 +75,7 @@ read_fits skin width columns style kind compounds margins r old new kind_is marg
     let left : margins.0 ≡ own.0 = ap (λ (m : ℕ × ℕ). m.0) margins_are in
     let right : margins.1 ≡ own.1 = ap (λ (m : ℕ × ℕ). m.1) margins_are in (
       source,
-      record { kind = kind_is; text = refl; measured = omega (arith, first, measured, fits, across, range); spacing = refl; margins = refl },
+      record { kind = kind_is; text = refl; measured = omega (arith, first, measured, fits, across, range); spacing = refl; margins = refl; known = typed },
       line_with margins source ∷ [],
       pushed,
       inl (omega (arith, fits, across, within, left, right), ap (λ (m : ℕ × ℕ). line_with m source ∷ []) margins_are),
@@ -84,16 +85,16 @@ read_fits skin width columns style kind compounds margins r old new kind_is marg
 pub read_wraps : (skin : LineRules) (width : ℕ) (style : CompositeStyle) (kind : CompositeKind) (compounds : Vec Compound Global) (margins : ℕ × ℕ) (r : Room) (wrapped : List WrappedLine) (old new : List FmtLine)
     → kind ≡ kind_of style → margins ≡ margins_at (skin.line_style kind) (Some width) → r ≡ room_of skin kind (width - margins.0 - margins.1)
     → r.width < r.first + width_of (flagged_text compounds.items) → width < 2 ^ 64 - 1
-    → IsWrapOf r compounds.items (compounds_of wrapped) → AreCounted wrapped → PutsLines r kind None margins wrapped old new
+    → IsWrapOf r compounds.items (compounds_of wrapped) → AreCounted wrapped → PutsLines r kind None margins wrapped old new → IsTypedText (said_by style compounds)
     → IsReadAndPushed skin width (said_by style compounds) old new
-read_wraps skin width style kind compounds margins r wrapped old new kind_is margins_are room_is wide range wrap counted are =
+read_wraps skin width style kind compounds margins r wrapped old new kind_is margins_are room_is wide range wrap counted are typed =
     let length = (room_of skin kind width).first + width_of (flagged_text compounds.items) in
     let source : FmtComposite = record { kind = kind; compounds = compounds; visible_length = capped length; spacing = None; margins = None } in
     let first : r.first ≡ (room_of skin kind (width - margins.0 - margins.1)).first = ap (λ (q : Room). q.first) room_is in
     let across : r.width ≡ width - margins.0 - margins.1 = ap (λ (q : Room). q.width) room_is in
     let pushed = pushed_wrap skin width source margins r wrapped old new margins_are room_is (omega (arith, wide, first, across, range)) wrap counted are in (
       source,
-      record { kind = kind_is; text = refl; measured = refl; spacing = refl; margins = refl },
+      record { kind = kind_is; text = refl; measured = refl; spacing = refl; margins = refl; known = typed },
       pushed.0,
       pushed.1,
       pushed.2,

@@ -2,6 +2,7 @@
 use Rattle.std.specs.Prelude.{◌≡◌, ℕ, ◌+◌, ◌-◌, Bool, true, false, List, [], ◌∷◌, ◌++◌, length, take, replicate, map, None}
 use Rattle.mad_md.specs.Flagged.{run_of}
 use Rattle.mad_md.specs.Lines.{StyledRuns, LineContent, normal, table_row, table_rule, horizontal_rule}
+use Rattle.mad_md.specs.TypedLines.{IsTypedText}
 use Rattle.mad_md.specs.declared.alignment.Alignment.{Alignment}
 use Rattle.mad_md.specs.declared.compound.Compound.{Compound}
 use Rattle.mad_style.specs.Kinds.{kind_of}
@@ -51,17 +52,18 @@ abbrev pub widest_line : List FmtLine → ℕ
 widest_line = most columns_of_line
 
 -- The composite is of this kind and says this, measured in this skin; it is not yet laid out, so it has no place of its own and no
--- margins.
-pub record IsReadAs (skin : LineRules) (read_kind : CompositeKind) (Says : List Compound → Type 0) (l : FmtComposite) : Type 0 where
+-- margins. Of what was read this is known.
+pub record IsReadAs (skin : LineRules) (read_kind : CompositeKind) (Says : List Compound → Type 0) (Known : Type 0) (l : FmtComposite) : Type 0 where
   pub kind : l.kind ≡ read_kind
   pub text : Says l.compounds.items
   pub measured : IsMeasured skin l
   pub spacing : l.spacing ≡ None
   pub margins : l.margins ≡ None
+  pub known : Known
 
--- the composite is what was read
+-- the composite is what was read, of which what types promise is so
 abbrev pub IsCompositeRead : LineRules → StyledRuns → FmtComposite → Type 0
-IsCompositeRead skin said l = IsReadAs skin (kind_of said.style) (λ ps. map run_of ps ≡ said.runs) l
+IsCompositeRead skin said l = IsReadAs skin (kind_of said.style) (λ ps. map run_of ps ≡ said.runs) (IsTypedText said) l
 
 -- so are composites, in order
 abbrev pub AreCompositesRead : LineRules → List StyledRuns → List FmtComposite → Type 0

@@ -4,11 +4,14 @@ ghost use Rattle.std.specs.Prelude.{◌≡◌, ◌+◌, ◌<◌, ◌≤◌, ◌+
 ghost use Rattle.mad_measure.specs.TextColumns.{width_of};
 ghost use Rattle.mad_measure.specs.Completions.{Completes};
 ghost use Rattle.mad_md.specs.Flagged.{flagged_of};
+ghost use Rattle.mad_md.specs.Lines.{styled_runs};
+ghost use Rattle.mad_md.specs.TypedLines.{IsTypedText};
 ghost use Rattle.mad_format.specs.Fitting.{extended};
 
 use crate::fitter::Fitter;
 use crate::indents::composite_columns;
 use crate::line_skin::LineSkin;
+use mad_md::typed_texts::typed_composite;
 use mad_md::{Alignment, Composite, Compound};
 use mad_measure::{Spacing, columns};
 use mad_style::CompositeKind;
@@ -52,14 +55,16 @@ impl<'s> FmtComposite<'s> {
         }
     }
 
-    /// A composite as it was read, measured with the indent that it has in this skin.
+    /// A composite as it was read, measured with the indent that it has in this skin. What types promise of what was read is said.
     pub fn from<S: LineSkin>(composite: Composite<'s>, skin: &S) -> Self
         ensures kind { result.kind ≡ kind_of composite.entry.style }
         ensures text { result.compounds.items ≡ composite.entry.compounds.items }
         ensures measured { IsMeasured (S.rules skin.now) result }
         ensures spacing { result.spacing ≡ None }
         ensures margins { result.margins ≡ None }
+        ensures typed { IsTypedText (styled_runs composite.entry) }
     {
+        typed_composite(&composite);
         let Composite { style, compounds } = composite;
         let kind = CompositeKind::from(style);
         let visible_length = composite_columns(skin.items_indentation(), kind, &compounds);

@@ -20,6 +20,7 @@ use crate::indents::follow_up;
 use crate::line::{FmtLine, put_line};
 use crate::line_skin::LineSkin;
 use crate::room::{Room, check_width, margins_and_rest, room_of};
+use mad_md::typed_texts::typed_composite;
 use mad_md::{Composite, Compound};
 use mad_measure::Spacing;
 use mad_style::CompositeKind;
@@ -288,6 +289,7 @@ pub fn push_read<'s, S: LineSkin>(
     ensures { OnOk result ((source : FmtComposite) × IsCompositeRead (S.rules skin.now) (styled_runs composite.entry) source
         × (own : List FmtLine) × (lines.new.items ≡ lines.old.items ++ own) × IsWrapped (S.rules skin.now) width source own) }
 {
+    typed_composite(&composite);
     if width == usize::MAX {
         // Here a composite of more columns fits, by its cached length.
         let composite = FmtComposite::from(composite, skin);

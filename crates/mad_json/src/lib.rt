@@ -8,14 +8,14 @@
 //! 4. [`reading`]: the skin that an object says; [`writing`]: the object that says a skin.
 #![tactic(auto)]
 
-mod errors;
+pub mod errors;
 mod fields;
 mod floats;
 mod lists;
 mod modes;
 mod reading;
 mod scroll_bars;
-mod texts;
+pub mod texts;
 mod writing;
 
 pub use errors::SkinError;

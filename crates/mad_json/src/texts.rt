@@ -26,7 +26,7 @@ const DRAWN_CHAR: char = '*';
 const SUFFIX: char = '.';
 
 /// A style that the tokens of a text say.
-pub(crate) trait FromTokens: Copy {
+pub trait FromTokens: Copy {
     ghost of_tokens: { List StyleToken → Self };
 
     /// The style that a text says.
@@ -70,7 +70,7 @@ impl FromTokens for OrderedItemStyle {
 }
 
 /// The style that a value says, which has to be a text.
-pub(crate) fn read_style<S: FromTokens>(alloc: Global, value: &Value) -> Result<S, ValueError>
+pub fn read_style<S: FromTokens>(alloc: Global, value: &Value) -> Result<S, ValueError>
     ensures ok { IfOk result (λ style. value_said S.of_tokens (view value.now) ≡ Ok style) }
     ensures err { IfErr result (λ e. TellsValue e (value_said S.of_tokens (view value.now))) }
 {

@@ -52,6 +52,6 @@ layout_beside {T} {E} (Err x) skin bar lines area scroll old new limits h = tt
 pub layout_whole : {T E : Type 0} (r : Result T E) (skin : RowSkin) (bar : Option ScrollBar) (lines : List FmtLine) (area : Area) (scroll : ℕ) (old new : Trace)
     → OnOk r (ShowsLayoutBeside skin bar lines area scroll old new) → OnOk r (ShowsLayout skin bar lines area scroll old new)
 layout_whole {T} {E} (Ok x) skin bar lines area scroll old new h =
-    λ source width narrower shown typed keeps layout.
-    took_so old new (AreLinesBeside skin bar lines area scroll) (AreShownIn skin bar lines area scroll) (λ text both. both.whole) (h source width narrower shown typed keeps layout)
+    λ source width narrower shown keeps layout.
+    took_so old new (AreLinesBeside skin bar lines area scroll) (AreShownIn skin bar lines area scroll) (λ text both. both.whole) (h source width narrower shown keeps layout)
 layout_whole {T} {E} (Err x) skin bar lines area scroll old new h = tt

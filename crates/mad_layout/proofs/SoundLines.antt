@@ -17,12 +17,12 @@ use Rattle.mad_format.specs.Indents.{indent, room_of}
 use Rattle.mad_format.specs.Wraps.{IsMeasured}
 use Rattle.mad_format.specs.declared.composite.FmtComposite.{FmtComposite}
 use Rattle.mad_format.specs.declared.line.FmtLine.{FmtLine}
-use Rattle.mad_format.specs.declared.line.FmtLine.TheVariants.{Normal, TableRow, TableRule, HorizontalRule}
+use Rattle.mad_format.specs.declared.line.FmtLine.TheVariants.{TableRow, TableRule}
 use Rattle.mad_wrap.specs.WrapLines.{HasRoom}
 use Rattle.mad_rows.specs.RowStyles.{line_rules, index_suffix}
 use Rattle.mad_rows.specs.declared.row_skin.RowSkin.{RowSkin}
 use Rattle.mad_blocks.specs.TextParts.{LineInPart}
-use Rattle.mad_layout.specs.Premises.{AreJoined, IsColumnChar, IsPrintableRun, IsPrintablePrefix, IsPrintableText, AreBordersShown, ArePrintableIn, IsPrintableContent, KeepsPremises, AreTyped, inner_width, runs_text}
+use Rattle.mad_layout.specs.Premises.{AreJoined, IsColumnChar, IsPrintableRun, IsPrintablePrefix, IsPrintableText, AreBordersShown, ArePrintableIn, IsPrintableContent, KeepsPremises, inner_width, runs_text}
 use Rattle.mad_layout.specs.PrintableTables.{IsTypedKind, ArePrintableCells, IsPrintableTableLine}
 use Rattle.mad_layout.specs.TableColumns.{kept_widths}
 
@@ -108,6 +108,10 @@ sound_content skin width part (normal said) typed keeps = sound_said skin (inner
 sound_content skin width part (table_row cells) typed keeps = (keeps.0, keeps.1, sound_in skin (kept_widths skin width part) cells typed keeps.2)
 sound_content skin width part (table_rule aligns) typed keeps = keeps
 sound_content skin width part horizontal_rule typed keeps = keeps
+
+-- these lines of a text are as their types promise
+abbrev pub AreTyped : List LineInPart → Type 0
+AreTyped lines = AllByRecursion (λ l. IsTypedLine l.line) lines
 
 -- lines that are as types promise, and keep the premises, are so
 pub sound_lines : (skin : RowSkin) (width : ℕ) (lines : List LineInPart) → AreTyped lines → KeepsPremises skin width lines → AreSoundLines skin width lines

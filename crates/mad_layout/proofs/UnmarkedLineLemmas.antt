@@ -11,6 +11,7 @@ use Rattle.std.proofs.lemmas.List.{append-nil, length-append, length-drop}
 use Rattle.mad_md.proofs.UnmarkedLemmas.{and_not, unmarked_low}
 use Rattle.mad_md.specs.Flagged.{Run, unflagged, flagged, flagged_text, run_of}
 use Rattle.mad_md.specs.Lines.{LineContent}
+use Rattle.mad_md.specs.TypedLines.{IsTypedRun}
 use Rattle.mad_md.specs.UnmarkedLines.{AreUnmarkedBytes, is_unmarked_byte}
 use Rattle.mad_md.specs.ReadRaw.{raw_runs, unflagged_line}
 use Rattle.mad_md.specs.declared.compound.Compound.{Compound}
@@ -79,6 +80,10 @@ holding_width v [] text is = ap columns (sym (chars_of_empty [] refl))
 holding_width v (b ∷ bs) text is =
     ap width_of (append-nil (flagged unflagged (chars text.now))) ∙ width_of-flagged unflagged (chars text.now) ∙ ap (λ t. columns (chars t)) is
 
+raw_typed : (bs : List ℕ) → IsUtf8 bs → AllByRecursion IsTypedRun (raw_runs bs)
+raw_typed [] utf8 = tt
+raw_typed (b ∷ bs) utf8 = (utf8, tt)
+
 high : (b : ℕ) → is_unmarked_byte b ≡ true → b < 127
 high b h = grind (arith, nat_tests)
 
@@ -97,6 +102,7 @@ read_unmarked skin v bs text is utf8 h range = record {
   measured = omega (arith, holding_width v bs text is, unmarked_columns bs utf8 h, range);
   spacing = refl;
   margins = refl;
+  known = record { style = tt; runs = raw_typed bs utf8 };
 }
 
 both : (m : ℕ × ℕ) → m.0 ≡ 0 → m.1 ≡ 0 → m ≡ (0, 0)

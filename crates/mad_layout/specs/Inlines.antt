@@ -16,7 +16,7 @@ use Rattle.mad_rows.specs.RowStyles.{line_rules}
 
 -- the line of text as a paragraph, its marks read
 abbrev pub IsInlineOf : RowSkin → List ℕ → FmtComposite → Type 0
-IsInlineOf skin src l = IsReadAs (line_rules skin) Paragraph (IsReadInline src) l
+IsInlineOf skin src l = IsReadAs (line_rules skin) Paragraph (IsReadInline src) (Unit {0}) l
 
 -- the bytes of a line of text, by a reading of its marks
 abbrev pub inline_bytes : RowSkin → List ℕ → List Item → List ℕ

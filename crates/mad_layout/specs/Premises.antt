@@ -4,7 +4,6 @@ use Rattle.std.specs.List.{AllByRecursion}
 use Rattle.std.specs.Char.{is_whitespace}
 use Rattle.std.specs.Str.{chars}
 use Rattle.mad_md.specs.Flagged.{FlaggedChar, Run, flagged, is_blank}
-use Rattle.mad_md.specs.TypedLines.{IsTypedLine}
 use Rattle.mad_md.specs.Lines.{StyledRuns, LineContent, normal, table_row, table_rule, horizontal_rule}
 use Rattle.mad_style.specs.declared.kinds.CompositeKind.{CompositeKind}
 use Rattle.mad_style.specs.declared.kinds.CompositeKind.TheVariants.{ListItem, OrderedListItem, Quote}
@@ -78,7 +77,3 @@ IsPrintableContent skin width part horizontal_rule = IsColumnChar (char_alone sk
 -- so is each of these lines of a text, at a layout's width
 abbrev pub KeepsPremises : RowSkin → ℕ → List LineInPart → Type 0
 KeepsPremises skin width lines = AllByRecursion (λ l. IsPrintableContent skin width l.part l.line) lines
-
--- What types promise of these lines of a text: each text is UTF-8, and each item's number below 2^32. So it is of each line that was read.
-abbrev pub AreTyped : List LineInPart → Type 0
-AreTyped lines = AllByRecursion (λ l. IsTypedLine l.line) lines

@@ -13,7 +13,7 @@ use Rattle.mad_format.specs.declared.line.FmtLine.{FmtLine}
 use Rattle.mad_rows.specs.RowStyles.{line_rules}
 use Rattle.mad_rows.specs.declared.row_skin.RowSkin.{RowSkin}
 use Rattle.mad_layout.specs.Drawable.{AreDrawable}
-use Rattle.mad_layout.specs.Premises.{KeepsPremises, AreTyped}
+use Rattle.mad_layout.specs.Premises.{KeepsPremises}
 use Rattle.mad_layout.specs.Shown.{lines_shown, text_row}
 
 -- the panes of an area: the lines from `scroll` on in the columns that the bar leaves, and the bar
@@ -34,9 +34,9 @@ abbrev pub ShowsDrawableBeside : RowSkin → Option ScrollBar → List FmtLine �
 ShowsDrawableBeside skin bar lines area scroll old new =
     IfSome bar (IsBarShown area.width) → AreDrawable skin (columns_beside bar area.width) (lines_shown lines area scroll) → TookWith old new (AreLinesBeside skin bar lines area scroll)
 
--- what it shows where the lines are a layout of a text, at no more than those columns, and as many lines of the text as the area reaches are as their
--- types promise and keep the premises
+-- what it shows where the lines are a layout of a text, at no more than those columns, and as many lines of the text as the area reaches
+-- keep the premises
 abbrev pub ShowsLayoutBeside : RowSkin → Option ScrollBar → List FmtLine → Area → ℕ → Trace → Trace → Type 0
 ShowsLayoutBeside skin bar lines area scroll old new =
-    (source : List LineContent) (width : ℕ) → width ≤ columns_beside bar area.width → IfSome bar (IsBarShown area.width) → AreTyped (take (scroll + area.height) (lines_in_parts source))
+    (source : List LineContent) (width : ℕ) → width ≤ columns_beside bar area.width → IfSome bar (IsBarShown area.width)
     → KeepsPremises skin width (take (scroll + area.height) (lines_in_parts source)) → IsFittingLayout (line_rules skin) width source lines → TookWith old new (AreLinesBeside skin bar lines area scroll)

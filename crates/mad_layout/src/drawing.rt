@@ -42,7 +42,7 @@ pub fn draw_text<O: Out>(
     // rule, a border and the bar takes one column.
     ensures shown { OnOk result (ShowsDrawable (row_skin text.now.skin.now) (text_bar bar text.now area.now scroll) text.now.lines.items area.now scroll (O.seen out.old) (O.seen out.new)) }
 
-    // The same where the lines are a layout, at no more than those columns, of a text that is as its types promise and keeps the premises.
+    // The same where the lines are a layout, at no more than those columns, of a text that keeps the premises.
     ensures shown_layout { OnOk result (ShowsLayout (row_skin text.now.skin.now) (text_bar bar text.now area.now scroll) text.now.lines.items area.now scroll (O.seen out.old) (O.seen out.new)) }
 
     // The same in the text's own characters, where the layout has three columns at least.

@@ -1,5 +1,5 @@
--- Lines in a box are drawn as they are elsewhere, but for their style.
-use Rattle.std.proofs.Common.{◌≡◌, ℕ, zero, suc, ◌+◌, List, [], ◌∷◌, ◌++◌, map, chars, refl, ap, sym, ◌∙◌, subst, arith, if◌then◌else◌}
+-- Lines in a box, and below a heading, are drawn as they are elsewhere, but for their style and the character of a rule.
+use Rattle.std.proofs.Common.{◌≡◌, ℕ, zero, suc, ◌+◌, List, [], ◌∷◌, ◌++◌, Option, Some, None, map, chars, refl, ap, sym, ◌∙◌, subst, arith, if◌then◌else◌}
 use Rattle.std.specs.List.{AllByRecursion}
 use Rattle.std.specs.Str.{IsUtf8}
 use Rattle.std.proofs.lemmas.List.{map-append}
@@ -11,18 +11,23 @@ use Rattle.mad_style.specs.declared.kinds.CompositeKind.TheVariants.{Paragraph, 
 use Rattle.mad_style.specs.declared.line_styles.LineStyle.{LineStyle}
 use Rattle.mad_style.specs.OrderedItems.{ordered_indent}
 use Rattle.mad_measure.specs.TextColumns.{columns}
-use Rattle.mad_draw.specs.Pieces.{RowPiece, IsShownPiece, AreShownPieces, pieces_columns, single_spaces}
+use Rattle.mad_style.specs.StyledChars.{char_alone}
+use Rattle.mad_style.specs.declared.styled_chars.StyledChar.{StyledChar}
+use Rattle.mad_draw.specs.Pieces.{RowPiece, IsColumnChar, IsColumnPiece, AreShownPieces, char_piece, pieces_columns, single_spaces}
+use Rattle.mad_draw.proofs.ColumnChars.{column_piece}
 use Rattle.mad_format.specs.Indents.{later_indent}
 use Rattle.mad_format.specs.declared.composite.FmtComposite.{FmtComposite}
 use Rattle.mad_format.specs.declared.line.FmtLine.{FmtLine}
 use Rattle.mad_format.specs.declared.line.FmtLine.TheVariants.{Normal, TableRow, TableRule, HorizontalRule}
 use Rattle.mad_rows.specs.Rows.{prefix_pieces, compound_piece}
 use Rattle.mad_rows.specs.RowStyles.{line_style}
+use Rattle.mad_rows.specs.declared.page_styles.PageStyles.{PageStyles}
 use Rattle.mad_rows.specs.declared.row_skin.RowSkin.{RowSkin}
-use Rattle.mad_layout.specs.Drawable.{FillsItsPlace, IsDrawable, IsDrawableLine, AreDrawable}
+use Rattle.mad_layout.specs.Drawable.{FillsItsPlace, IsDrawableLine, AreDrawable}
 use Rattle.mad_sections.specs.declared.gutters.Gutter.{Gutter}
 use Rattle.mad_sections.proofs.Choices.{by_bool}
-use Rattle.mad_page_rows.specs.Faces.{in_box, line_skin}
+use Rattle.mad_page_rows.specs.FaceLaws.{AreFacesShown, AreSignsShown}
+use Rattle.mad_page_rows.specs.Faces.{below_char, in_box, level_above, line_skin, ruled}
 
 -- the texts of pieces
 abbrev texts : List RowPiece → List (List ℕ)
@@ -98,6 +103,56 @@ all_boxed : (skin : RowSkin) (width : ℕ) (ls : List FmtLine) → AreDrawable s
 all_boxed skin width [] h = tt
 all_boxed skin width (l ∷ ls) h = (line_boxed skin width l h.0, all_boxed skin width ls h.1)
 
+-- ---- rules below headings
+
+-- a skin with another rule
+abbrev with_rule : RowSkin → StyledChar → RowSkin
+with_rule skin rule = record skin { horizontal_rule = rule }
+
+prefix_ruled : (skin : RowSkin) (rule : StyledChar) (kind : CompositeKind) → prefix_pieces skin kind ≡ prefix_pieces (with_rule skin rule) kind
+prefix_ruled skin rule Paragraph = refl
+prefix_ruled skin rule (Header level) = refl
+prefix_ruled skin rule (ListItem depth) = refl
+prefix_ruled skin rule (ListItemFollowUp depth) = refl
+prefix_ruled skin rule (OrderedListItem level index) = refl
+prefix_ruled skin rule (OrderedListItemFollowUp level index) = refl
+prefix_ruled skin rule Code = refl
+prefix_ruled skin rule Quote = refl
+
+fills_ruled : (skin : RowSkin) (rule : StyledChar) (l : FmtComposite) → FillsItsPlace skin l → FillsItsPlace (with_rule skin rule) l
+fills_ruled skin rule l h = record {
+  measured = h.measured;
+  place = h.place;
+  prefix = subst AreShownPieces (prefix_ruled skin rule l.kind) h.prefix;
+  indent_is = sym (ap pieces_columns (prefix_ruled skin rule l.kind)) ∙ h.indent_is;
+  text = h.text;
+}
+
+cells_ruled : (skin : RowSkin) (rule : StyledChar) (ls : List FmtComposite) → AllByRecursion (FillsItsPlace skin) ls → AllByRecursion (FillsItsPlace (with_rule skin rule)) ls
+cells_ruled skin rule [] h = tt
+cells_ruled skin rule (l ∷ ls) h = (fills_ruled skin rule l h.0, cells_ruled skin rule ls h.1)
+
+line_ruled : (skin : RowSkin) (rule : StyledChar) (width : ℕ) (l : FmtLine) → IsColumnPiece (char_piece rule) → IsDrawableLine skin width l → IsDrawableLine (with_rule skin rule) width l
+line_ruled skin rule width (Normal l) own h = record { margins = h.margins; margins_are = h.margins_are; fits = h.fits; fills = fills_ruled skin rule l h.fills }
+line_ruled skin rule width (TableRow row) own h = record { fits = h.fits; each = cells_ruled skin rule row.cells.items h.each; border = h.border }
+line_ruled skin rule width (TableRule r) own h = record { fits = h.fits; chars = record { left = h.chars.left; horizontal = h.chars.horizontal; between = h.chars.between; right = h.chars.right } }
+line_ruled skin rule width HorizontalRule own h = own
+
+all_ruled : (skin : RowSkin) (rule : StyledChar) (width : ℕ) (ls : List FmtLine) → IsColumnPiece (char_piece rule) → AreDrawable skin width ls → AreDrawable (with_rule skin rule) width ls
+all_ruled skin rule width [] own h = tt
+all_ruled skin rule width (l ∷ ls) own h = (line_ruled skin rule width l own h.0, all_ruled skin rule width ls own h.1)
+
+below_column : (page : PageStyles) (level : ℕ) → AreSignsShown page → IsColumnChar (char_alone (below_char page level))
+below_column page zero h = h.below_first
+below_column page (suc level) h = h.below_others
+
+drawable_ruled : (skin : RowSkin) (above : Option ℕ) (width : ℕ) (ls : List FmtLine) → AreSignsShown skin.page → AreDrawable skin width ls → AreDrawable (ruled skin above) width ls
+drawable_ruled skin None width ls signs h = h
+drawable_ruled skin (Some level) width ls signs h = all_ruled skin (below_char skin.page level) width ls (column_piece (below_char skin.page level) (below_column skin.page level signs)) h
+
 -- so they are in the skin of a row behind any gutters
-pub drawable_behind : (skin : RowSkin) (gutters : List Gutter) (width : ℕ) (ls : List FmtLine) → AreDrawable skin width ls → AreDrawable (line_skin skin gutters) width ls
-drawable_behind skin gutters width ls h = by_bool (λ t. AreDrawable (if t then boxed skin else skin) width ls) (in_box skin gutters) (λ e. all_boxed skin width ls h) (λ e. h)
+pub drawable_behind : (skin : RowSkin) (gutters : List Gutter) (width : ℕ) (ls : List FmtLine) → AreFacesShown skin → AreDrawable skin width ls → AreDrawable (line_skin skin gutters) width ls
+drawable_behind skin gutters width ls faces h =
+    let above : Option ℕ = level_above gutters in
+    by_bool (λ t. AreDrawable (ruled (if t then boxed skin else skin) above) width ls) (in_box skin gutters)
+    (λ e. drawable_ruled (boxed skin) above width ls faces.page (all_boxed skin width ls h)) (λ e. drawable_ruled skin above width ls faces.page h)

@@ -1,40 +1,40 @@
 -- The faces of gutters fill their columns.
 use Rattle.std.proofs.Common.{◌≡◌, ℕ, zero, suc, ◌+◌, ◌-◌, ◌^◌, ◌<◌, ◌≤◌, Bool, true, false, List, [], ◌∷◌, ◌++◌, length, take, drop, Some, refl, ap, sym, ◌∙◌, subst, arith}
-use Rattle.std.specs.Prelude.{unwrap_or, encode_utf8, decimal, if◌then◌else◌}
+use Rattle.std.specs.Prelude.{decimal, if◌then◌else◌}
 use Rattle.std.specs.Char.{IsScalar}
 use Rattle.std.specs.List.{AllByRecursion, flat_map}
 use Rattle.std.specs.Str.{chars, IsAscii}
 use Rattle.std.proofs.lemmas.Str.{IsUtf8-from_ascii, chars-IsAscii}
 use Rattle.std.proofs.lemmas.Str.Ascii.{IsAscii-cons, IsAscii-nil}
-use Rattle.std.proofs.Math.Utf8.{encode}
-use Rattle.unicode_width.specs.Width.{char_width}
-use Rattle.unicode_width.proofs.Computing.{unicode_width}
 use Rattle.mad_characters.specs.Columns.{char_columns}
 use Rattle.mad_characters.proofs.CharColumns.{char_columns-ascii}
 use Rattle.mad_screen.specs.Painting.{IsShown}
 use Rattle.std.proofs.lemmas.List.Concat.{flat_map-append}
 use Rattle.mad_screen.specs.Glyph.{Glyph}
 use Rattle.mad_screen.specs.Painting.{piece_cells}
-use Rattle.mad_style.specs.StyledChars.{char_style, char_alone, styled_char}
+use Rattle.mad_style.specs.StyledChars.{char_style, char_alone}
+use Rattle.mad_style.specs.declared.styled_chars.StyledChar.{StyledChar}
 use Rattle.mad_style.specs.declared.compound_styles.CompoundStyle.{CompoundStyle}
 use Rattle.mad_measure.specs.TextColumns.{columns}
 use Rattle.mad_measure.proofs.AllLemmas.{all_joined}
-use Rattle.mad_draw.specs.Pieces.{RowPiece, IsColumnChar, IsColumnPiece, IsShownPiece, AreShownPieces, FillsRow, pieces_columns, penned_chars, char_piece, spaces}
+use Rattle.mad_draw.specs.Pieces.{RowPiece, IsColumnChar, IsShownPiece, FillsRow, pieces_columns, penned_chars, char_piece, char_repeat}
 use Rattle.mad_draw.specs.PennedCells.{penned_cells}
 use Rattle.mad_draw.proofs.CellLemmas.{cells_of_pieces}
 use Rattle.mad_draw.proofs.ColumnChars.{printed_char, column_piece}
+use Rattle.mad_draw.proofs.RunLemmas.{run_shown, run_columns}
 use Rattle.mad_draw.proofs.PieceLemmas.{columns-both, spaces_columns, shown_spaces, pieces_cells, length-pieces_cells}
-use Rattle.mad_rows.specs.Rows.{number_piece, line_pieces}
 use Rattle.mad_rows.specs.RowStyles.{ordered_item_style}
+use Rattle.mad_rows.specs.declared.page_styles.PageStyles.{PageStyles}
 use Rattle.mad_rows.specs.declared.row_skin.RowSkin.{RowSkin}
 use Rattle.mad_layout.proofs.PrefixLemmas.{number_shown, number_columns}
 use Rattle.mad_sections.specs.Gutters.{gutter_columns, columns_of}
 use Rattle.mad_sections.specs.declared.gutters.Gutter.{Gutter}
-use Rattle.mad_sections.specs.declared.gutters.Gutter.TheVariants.{Bar, Bullet, Number, Task, Code}
+use Rattle.mad_sections.specs.declared.gutters.Gutter.TheVariants.{Bar, AlertBar, Bullet, Number, Task, Code, Signs, Below}
+use Rattle.mad_sections.specs.declared.gutters.Alert.{Alert}
+use Rattle.mad_sections.specs.declared.gutters.Alert.TheVariants.{Note, Tip, Important, Warning, Caution}
 use Rattle.mad_sections.proofs.Choices.{by_bool}
-use Rattle.mad_pages.specs.PageRows.{RowContent}
-use Rattle.mad_page_rows.specs.FaceLaws.{AreFacesShown, IsTypedGutter, front_columns, fronts, FacesFill, RowsFill, CellsAreBehind}
-use Rattle.mad_page_rows.specs.Faces.{has_ascii_boxes, has_boxes, box_text, blanks, code_blanks, code_face, first_face, other_face, face, faces, is_code, codes, back_columns, backs, behind_pieces, page_row_pieces}
+use Rattle.mad_page_rows.specs.FaceLaws.{AreFacesShown, AreSignsShown, IsTypedGutter, front_columns, fronts, FacesFill, RowsFill, CellsAreBehind}
+use Rattle.mad_page_rows.specs.Faces.{has_ascii_boxes, has_boxes, task_box, ascii_box, box_piece, alert_bar, heading_sign, blanks, code_blanks, code_face, first_face, other_face, face, faces, is_code, codes, back_columns, backs, behind_pieces, page_row_pieces}
 
 -- ---- pieces, joined
 
@@ -52,21 +52,7 @@ piece_fills skin p n shown columns_are =
     let blank : FillsRow 1 (blanks skin 1) = blanks_fill skin 1 in
     record { shown = (shown, blank.shown); columns = omega (arith, columns_are, blank.columns) }
 
--- ---- boxes
-
-one_column : (c : ℕ) → IsScalar c → char_width false c ≡ Some 1 → IsColumnChar c
-unfolding char_columns
-one_column c scalar width = record { scalar = scalar; one = ap (λ o. unwrap_or o 0) width }
-
--- ☐
-u2610_column : IsColumnChar 0x2610
-unfolding unicode_width
-u2610_column = one_column 0x2610 refl refl
-
--- ☑
-u2611_column : IsColumnChar 0x2611
-unfolding unicode_width
-u2611_column = one_column 0x2611 refl refl
+-- ---- characters
 
 ascii_column : (c : ℕ) → IsScalar c → 32 ≤ c → c < 127 → IsColumnChar c
 ascii_column c scalar low high = record { scalar = scalar; one = char_columns-ascii c low high }
@@ -83,35 +69,48 @@ three_fill style a b c a_low a_high b_low b_high c_low c_high =
       ap columns same ∙ omega (arith, one, two, three),
     )
 
-open_is : encode_utf8 0x2610 ≡ box_text false false
-unfolding encode
-open_is = refl
+-- a character of one column, and a blank
+char_fills : (skin : RowSkin) (c : StyledChar) → IsColumnChar (char_alone c) → FillsRow 2 (char_piece c ∷ blanks skin 1)
+char_fills skin c h = let one = column_piece c h in piece_fills skin (char_piece c) 1 one.shown one.one
 
-ticked_is : encode_utf8 0x2611 ≡ box_text false true
-unfolding encode
-ticked_is = refl
-
--- a character of one column, in the bullet's style
-sign_fills : (skin : RowSkin) (c : ℕ) (text : List ℕ) → IsColumnChar c → encode_utf8 c ≡ text → FillsRow 2 (record { style = (char_style skin.bullet).object_style; text = text } ∷ blanks skin 1)
-sign_fills skin c text h is =
-    let one = column_piece (styled_char (char_style skin.bullet) c) h in
-    subst (λ (t : List ℕ). FillsRow 2 (record { style = (char_style skin.bullet).object_style; text = t } ∷ blanks skin 1)) is
-    (piece_fills skin (record { style = (char_style skin.bullet).object_style; text = encode_utf8 c }) 1 one.shown one.one)
-
-box_fills : (skin : RowSkin) (ascii done : Bool) → FillsRow (if ascii then 4 else 2) (record { style = (char_style skin.bullet).object_style; text = box_text ascii done } ∷ blanks skin 1)
-box_fills skin true true =
-    let three = three_fill (char_style skin.bullet) 91 120 93 (omega arith) (omega arith) (omega arith) (omega arith) (omega arith) (omega arith) in
+ascii_fills : (skin : RowSkin) (style : CompoundStyle) (done : Bool) → FillsRow 4 (record { style = style.object_style; text = ascii_box done } ∷ blanks skin 1)
+ascii_fills skin style true =
+    let three = three_fill style 91 120 93 (omega arith) (omega arith) (omega arith) (omega arith) (omega arith) (omega arith) in
     piece_fills skin _ 3 three.0 three.1
-box_fills skin true false =
-    let three = three_fill (char_style skin.bullet) 91 32 93 (omega arith) (omega arith) (omega arith) (omega arith) (omega arith) (omega arith) in
+ascii_fills skin style false =
+    let three = three_fill style 91 32 93 (omega arith) (omega arith) (omega arith) (omega arith) (omega arith) (omega arith) in
     piece_fills skin _ 3 three.0 three.1
-box_fills skin false true = sign_fills skin 0x2611 _ u2611_column ticked_is
-box_fills skin false false = sign_fills skin 0x2610 _ u2610_column open_is
+
+task_column : (page : PageStyles) (done : Bool) → AreSignsShown page → IsColumnChar (char_alone (task_box page done))
+task_column page true h = h.done
+task_column page false h = h.task
+
+box_fills : (skin : RowSkin) (done : Bool) → AreFacesShown skin → FillsRow (if has_ascii_boxes skin then 4 else 2) (box_piece skin done ∷ blanks skin 1)
+box_fills skin done h =
+    let sign : StyledChar = task_box skin.page done in
+    let ascii : RowPiece = record { style = (char_style sign).object_style; text = ascii_box done } in
+    by_bool (λ t. FillsRow (if t then 4 else 2) ((if t then ascii else char_piece sign) ∷ blanks skin 1)) (has_ascii_boxes skin)
+    (λ e. ascii_fills skin (char_style sign) done) (λ e. char_fills skin sign (task_column skin.page done h.page))
 
 -- ---- faces
 
-bar_fills : (skin : RowSkin) → AreFacesShown skin → FillsRow 2 (char_piece skin.quote_mark ∷ blanks skin 1)
-bar_fills skin h = let one = column_piece skin.quote_mark h.bar in piece_fills skin (char_piece skin.quote_mark) 1 one.shown one.one
+alert_column : (page : PageStyles) (alert : Alert) → AreSignsShown page → IsColumnChar (char_alone (alert_bar page alert))
+alert_column page Note h = h.note
+alert_column page Tip h = h.tip
+alert_column page Important h = h.important
+alert_column page Warning h = h.warning
+alert_column page Caution h = h.caution
+
+alert_fills : (skin : RowSkin) (alert : Alert) → AreFacesShown skin → FillsRow 2 (char_piece (alert_bar skin.page alert) ∷ blanks skin 1)
+alert_fills skin alert h = char_fills skin (alert_bar skin.page alert) (alert_column skin.page alert h.page)
+
+-- the signs of a heading, and a blank
+signs_fill : (skin : RowSkin) (level : ℕ) → FillsRow (level + 2) (char_repeat (heading_sign skin level) (level + 1) ++ blanks skin 1)
+signs_fill skin level =
+    let sign = column_piece (heading_sign skin level) (ascii_column 35 refl (omega arith) (omega arith)) in
+    let signs : FillsRow (level + 1) (char_repeat (heading_sign skin level) (level + 1)) = record { shown = run_shown (heading_sign skin level) (level + 1) sign; columns = run_columns (heading_sign skin level) (level + 1) sign } in
+    let all : level + 1 + 1 ≡ level + 2 = omega arith in
+    subst (λ (n : ℕ). FillsRow n (char_repeat (heading_sign skin level) (level + 1) ++ blanks skin 1)) all (both_fill (level + 1) 1 _ _ signs (blanks_fill skin 1))
 
 number_fills : (skin : RowSkin) (n : ℕ) → AreFacesShown skin → n < 2 ^ 32 → FillsRow (length (decimal n) + 2) (first_face skin (Number n))
 number_fills skin n h fits =
@@ -126,18 +125,24 @@ code_fills : (skin : RowSkin) → FillsRow (front_columns skin Code) (code_face 
 code_fills skin = by_bool (λ t. FillsRow (if t then 1 else 2) (if t then code_blanks skin 1 else blanks skin 2)) (has_boxes skin) (λ e. sides_fill skin 1) (λ e. blanks_fill skin 2)
 
 first_fills : (skin : RowSkin) (g : Gutter) → AreFacesShown skin → IsTypedGutter g → FillsRow (front_columns skin g) (first_face skin g)
-first_fills skin Bar h typed = bar_fills skin h
-first_fills skin Bullet h typed = let one = column_piece skin.bullet h.bullet in piece_fills skin (char_piece skin.bullet) 1 one.shown one.one
+first_fills skin Bar h typed = char_fills skin skin.quote_mark h.bar
+first_fills skin (AlertBar alert) h typed = alert_fills skin alert h
+first_fills skin Bullet h typed = char_fills skin skin.bullet h.bullet
 first_fills skin (Number n) h typed = number_fills skin n h typed
-first_fills skin (Task done) h typed = box_fills skin (has_ascii_boxes skin) done
+first_fills skin (Task done) h typed = box_fills skin done h
 first_fills skin Code h typed = code_fills skin
+first_fills skin (Signs level) h typed = signs_fill skin level
+first_fills skin (Below level) h typed = record { shown = tt; columns = refl }
 
 other_fills : (skin : RowSkin) (g : Gutter) → AreFacesShown skin → FillsRow (front_columns skin g) (other_face skin g)
-other_fills skin Bar h = bar_fills skin h
+other_fills skin Bar h = char_fills skin skin.quote_mark h.bar
+other_fills skin (AlertBar alert) h = alert_fills skin alert h
 other_fills skin Bullet h = blanks_fill skin 2
 other_fills skin (Number n) h = blanks_fill skin _
 other_fills skin (Task done) h = blanks_fill skin _
 other_fills skin Code h = code_fills skin
+other_fills skin (Signs level) h = blanks_fill skin _
+other_fills skin (Below level) h = blanks_fill skin 0
 
 face_fills : (skin : RowSkin) (first : Bool) (g : Gutter) → AreFacesShown skin → IsTypedGutter g → FillsRow (front_columns skin g) (face skin first g)
 face_fills skin true g h typed = first_fills skin g h typed
@@ -163,10 +168,13 @@ typed_parts (g ∷ gs) (suc k) h = let rest = typed_parts gs k h.1 in ((h.0, res
 -- in front and behind
 both_sides : (skin : RowSkin) (g : Gutter) → front_columns skin g + (if has_boxes skin then (if is_code g then 1 else 0) else 0) ≡ gutter_columns (has_ascii_boxes skin) g
 both_sides skin Bar = by_bool (λ t. 2 + (if t then 0 else 0) ≡ 2) (has_boxes skin) (λ e. omega arith) (λ e. omega arith)
+both_sides skin (AlertBar alert) = by_bool (λ t. 2 + (if t then 0 else 0) ≡ 2) (has_boxes skin) (λ e. omega arith) (λ e. omega arith)
 both_sides skin Bullet = by_bool (λ t. 2 + (if t then 0 else 0) ≡ 2) (has_boxes skin) (λ e. omega arith) (λ e. omega arith)
 both_sides skin (Number n) = by_bool (λ t. length (decimal n) + 2 + (if t then 0 else 0) ≡ length (decimal n) + 2) (has_boxes skin) (λ e. omega arith) (λ e. omega arith)
 both_sides skin (Task done) = by_bool (λ t. (if has_ascii_boxes skin then 4 else 2) + (if t then 0 else 0) ≡ (if has_ascii_boxes skin then 4 else 2)) (has_boxes skin) (λ e. omega arith) (λ e. omega arith)
 both_sides skin Code = by_bool (λ t. (if t then 1 else 2) + (if t then 1 else 0) ≡ 2) (has_boxes skin) (λ e. omega arith) (λ e. omega arith)
+both_sides skin (Signs level) = by_bool (λ t. level + 2 + (if t then 0 else 0) ≡ level + 2) (has_boxes skin) (λ e. omega arith) (λ e. omega arith)
+both_sides skin (Below level) = by_bool (λ t. 0 + (if t then 0 else 0) ≡ 0) (has_boxes skin) (λ e. omega arith) (λ e. omega arith)
 
 all_sides : (skin : RowSkin) (gs : List Gutter) → fronts skin gs + back_columns skin gs ≡ columns_of (has_ascii_boxes skin) gs
 all_sides skin [] = by_bool (λ t. 0 + (if t then 0 else 0) ≡ 0) (has_boxes skin) (λ e. omega arith) (λ e. omega arith)

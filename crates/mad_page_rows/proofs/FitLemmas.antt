@@ -9,15 +9,17 @@ use Rattle.mad_draw.specs.Pieces.{FillsRow}
 use Rattle.mad_rows.specs.Rows.{line_pieces}
 use Rattle.mad_rows.specs.RowStyles.{line_rules}
 use Rattle.mad_rows.specs.declared.row_skin.RowSkin.{RowSkin}
+use Rattle.mad_blocks.specs.LayoutParts.{wrap_width}
 use Rattle.mad_blocks.specs.Layouts.{IsLayoutAt}
 use Rattle.mad_blocks.specs.FittingLayouts.{IsFittingLayout}
 use Rattle.mad_blocks.specs.TextParts.{lines_in_parts}
 use Rattle.mad_blocks.proofs.WrapKinds.{layout_fitting}
 use Rattle.mad_layout.specs.Drawable.{AreDrawable}
-use Rattle.mad_layout.specs.Premises.{AreTyped, KeepsPremises}
+use Rattle.mad_layout.specs.Premises.{KeepsPremises}
 use Rattle.mad_layout.proofs.DrawableLemmas.{fitting_is_drawable}
 use Rattle.mad_layout.proofs.RunLemmas.{any_columns, any_shown}
-use Rattle.mad_layout.proofs.SoundLines.{AreSoundLines, sound_lines}
+use Rattle.mad_layout.proofs.ReadSound.{laid_sound}
+use Rattle.mad_layout.proofs.SoundLines.{AreSoundLines}
 use Rattle.mad_sections.specs.Gutters.{columns_of, shown_at, room_at}
 use Rattle.mad_sections.specs.Sections.{SectionContent}
 use Rattle.mad_sections.specs.declared.gutters.Gutter.{Gutter}
@@ -46,14 +48,14 @@ drawable_fill : (skin : RowSkin) (room : ℕ) (lines : List FmtLine) → AreDraw
 drawable_fill skin room [] h = tt
 drawable_fill skin room (l ∷ lines) h = (record { shown = any_shown skin room l h.0; columns = any_columns skin room l h.0 }, drawable_fill skin room lines h.1)
 
-layout_fills : (skin : RowSkin) (gutters : List Gutter) (room : ℕ) (text : List LineContent) (lines : List FmtLine) → 3 ≤ room → room < 2 ^ 64 - 1 → AreTyped (lines_in_parts text) → KeepsPremises skin room (lines_in_parts text) → IsLayoutAt (line_rules skin) (Some room) text lines
+layout_fills : (skin : RowSkin) (gutters : List Gutter) (room : ℕ) (text : List LineContent) (lines : List FmtLine) → AreFacesShown skin → 3 ≤ room → room < 2 ^ 64 - 1 → KeepsPremises skin room (lines_in_parts text) → IsLayoutAt (line_rules skin) (Some room) text lines
     → AllByRecursion (λ (l : FmtLine). FillsRow room (line_pieces (line_skin skin gutters) (Some room) true l)) lines
-layout_fills skin gutters room text lines three bound typed keeps layout =
+layout_fills skin gutters room text lines faces three bound keeps layout =
     let n : ℕ = length lines in
     let fitting : IsFittingLayout (line_rules skin) room text lines = layout_fitting (line_rules skin) (Some room) text lines layout three in
-    let sound : AreSoundLines skin room (take n (lines_in_parts text)) = sound_lines skin room (take n (lines_in_parts text)) (all_taken _ n (lines_in_parts text) typed) (all_taken _ n (lines_in_parts text) keeps) in
+    let sound : AreSoundLines skin room (take n (lines_in_parts text)) = laid_sound skin room (wrap_width (Some room)) room n text lines layout (all_taken _ n (lines_in_parts text) keeps) in
     let first : AreDrawable skin room (take n lines) = fitting_is_drawable skin room room n text lines (omega arith) bound sound fitting in
-    drawable_fill (line_skin skin gutters) room lines (drawable_behind skin gutters room lines (subst (AreDrawable skin room) (take-length lines) first))
+    drawable_fill (line_skin skin gutters) room lines (drawable_behind skin gutters room lines faces (subst (AreDrawable skin room) (take-length lines) first))
 
 -- rows behind gutters fill a width, where their lines fill what these leave
 rest_fill : (skin : RowSkin) (width : ℕ) (gs : List Gutter) (lines : List FmtLine) → AreFacesShown skin → AllByRecursion IsTypedGutter gs → columns_of (has_ascii_boxes skin) gs ≤ width
@@ -73,7 +75,7 @@ sections_fill skin width section rows three bound faces keeps s =
     let gs : List Gutter = shown_at ascii width section.gutters in
     let whole : columns_of ascii gs + room_at ascii width section.gutters ≡ width = (shown_are_last ascii width section.gutters).whole in
     let some : 3 ≤ room_at ascii width section.gutters = rooms_last ascii width section.gutters three in
-    let lines = layout_fills skin gs (room_at ascii width section.gutters) section.lines s.lines some (omega (arith, whole)) keeps.typed keeps.premises s.layout in
+    let lines = layout_fills skin gs (room_at ascii width section.gutters) section.lines s.lines faces some (omega (arith, whole)) keeps.premises s.layout in
     subst (AllFill skin width) (sym s.rows_are) (behind_fill skin width gs section.fresh s.lines faces (typed_shown ascii width section.gutters keeps.gutters) (omega (arith, whole)) lines)
 
 -- the rows of sections, one after the other

@@ -5,6 +5,7 @@ use Rattle.mad_style.specs.StyledChars.{char_alone}
 use Rattle.mad_draw.specs.Pieces.{AreShownPieces, FillsRow, IsColumnChar, penned_chars}
 use Rattle.mad_draw.specs.PennedCells.{penned_cells}
 use Rattle.mad_rows.specs.RowStyles.{index_suffix}
+use Rattle.mad_rows.specs.declared.page_styles.PageStyles.{PageStyles}
 use Rattle.mad_rows.specs.declared.row_skin.RowSkin.{RowSkin}
 use Rattle.mad_sections.specs.Gutters.{gutter_columns, columns_of}
 use Rattle.mad_sections.specs.declared.gutters.Gutter.{Gutter}
@@ -12,11 +13,24 @@ use Rattle.mad_sections.specs.declared.gutters.Gutter.TheVariants.{Number, Code}
 use Rattle.mad_pages.specs.PageRows.{RowContent}
 use Rattle.mad_page_rows.specs.Faces.{has_ascii_boxes, has_boxes, faces, back_columns, backs, behind_pieces, page_row_pieces}
 
--- the characters of gutters take one column each: the bar, the bullet, and what is after a number
+-- the characters that a page shows beside its text take one column each: the boxes of tasks, the bars of alerts, and what is below headings
+pub record AreSignsShown (page : PageStyles) : Type 0 where
+  pub task : IsColumnChar (char_alone page.task)
+  pub done : IsColumnChar (char_alone page.done)
+  pub note : IsColumnChar (char_alone page.note)
+  pub tip : IsColumnChar (char_alone page.tip)
+  pub important : IsColumnChar (char_alone page.important)
+  pub warning : IsColumnChar (char_alone page.warning)
+  pub caution : IsColumnChar (char_alone page.caution)
+  pub below_first : IsColumnChar (char_alone page.below_first)
+  pub below_others : IsColumnChar (char_alone page.below_others)
+
+-- the characters of gutters take one column each: the bar, the bullet, what is after a number, and those of a page
 pub record AreFacesShown (skin : RowSkin) : Type 0 where
   pub bar : IsColumnChar (char_alone skin.quote_mark)
   pub bullet : IsColumnChar (char_alone skin.bullet)
   pub suffix : IsColumnChar (index_suffix skin 0)
+  pub page : AreSignsShown skin.page
 
 -- what the type of a gutter promises: a number is below 2^32
 abbrev pub IsTypedGutter : Gutter → Type 0

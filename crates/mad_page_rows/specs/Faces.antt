@@ -1,6 +1,7 @@
 -- What is written of a page's rows, piece by piece.
 use Rattle.std.specs.Prelude.{ℕ, zero, suc, ◌+◌, ◌-◌, nat_lt, is_some, ◌&&◌, ◌||◌, Bool, true, false, List, [], ◌∷◌, ◌++◌, take, drop, length, Option, Some, None, if◌then◌else◌}
-use Rattle.std.specs.List.{flat_map}
+use Rattle.std.specs.List.{flat_map, last_or}
+use Rattle.std.specs.Option.{option_and_then}
 use Rattle.mad_style.specs.StyledChars.{char_style, char_alone, styled_char}
 use Rattle.mad_style.specs.declared.styled_chars.StyledChar.{StyledChar}
 use Rattle.mad_draw.specs.Pieces.{RowPiece, pieces_bytes, char_piece, char_repeat, spaces}
@@ -74,7 +75,7 @@ first_face skin Bullet = char_piece skin.bullet ∷ blanks skin 1
 first_face skin (Number n) = number_piece (ordered_item_style skin 0).index_style n ∷ char_piece (ordered_item_style skin 0).index_suffix ∷ blanks skin 1
 first_face skin (Task done) = box_piece skin done ∷ blanks skin 1
 first_face skin Code = code_face skin
-first_face skin (Signs level) = char_repeat (heading_sign skin level) (suc level) ++ blanks skin 1
+first_face skin (Signs level) = char_repeat (heading_sign skin level) (level + 1) ++ blanks skin 1
 first_face skin (Below level) = []
 
 -- and in front of all others: a bar is there again, and the side of a box, all else is blank
@@ -125,11 +126,14 @@ ends_in_code (g ∷ h ∷ gs) = ends_in_code (h ∷ gs)
 abbrev pub in_box : RowSkin → List Gutter → Bool
 in_box skin gs = has_boxes skin && ends_in_code gs
 
+-- the level of the heading that a gutter is below, if it is below one
+abbrev pub level_of : Gutter → Option ℕ
+level_of (Below level) = Some level
+level_of g = None
+
 -- the level of the heading that a row is below, if its last gutter says so
 abbrev pub level_above : List Gutter → Option ℕ
-level_above [] = None
-level_above (Below level ∷ []) = Some level
-level_above (g ∷ gs) = level_above gs
+level_above gs = option_and_then level_of (last_or None gs)
 
 -- a skin whose rules are drawn as those below a heading of this level, if there is one
 abbrev pub ruled : RowSkin → Option ℕ → RowSkin

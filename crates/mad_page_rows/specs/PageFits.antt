@@ -5,7 +5,7 @@ use Rattle.mad_draw.specs.Pieces.{FillsRow}
 use Rattle.mad_rows.specs.RowStyles.{line_rules}
 use Rattle.mad_rows.specs.declared.row_skin.RowSkin.{RowSkin}
 use Rattle.mad_blocks.specs.TextParts.{lines_in_parts}
-use Rattle.mad_layout.specs.Premises.{AreTyped, KeepsPremises}
+use Rattle.mad_layout.specs.Premises.{KeepsPremises}
 use Rattle.mad_sections.specs.Gutters.{room_at}
 use Rattle.mad_sections.specs.Sections.{SectionContent}
 use Rattle.mad_sections.specs.Unfolded.{unfolded}
@@ -14,10 +14,9 @@ use Rattle.mad_pages.specs.PageRows.{RowContent}
 use Rattle.mad_page_rows.specs.FaceLaws.{AreFacesShown, IsTypedGutter}
 use Rattle.mad_page_rows.specs.Faces.{has_ascii_boxes, page_row_pieces}
 
--- A section keeps the premises at a width: its lines keep those of a text in its room, and types promise what they do.
+-- A section keeps the premises at a width: its lines keep those of a text in its room, and types promise what they do of its gutters.
 pub record KeepsRoom (skin : RowSkin) (width : ℕ) (section : SectionContent) : Type 0 where
   pub gutters : AllByRecursion IsTypedGutter section.gutters
-  pub typed : AreTyped (lines_in_parts section.lines)
   pub premises : KeepsPremises skin (room_at (has_ascii_boxes skin) width section.gutters) (lines_in_parts section.lines)
 
 -- rows that each fill the width exactly

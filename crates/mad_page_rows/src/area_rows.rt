@@ -3,9 +3,8 @@
 ghost use Rattle.std.specs.Prelude.{◌≡◌, ◌++◌, Some, true, OnOk, string_bytes, slice_get};
 ghost use Rattle.std.specs.Option.{option_copied};
 ghost use Rattle.mad_draw.specs.Pieces.{AreKnown, pieces_bytes};
-ghost use Rattle.mad_rows.specs.RowStyles.{IsKnownItem};
 ghost use Rattle.mad_pages.specs.Fronts.{front_content, row_behind};
-ghost use Rattle.mad_page_rows.specs.AreaRows.{AreKnownFaces, row_shown};
+ghost use Rattle.mad_page_rows.specs.AreaRows.{row_shown};
 ghost use Rattle.mad_page_rows.specs.Faces.{behind_pieces, blanks, page_row_pieces};
 
 use crate::faces::{blanks, columns_left, line_skin};
@@ -13,8 +12,7 @@ use crate::page_rows::PlacedFrontRow;
 use mad_draw::Rows;
 use mad_format::FmtLine;
 use mad_pages::{Front, PageRow, front_of};
-use mad_rows::{RowSkin, know_parts, know_row};
-use mad_style::OrderedItemStyle;
+use mad_rows::{RowSkin, know_row, know_styles};
 use std::alloc::AllocError;
 
 /// The rows of a page in a place: each shows the row of its number, and past the last one spaces in the paragraph's style.
@@ -72,7 +70,7 @@ pub fn push_placed(
     ensures writes { OnOk result (string_bytes bytes.new ≡ string_bytes bytes.old ++ pieces_bytes (page_row_pieces skin.now (Some width) true (row_behind (front_content front.entry) line.now))) }
     ensures known { AreKnown (page_row_pieces skin.now (Some width) true (row_behind (front_content front.entry) line.now)) }
 {
-    know_faces(skin);
+    know_styles(skin);
     know_behind(skin, front, line, width);
     let placed = PlacedFrontRow {
         skin,
@@ -101,16 +99,3 @@ fn know_behind(skin: &RowSkin, front: Front, line: &FmtLine, width: usize)
     let rest = columns_left(skin, front.gutters, width);
     know_row(&line_skin(skin, front.gutters), Some(line), rest);
 }
-
-/// The numbers of the colors of faces are bytes. Nothing is done.
-pub fn know_faces(skin: &RowSkin)
-    ensures { AreKnownFaces skin.now }
-{
-    know_parts(*skin);
-    know_item(*skin.ordered_item_style(0));
-}
-
-// So they are in the styles of items.
-fn know_item(item: OrderedItemStyle)
-    ensures { IsKnownItem item }
-{}

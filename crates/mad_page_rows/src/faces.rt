@@ -3,13 +3,13 @@
 ghost use Rattle.std.specs.Prelude.{◌≡◌, ◌≤◌, ◌-◌, ◌||◌, length, Some};
 ghost use Rattle.mad_draw.specs.Pieces.{pieces_bytes, spaces};
 ghost use Rattle.mad_sections.specs.Gutters.{columns_of, gutter_columns};
-ghost use Rattle.mad_page_rows.specs.Faces.{backs, alert_bar, ascii_box, below_char, code_face, codes, columns_behind, ends_in_code, face, has_ascii_boxes, has_boxes, heading_sign, in_box, is_code, level_above, line_skin, ruled, task_box};
+ghost use Rattle.mad_page_rows.specs.Faces.{backs, alert_bar, ascii_box, below_char, code_face, codes, columns_behind, ends_in_code, face, has_ascii_boxes, has_boxes, heading_sign, in_box, is_code, level_above, level_of, line_skin, ruled, task_box};
 ghost use Rattle.mad_rows.specs.RowStyles.{ordered_item_style};
 
 use mad_draw::{CharRepeat, Spaces};
 use mad_rows::{PageStyles, RowSkin};
-use mad_sections::{Alert, Gutter};
 use mad_sections::gutters::gutter_columns;
+use mad_sections::{Alert, Gutter};
 use mad_style::StyledChar;
 use mad_term::StyledNumber;
 use std::fmt::{self, Display};
@@ -332,13 +332,23 @@ pub fn is_filled(skin: &RowSkin, gutters: &[Gutter], filled: bool) -> bool
     filled || in_box(skin, gutters)
 }
 
+// The level of the heading that a gutter is below, if it is below one.
+fn level_of(gutter: Gutter) -> Option<u8>
+    ensures { result ≡ level_of gutter }
+{
+    match gutter {
+        Gutter::Below(level) => Some(level),
+        _ => None,
+    }
+}
+
 // The level of the heading that a row is below, if its last gutter says so.
 fn level_above(gutters: &[Gutter]) -> Option<u8>
     ensures { result ≡ level_above gutters.now }
 {
     match gutters {
-        [.., Gutter::Below(level)] => Some(*level),
-        _ => None,
+        [.., gutter] => level_of(*gutter),
+        [] => None,
     }
 }
 

@@ -76,7 +76,8 @@ all_get {A} P [] n other h k = k
 all_get {A} P (x ∷ xs) zero other h k = h.0
 all_get {A} P (x ∷ xs) (suc n) other h k = all_get P xs n other h.1 k
 
-line_known : (skin : RowSkin) (kind : CompositeKind) → AreKnownStyles skin → IsStyle (line_style skin kind).compound_style.object_style
+-- the numbers of the colors in the style of a line of any kind are bytes
+pub line_known : (skin : RowSkin) (kind : CompositeKind) → AreKnownStyles skin → IsStyle (line_style skin kind).compound_style.object_style
 line_known skin (Header (suc n)) h = all_get IsKnownLine skin.headers n skin.paragraph h.headers h.parts.paragraph
 line_known skin Code h = h.parts.code_block
 line_known skin _ h = h.parts.paragraph
@@ -84,7 +85,8 @@ line_known skin _ h = h.parts.paragraph
 unstyled_known : IsStyle unstyled.object_style
 unstyled_known = record { foreground = tt; background = tt; underline = tt }
 
-item_known : (skin : RowSkin) (level : ℕ) → AreKnownStyles skin → IsKnownItem (ordered_item_style skin level)
+-- so are those of an item at any level
+pub item_known : (skin : RowSkin) (level : ℕ) → AreKnownStyles skin → IsKnownItem (ordered_item_style skin level)
 item_known skin level h = all_get IsKnownItem skin.ordered_item_styles (min level 3) unstyled_item h.items (unstyled_known, unstyled_known)
 
 -- ---- a composite

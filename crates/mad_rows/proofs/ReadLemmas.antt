@@ -8,6 +8,7 @@ use Rattle.std.specs.Prelude.{if◌then◌else◌}
 use Rattle.std.specs.List.{flat_map}
 use Rattle.std.proofs.lemmas.List.{length-append, length-map, map-append, at_drop_more, drop_all}
 use Rattle.mad_md.specs.Flagged.{Flags, run_of, flags_of, flagged_text}
+use Rattle.mad_md.specs.TypedLines.{IsTypedText}
 use Rattle.mad_md.specs.declared.compound.Compound.{Compound}
 use Rattle.mad_md.specs.declared.composite.CompositeStyle.{CompositeStyle}
 use Rattle.mad_style.specs.Kinds.{kind_of}
@@ -212,10 +213,11 @@ pub read_whole : (skin : RowSkin) (width columns : ℕ) (style : CompositeStyle)
     → kind ≡ kind_of style → line ≡ line_style skin kind → margins ≡ margins_at (line_style skin kind) (Some width) → r ≡ room_of (line_rules skin) kind (width - margins.0 - margins.1) → LeftOfAll line
     → columns ≡ width_of (flagged_text compounds.items) → r.first + columns ≤ r.width → width < 2 ^ 64
     → new ≡ old ++ (front_text skin kind margins.0 ++ (pieces_bytes (map (compound_piece skin line) compounds.items) ++ 10 ∷ []))
+    → IsTypedText (record { style = style; runs = map run_of compounds.items })
     → PutsRead skin width (record { style = style; runs = map run_of compounds.items }) old new
-read_whole skin width columns style line kind compounds margins r old new kind_is line_is margins_are room_is left measured fits range put =
+read_whole skin width columns style line kind compounds margins r old new kind_is line_is margins_are room_is left measured fits range put typed =
     let own : FmtLine = placed_line kind (r.first + columns) compounds margins in
-    let pushed = read_fits (line_rules skin) width columns style kind compounds margins r [] (own ∷ []) kind_is margins_are room_is measured fits range refl in
+    let pushed = read_fits (line_rules skin) width columns style kind compounds margins r [] (own ∷ []) kind_is margins_are room_is measured fits range refl typed in
     let text : text_bytes skin (Some width) (own ∷ []) ≡ front_text skin kind margins.0 ++ (pieces_bytes (map (compound_piece skin line) compounds.items) ++ 10 ∷ []) =
     append-nil (line_bytes skin (Some width) own) ∙ line_text skin width margins line kind (r.first + columns) compounds left (sym line_is) in
     (pushed.0, pushed.1, pushed.2, put ∙ ap (λ (x : List ℕ). old ++ x) (sym text) ∙ ap (λ (x : List FmtLine). old ++ text_bytes skin (Some width) x) pushed.3, pushed.4)
@@ -226,8 +228,9 @@ pub read_wrapped : (skin : RowSkin) (width : ℕ) (style : CompositeStyle) (line
     → r.width < r.first + width_of (flagged_text compounds.items) → r.whole_words ≡ false → is_cut_clean r compounds.items ≡ false → bytes_of compounds.items < 2 ^ 62 → width < 2 ^ 64 - 1
     → AreTokensIn r compounds.items ts → AreRows (token_bytes skin line) (front_text skin (follow_up kind) margins.0) r ts out
     → new ≡ old ++ (front_text skin kind margins.0 ++ (out ++ 10 ∷ []))
+    → IsTypedText (record { style = style; runs = map run_of compounds.items })
     → PutsRead skin width (record { style = style; runs = map run_of compounds.items }) old new
-read_wrapped skin width style line kind compounds margins r ts out old new kind_is line_is margins_are room_is left wide loose uncut short range cut rows put =
+read_wrapped skin width style line kind compounds margins r ts out old new kind_is line_is margins_are room_is left wide loose uncut short range cut rows put typed =
     let ps : List Compound = compounds.items in
     let breaks : List (LineAndGap Token) = rows.breaks ++ record { line = rows.line; gap = rows.gap } ∷ [] in
     let size : length (lines_and_gaps breaks) ≡ length ts = ap length rows.first_fit.placing.covers in
@@ -237,7 +240,7 @@ read_wrapped skin width style line kind compounds margins r ts out old new kind_
     let lines : List FmtComposite = composites kind (follow_up kind) r.first r.other ws in
     let own : List FmtLine = map (line_with margins) lines in
     let pushed = read_wraps (line_rules skin) width style kind compounds margins r ws [] own kind_is margins_are room_is wide range (subst (λ (b : Bool). IsWrapBy b r ps (compounds_of ws)) (sym loose) (placed_wrap r ps ts ws wide (none_of (clean_cut r ps) uncut) cut placed)) (placed_counted r ps ts ws cut placed)
-    (lines, refl, are_composites kind (follow_up kind) r.first r.other ws) in
+    (lines, refl, are_composites kind (follow_up kind) r.first r.other ws) typed in
     let text : text_bytes skin (Some width) own ≡ front_text skin kind margins.0 ++ (out ++ 10 ∷ []) =
     wrap_text skin width margins line rows.breaks kind (follow_up kind) r.first r.other ws rows.line rows.gap left (sym line_is) (later_style skin kind ∙ sym line_is) made.1
     ∙ ap (λ (x : List ℕ). front_text skin kind margins.0 ++ (x ++ 10 ∷ [])) (sym rows.rows) in
@@ -249,8 +252,9 @@ pub read_words : (skin : RowSkin) (width : ℕ) (style : CompositeStyle) (line :
     → r.width < r.first + width_of (flagged_text compounds.items) → r.whole_words ≡ true → bytes_of compounds.items < 2 ^ 62 → width < 2 ^ 64 - 1
     → AreTokensIn r compounds.items ts → PiecesOut (token_bytes skin line) (front_text skin (follow_up kind) margins.0) (at_first r) (pieces_of (token_limit r) ts) n out
     → new ≡ old ++ (front_text skin kind margins.0 ++ (out ++ 10 ∷ []))
+    → IsTypedText (record { style = style; runs = map run_of compounds.items })
     → PutsRead skin width (record { style = style; runs = map run_of compounds.items }) old new
-read_words skin width style line kind compounds margins r ts n out old new kind_is line_is margins_are room_is left wide whole short range cut writes put =
+read_words skin width style line kind compounds margins r ts n out old new kind_is line_is margins_are room_is left wide whole short range cut writes put typed =
     let ps : List Compound = compounds.items in
     let write : Token → List ℕ = token_bytes skin line in
     let later : List ℕ = front_text skin (follow_up kind) margins.0 in
@@ -264,7 +268,7 @@ read_words skin width style line kind compounds margins r ts n out old new kind_
     let lines : List FmtComposite = composites kind (follow_up kind) r.first r.other ws in
     let own : List FmtLine = map (line_with margins) lines in
     let pushed = read_wraps (line_rules skin) width style kind compounds margins r ws [] own kind_is margins_are room_is wide range (subst (λ (b : Bool). IsWrapBy b r ps (compounds_of ws)) (sym whole) (words_wrap r ps ts ws wide cut placed)) (words_counted r ps ts ws cut placed)
-    (lines, refl, are_composites kind (follow_up kind) r.first r.other ws) in
+    (lines, refl, are_composites kind (follow_up kind) r.first r.other ws) typed in
     let split : token_break breaks ≡ token_break rows.breaks ++ record { line = pieces_tokens rows.line; gap = pieces_tokens rows.gap } ∷ [] = map-append _ rows.breaks (x ∷ []) in
     let text : text_bytes skin (Some width) own ≡ front_text skin kind margins.0 ++ (out ++ 10 ∷ []) =
     wrap_text skin width margins line (token_break rows.breaks) kind (follow_up kind) r.first r.other ws (pieces_tokens rows.line) (pieces_tokens rows.gap) left (sym line_is) (later_style skin kind ∙ sym line_is)

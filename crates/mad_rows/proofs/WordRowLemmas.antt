@@ -1,5 +1,5 @@
 -- Rows of whole words: what is written of pieces that are put one after the other, and of the words of compounds as they come.
-use Rattle.std.proofs.Common.{◌≡◌, ◌≢◌, ◌⊎◌, inl, inr, ℕ, ◌≤◌, ◌<◌, ◌+◌, ◌-◌, ◌==◌, ◌&&◌, Bool, true, false, not, if◌then◌else◌, nat_le, Option, Some, None, List, [], ◌∷◌, ◌++◌, map, length, chars, take, drop, get_or, slice_get, slice_range, refl, sym, ap, ◌∙◌, subst, arith, append-nil, append_assoc}
+use Rattle.std.proofs.Common.{◌≡◌, ◌≢◌, ◌⊎◌, inl, inr, ℕ, ◌≤◌, ◌<◌, ◌+◌, ◌-◌, ◌&&◌, Bool, true, false, not, if◌then◌else◌, nat_le, Some, None, List, [], ◌∷◌, ◌++◌, map, length, chars, take, drop, get_or, slice_get, slice_range, refl, sym, ap, ◌∙◌, subst, arith, append-nil, append_assoc}
 use Rattle.std.specs.Char.{encode_utf8, is_whitespace}
 use Rattle.std.specs.List.{flat_map, AllByRecursion}
 use Rattle.std.specs.Str.{IsUtf8, IsCharBoundary}
@@ -8,10 +8,10 @@ use Rattle.std.proofs.lemmas.Bool.Decides.{nat_tests}
 use Rattle.std.proofs.lemmas.List.{map-append, length-append, length-drop, take-append-drop, take-append-le, take_all, take_more, drop-drop, at_drop_more, get_or-take, get_or-drop, drop_all}
 use Rattle.std.proofs.lemmas.List.Concat.{flat_map-append}
 use Rattle.std.proofs.lemmas.Str.{chars-append, chars_past_char, encode_ascii, IsCharBoundary-before_ascii, IsUtf8-take, IsUtf8-drop}
-use Rattle.mad_md.specs.Flagged.{FlaggedChar, flagged, flags_of, is_blank, run_of}
+use Rattle.mad_md.specs.Flagged.{flagged, flags_of, is_blank, run_of}
 use Rattle.mad_md.specs.declared.compound.Compound.{Compound}
 use Rattle.mad_measure.specs.Chunks.{is_space_at}
-use Rattle.mad_measure.specs.Tokens.{IsTokenAt, IsInCompound, AreTokensFrom, AreTokensOf, token_text, flagged_token}
+use Rattle.mad_measure.specs.Tokens.{IsTokenAt, IsInCompound, AreTokensFrom, AreTokensOf, token_text}
 use Rattle.mad_measure.specs.declared.tokens.Token.{Token}
 use Rattle.mad_measure.proofs.AllLemmas.{all_push, all_back, all_joined}
 use Rattle.mad_measure.proofs.ExistLemmas.{tokens_there}

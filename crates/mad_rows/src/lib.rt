@@ -29,5 +29,5 @@ pub use row_skin::{
     style_of_kind,
 };
 pub use row_writing::{TextRows, append_line, append_lines};
-pub use rows::{RowPlace, composite_blanks, know_parts, know_row, line_blanks, row_blanks};
+pub use rows::{RowPlace, composite_blanks, know_row, know_styles, line_blanks, row_blanks};
 pub use style_commands::StyleCommands;

@@ -29,6 +29,7 @@ use crate::row_skin::{RowSkin, is_bare, is_ellipsis};
 use crate::row_writing::append_compounds;
 use crate::style_commands::{StyleCommands, append_three};
 use mad_format::{follow_up, margins_and_rest, room_of};
+use mad_md::typed_texts::typed_composite;
 use mad_md::{Alignment, Composite, Compound};
 use mad_measure::{Token, plain_end, token_at};
 use mad_style::{CompositeKind, CompoundStyle, LineStyle};
@@ -55,6 +56,7 @@ pub fn append_read(
 ) -> Result<bool, AllocError>
     ensures { IfOk result (λ done. PutsReadOrNone skin.now width (styled_runs composite.now) (string_bytes rows.old) done (string_bytes rows.new)) }
 {
+    typed_composite(composite);
     let kind = CompositeKind::from(composite.style);
     let style = skin.line_style(kind);
     if width == usize::MAX || !is_aligned_left(style.align) {

@@ -5,9 +5,10 @@ ghost use Rattle.std.specs.Option.{option_copied};
 ghost use Rattle.mad_draw.specs.Pieces.{AreKnown};
 ghost use Rattle.std.specs.List.{AllByRecursion, sum_by};
 ghost use Rattle.mad_rows.specs.Rows.{row_pieces, inner_blanks, inner_columns, outer_blanks, blanks_beside, margins_of, row_blanks, line_blanks, composite_blanks, table_blanks, cell_blanks, row_columns, rule_chars};
-ghost use Rattle.mad_rows.specs.RowStyles.{AreKnownParts, AreKnownStyles, IsKnownItem, IsKnownLine};
+ghost use Rattle.mad_rows.specs.RowStyles.{AreKnownParts, AreKnownSigns, AreKnownStyles, IsKnownItem, IsKnownLine};
 ghost use Rattle.mad_wrap.specs.WrapLines.{capped};
 
+use crate::page_styles::PageStyles;
 use crate::row_skin::RowSkin;
 use mad_draw::RuleChars;
 use mad_format::{FmtComposite, FmtLine, RelativePosition, rule_columns};
@@ -211,8 +212,8 @@ pub fn know_row(skin: &RowSkin, line: Option<&FmtLine>, width: usize)
     know_styles(skin);
 }
 
-// The numbers of the colors in a skin's styles are bytes.
-fn know_styles(skin: &RowSkin)
+/// The numbers of the colors in a skin's styles are bytes. Nothing is done.
+pub fn know_styles(skin: &RowSkin)
     ensures { AreKnownStyles skin.now }
 {
     know_parts(*skin);
@@ -220,9 +221,16 @@ fn know_styles(skin: &RowSkin)
     know_all(&skin.ordered_item_styles);
 }
 
-/// The numbers of the colors in the styles of a skin's parts are bytes. Nothing is done.
-pub fn know_parts(skin: RowSkin)
+// So they are in the styles of its parts.
+fn know_parts(skin: RowSkin)
     ensures { AreKnownParts skin }
+{
+    know_signs(skin.page);
+}
+
+// So they are in the styles of what a page shows beside its text.
+fn know_signs(page: PageStyles)
+    ensures { AreKnownSigns page }
 {}
 
 // A part of a skin in whose styles the numbers of colors are bytes.

@@ -4,6 +4,7 @@ use Rattle.markdown_marks.specs.Definitions.{is_space_byte}
 use Rattle.markdown_marks.specs.Remaining.{Remaining}
 use Rattle.markdown_spans.specs.Decoded.{decoded}
 use Rattle.markdown_blocks.specs.declared.containers.Container.TheVariants.{Quote, Item}
+use Rattle.markdown_leaves.specs.Defining.{joined}
 use Rattle.markdown_leaves.specs.Parts.{PartContent}
 use Rattle.markdown_leaves.specs.Told.{parts_of}
 use Rattle.markdown_leaves.specs.declared.parts.Kind.{Kind}
@@ -11,7 +12,7 @@ use Rattle.markdown_leaves.specs.declared.parts.Kind.TheVariants.{Nothing, Parag
 use Rattle.mad_md.specs.declared.alignment.Alignment.{Alignment}
 use Rattle.mad_md.specs.declared.alignment.Alignment.TheVariants.{Unspecified, Left, Center, Right}
 use Rattle.markdown_lines.specs.Tables.{row_of, cell_text, after_cell, alignments}
-use Rattle.markdown_reader.specs.Mapping.{leaf_text}
+use Rattle.markdown_reader.specs.Mapping.{text_of}
 use Rattle.markdown_as_html.specs.Blocks.{Blocks, no_more, leaf, holds, tree_of}
 use Rattle.markdown_as_html.specs.Defined.{Defined, definitions_of}
 use Rattle.markdown_as_html.specs.Escaped.{escaped, end_tag, within, attribute}
@@ -26,7 +27,7 @@ line_end = 10 ∷ []
 
 -- the html of a leaf's lines, which are one text
 abbrev pub words_html : Defined → List Remaining → List ℕ
-words_html defined lines = inline_html defined (leaf_text lines)
+words_html defined lines = inline_html defined (text_of (joined [] lines))
 
 -- A paragraph of a tight list stands by itself. A line ends behind it where something follows.
 abbrev pub paragraph_html : (tight more : Bool) → List ℕ → List ℕ

@@ -121,7 +121,7 @@ pub fn examples_17()
     ensures { AreBlocks17 }
 {}
 
-/// What the blocks of examples 426 to 429 are.
+/// What the blocks of examples 426 to 450 are.
 #[tactic(auto, using(crate::proofs::Blocks18::blocks18))]
 pub fn examples_18()
     ensures { AreBlocks18 }

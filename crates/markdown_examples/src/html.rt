@@ -121,7 +121,7 @@ pub fn examples_17()
     ensures { ArePrinted17 }
 {}
 
-/// Examples 426 to 429 are printed as they are to be.
+/// Examples 426 to 450 are printed as they are to be.
 #[tactic(auto, using(crate::proofs::Html18::printed18))]
 pub fn examples_18()
     ensures { ArePrinted18 }

@@ -1,5 +1,9 @@
-mod BoxLemmas
+mod DrawnLemmas
+mod LookLemmas
+mod MarkLemmas
+mod WideColumns
 mod WrittenLemmas
 pub mod CellLemmas
+pub mod KeptLemmas
 pub mod NestedRowLemmas
 pub mod ShownLemmas

@@ -1,5 +1,7 @@
-pub mod Boxes
-pub mod WrittenPages
-pub mod TableCells
+pub mod DrawnMarkdown
+pub mod KeptPremises
+pub mod Looks
 pub mod NestedRows
 pub mod ShownFaces
+pub mod TableCells
+pub mod WrittenPages

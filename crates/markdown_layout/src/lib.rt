@@ -1,13 +1,17 @@
-//! Pages written: of Markdown as people write it, and made by hand.
+//! Pages written and drawn: of Markdown as people write it, and made by hand.
 //!
 //! 1. [`page_writing`]: the rows of a section, put after a string.
 //! 2. [`writing`]: a whole page.
-//! 3. [`laws`]: what is said of all pages.
+//! 3. [`typed_pages`]: what types promise of a page. [`drawing`]: the first rows of a page in an area of the screen.
+//! 4. [`laws`]: what is said of all pages.
 #![tactic(auto)]
 
+pub mod drawing;
 pub mod laws;
 pub mod page_writing;
+pub mod typed_pages;
 pub mod writing;
 
+pub use drawing::{draw_markdown, draw_page, lay_markdown, read_drawable};
 pub use page_writing::{append_page_row, append_section};
-pub use writing::{write_markdown_on, write_page_on};
+pub use writing::{markdown_skin, write_markdown_on, write_page_on};

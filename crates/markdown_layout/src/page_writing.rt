@@ -8,7 +8,7 @@ ghost use Rattle.mad_sections.specs.Sections.{section_content};
 ghost use Rattle.mad_pages.specs.PageLayouts.{BecomesAt};
 ghost use Rattle.mad_pages.specs.PageRows.{RowContent, row_content};
 ghost use Rattle.mad_page_rows.specs.Faces.{columns_behind, faces, has_ascii_boxes, page_row_bytes};
-ghost use Rattle.markdown_layout.specs.Boxes.{has_code};
+ghost use Rattle.markdown_layout.specs.Looks.{change_look, changes_look};
 ghost use Rattle.markdown_layout.specs.WrittenPages.{rows_bytes};
 
 use mad_page_rows::faces::has_boxes;
@@ -41,13 +41,20 @@ fn append_faces(
     write!(rows, "{others}{firsts}")
 }
 
-// Whether one of these gutters is that of code.
-fn has_code(gutters: &[Gutter]) -> bool
-    ensures { result ≡ has_code gutters.now }
+// Whether a gutter changes how the line behind it looks: code, or what is in front of the rule below a heading.
+fn changes_look(gutter: Gutter) -> bool
+    ensures { result ≡ changes_look gutter }
+{
+    matches!(gutter, Gutter::Code | Gutter::Below(_))
+}
+
+// Whether one of these gutters does.
+fn change_look(gutters: &[Gutter]) -> bool
+    ensures { result ≡ change_look gutters.now }
 {
     let mut rest = gutters;
     while let [gutter, next @ ..] = rest {
-        if matches!(gutter, Gutter::Code) {
+        if changes_look(*gutter) {
             return true;
         }
         rest = next;
@@ -55,7 +62,7 @@ fn has_code(gutters: &[Gutter]) -> bool
     false
 }
 
-// A row that isn't in a box: the faces of its gutters, and its line.
+// A row whose line looks as elsewhere: the faces of its gutters, and its line.
 fn append_open_row(
     rows: &mut String,
     row: &PageRow,
@@ -80,8 +87,8 @@ fn reserve_box(rows: &mut String, width: Option<usize>, skin: &RowSkin) -> Resul
     }
 }
 
-// A row that may be in a box.
-fn append_boxed_row(
+// A row whose line may look otherwise.
+fn append_placed_row(
     rows: &mut String,
     row: &PageRow,
     width: Option<usize>,
@@ -113,8 +120,8 @@ pub fn append_page_row(
 ) -> Result<(), AllocError>
     ensures { OnOk result (string_bytes rows.new ≡ string_bytes rows.old ++ page_row_bytes skin.now width (row_content row.now)) }
 {
-    if has_code(row.gutters) {
-        append_boxed_row(rows, row, width, skin)
+    if change_look(row.gutters) {
+        append_placed_row(rows, row, width, skin)
     } else {
         append_open_row(rows, row, width, skin, commands)
     }

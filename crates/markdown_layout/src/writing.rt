@@ -62,8 +62,8 @@ pub fn write_page_on<O: Out>(
     put_text(out, &rows)
 }
 
-// What rows show of the skin, with whole words and links that one sees.
-fn markdown_skin(skin: &MadSkin) -> RowSkin
+/// What rows show of a skin, with whole words and links that one sees.
+pub fn markdown_skin(skin: &MadSkin) -> RowSkin
     ensures { result ≡ markdown_skin skin.now }
 {
     let skin = RowSkin {

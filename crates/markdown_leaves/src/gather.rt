@@ -4,13 +4,14 @@ ghost use Rattle.std.specs.Prelude.{◌≡◌, ◌≤◌, ◌<◌, ◌==◌, ◌
 ghost use Rattle.markdown_marks.specs.Remaining.{remaining};
 ghost use Rattle.markdown_blocks.specs.Containers.{is_item};
 ghost use Rattle.markdown_blocks.specs.Events.{leaves, enter};
+ghost use Rattle.markdown_blocks.specs.Steps.{line_of};
 ghost use Rattle.markdown_leaves.specs.Parts.{part_of};
 ghost use Rattle.markdown_leaves.specs.Gather.{gathering_of, add_block, add_unless_empty, add_words, filled_from, emptied, words_closed, indented_closed, closed_as_it_is, closed, trimmed, heading_line, first_text, kind_of, begun, single, blank, gone_on, tabulated, line_done, entered, left, passed_outside, nothing_told};
-ghost use Rattle.markdown_leaves.specs.Told.{told};
+ghost use Rattle.markdown_leaves.specs.Told.{told, events_between};
 
 use crate::defining::cut_lines;
 use crate::parts::{Block, Kind, Part};
-use markdown_blocks::{Container, Deed, Leaf};
+use markdown_blocks::{Container, Deed, Leaf, LineRead};
 use markdown_marks::bytes::{is_blank, without_blanks};
 use markdown_marks::headings::{heading_text, without_end};
 use markdown_marks::rest::Rest;
@@ -19,16 +20,20 @@ use std::alloc::{AllocError, Global};
 /// The parts of a text so far, and the leaf that is open. Out of memory is the only error of its methods, and it is of no use after one.
 #[derive(Debug, Drop)]
 pub struct Gatherer<'s> {
-    parts: Vec<Part<'s>>,
-    kind: Kind,
-    apart: bool,
-    lines: Vec<Rest<'s>>,
-    // blank lines passed since the last leaf ended, the last container began or a quote ended
-    passed: bool,
-    // an item began in this line
-    fresh: bool,
-    // the containers that are open, the innermost last
-    around: Vec<Container>,
+    /// The parts so far.
+    pub parts: Vec<Part<'s>>,
+    /// What the open leaf is.
+    pub kind: Kind,
+    /// Whether blank lines are before it.
+    pub apart: bool,
+    /// Its lines so far.
+    pub lines: Vec<Rest<'s>>,
+    /// Whether blank lines passed since the last leaf ended, the last container began or a quote ended.
+    pub passed: bool,
+    /// Whether an item began in this line.
+    pub fresh: bool,
+    /// The containers that are open, the innermost last.
+    pub around: Vec<Container>,
 }
 
 fn is_item(container: Container) -> bool
@@ -204,6 +209,15 @@ fn filled(lines: &[Rest<'_>]) -> usize
     filled
 }
 
+// The containers after so many.
+fn those_after(containers: &[Container], count: usize) -> &[Container]
+    requires { count ≤ length containers.now }
+    ensures { result.now ≡ drop count containers.now }
+{
+    let (_, after) = containers.split_at(count);
+    after
+}
+
 impl<'s> Gatherer<'s> {
     /// Nothing is told.
     pub fn new(alloc: Global) -> Gatherer<'s>
@@ -362,12 +376,30 @@ impl<'s> Gatherer<'s> {
         }
     }
 
-    /// A line does this to the leaves, with this text.
+    /// A line was read, before which `before` containers were open, and after it these. Some end, others begin, and the line does what it does.
     ///
     /// # Errors
     ///
     /// Out of memory.
-    pub fn line(&mut self, alloc: Global, deed: Deed, text: Rest<'s>) -> Result<(), AllocError>
+    pub fn read(
+        &mut self,
+        alloc: Global,
+        before: usize,
+        containers: &[Container],
+        read: LineRead<'s>,
+    ) -> Result<(), AllocError>
+        requires fewer { read.kept ≤ before }
+        requires within { read.kept ≤ length containers.now }
+        ensures { OnOk result (gathering_of self.new ≡ told (gathering_of self.old) (events_between before (line_of read.entry) containers.now)) }
+    {
+        self.leave_all(alloc, before - read.kept)?;
+        self.enter_all(alloc, those_after(containers, read.kept))?;
+        self.line(alloc, read.deed, read.text)?;
+        Ok(())
+    }
+
+    // A line does this to the leaves, with this text.
+    fn line(&mut self, alloc: Global, deed: Deed, text: Rest<'s>) -> Result<(), AllocError>
         ensures { OnOk result (gathering_of self.new ≡ record (line_done deed (remaining text.entry) (gathering_of self.old)) { fresh = false }) }
     {
         self.line_done(alloc, deed, text)?;
@@ -398,13 +430,9 @@ impl<'s> Gatherer<'s> {
         Ok(())
     }
 
-    /// These containers begin, one in the other.
-    ///
-    /// # Errors
-    ///
-    /// Out of memory.
+    // These containers begin, one in the other.
     #[tactic(auto, unfolding(crate::specs::Told::told))]
-    pub fn enter_all(&mut self, alloc: Global, containers: &[Container]) -> Result<(), AllocError>
+    fn enter_all(&mut self, alloc: Global, containers: &[Container]) -> Result<(), AllocError>
         ensures { OnOk result (gathering_of self.new ≡ told (gathering_of self.old) (map enter containers.now)) }
     {
         let mut rest = containers;

@@ -1,23 +1,13 @@
 //! Reading the blocks of a text with their lines.
 
-ghost use Rattle.std.specs.Prelude.{◌≡◌, ◌≤◌, IfOk, map, length, drop};
-ghost use Rattle.markdown_blocks.specs.Events.{unread, IsRead};
+ghost use Rattle.std.specs.Prelude.{◌≡◌, IfOk, map};
 ghost use Rattle.markdown_leaves.specs.Parts.{part_of};
 ghost use Rattle.markdown_leaves.specs.Told.{parts_of};
 
 use crate::gather::Gatherer;
 use crate::parts::Part;
-use markdown_blocks::{BlockCursor, Container};
+use markdown_blocks::BlockCursor;
 use std::alloc::{AllocError, Global};
-
-// The containers after so many.
-fn those_after(containers: &[Container], count: usize) -> &[Container]
-    requires { count ≤ length containers.now }
-    ensures { result.now ≡ drop count containers.now }
-{
-    let (_, after) = containers.split_at(count);
-    after
-}
 
 /// The parts of a text, in the order of the source: containers that begin and end, and leaves with their lines. Each line is read once.
 ///
@@ -37,11 +27,7 @@ pub fn read_parts<'s>(alloc: Global, text: &'s [u8]) -> Result<Vec<Part<'s>>, Al
                 gatherer.close(alloc)?;
                 return Ok(gatherer.into_parts());
             }
-            Some(read) => {
-                gatherer.leave_all(alloc, before - read.kept)?;
-                gatherer.enter_all(alloc, those_after(cursor.containers(), read.kept))?;
-                gatherer.line(alloc, read.deed, read.text)?;
-            }
+            Some(read) => gatherer.read(alloc, before, cursor.containers(), read)?,
         }
     }
 }

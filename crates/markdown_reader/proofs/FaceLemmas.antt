@@ -14,19 +14,19 @@ use Rattle.markdown_leaves.specs.declared.parts.Kind.TheVariants.{Nothing, Parag
 use Rattle.mad_md.specs.Lines.{LineContent, horizontal_rule}
 use Rattle.mad_md.specs.declared.composite.CompositeStyle.TheVariants.{Paragraph}
 use Rattle.mad_sections.specs.Sections.{SectionContent}
+use Rattle.mad_sections.specs.declared.gutters.Alert.{Alert}
 use Rattle.mad_sections.specs.declared.gutters.Gutter.{Gutter}
-use Rattle.mad_sections.specs.declared.gutters.Gutter.TheVariants.{Bar, Bullet, Number, Task, Code}
+use Rattle.mad_sections.specs.declared.gutters.Gutter.TheVariants.{Bar, AlertBar, Bullet, Number, Task, Code, Signs, Below}
 use Rattle.markdown_lines.specs.Code.{code_lines}
 use Rattle.markdown_lines.specs.Leaf.{html_lines}
 use Rattle.markdown_lines.specs.Links.{Defined}
 use Rattle.markdown_lines.specs.Restyled.{restyled, empty_line}
 use Rattle.markdown_lines.specs.Tables.{table_lines}
 use Rattle.markdown_reader.specs.Faces.{items_in, faces_in, faces_of, begun_by, items_of, waiting, FacesOnce}
-use Rattle.markdown_reader.specs.Mapping.{Mapping, nothing_shown, is_number, item_gutter, is_item, up_to_bar, new_gutter, boxed, is_big, is_spaced, spaced, blank_row, section_of, with_section, added, put, passed, list_ended, begun, number_in, last_list, nothing_since, item_ended, ended_by, closed, ended, words, addresses_in, words_shown, task_by, alert_line, alert_by, paragraph_by, heading_style, table_addresses, leaf_shown, shown_part, shown_parts}
+use Rattle.markdown_reader.specs.Mapping.{Mapping, nothing_shown, is_number, item_gutter, is_item, up_to_bar, new_gutter, with_last, is_big, is_spaced, spaced, blank_row, section_of, with_section, added, put, passed, list_ended, begun, number_in, last_list, nothing_since, item_ended, ended_by, closed, ended, words, addresses_in, words_shown, task_by, alert_line, alert_by, paragraph_by, heading_style, table_addresses, leaf_shown, shown_part, shown_parts}
 use Rattle.markdown_reader.specs.declared.forms.Form.{Form}
 use Rattle.markdown_reader.specs.declared.forms.Form.TheVariants.{Words, Large, Listed, Boxed}
 use Rattle.markdown_reader.specs.Signs.{after_box, box_of, after_line, alert_of}
-use Rattle.markdown_reader.specs.declared.signs.Alert.{Alert}
 
 by_bool : (P : Bool → Type 0) (b : Bool) → (b ≡ true → P true) → (b ≡ false → P false) → P b
 by_bool P true on off = on refl
@@ -201,35 +201,40 @@ last_is false b x g e = absurd (no e)
     no : None ≡ Some g → ⊥
     no e = cc
 
-boxed_began : (count : ℕ) (done : Bool) (m : Mapping) → Began count m → new_gutter m ≡ Some Bullet → Began count (boxed done m)
-boxed_began count done m h e =
-    let last = last_is (nat_lt m.seen (length m.gutters)) (length m.gutters == 0) (slice_index_or m.gutters (length m.gutters - 1) Bar) Bullet e in
-    let new : m.seen < length m.gutters = less_by m.seen (length m.gutters) last.0 in
+-- another gutter in the place of the last, an item's if that was one
+replaced_began : (count : ℕ) (old new : Gutter) (m : Mapping) → items_in (new ∷ []) ≡ items_in (old ∷ []) → Began count m → new_gutter m ≡ Some old → Began count (with_last new m)
+replaced_began count old new m same h e =
+    let last = last_is (nat_lt m.seen (length m.gutters)) (length m.gutters == 0) (slice_index_or m.gutters (length m.gutters - 1) Bar) old e in
+    let fewer : m.seen < length m.gutters = less_by m.seen (length m.gutters) last.0 in
     let k : ℕ = length m.gutters - 1 in
-    let long : length (take k m.gutters) ≡ k = omega (arith, length-take k m.gutters, new) in
-    let split : m.gutters ≡ take k m.gutters ++ Bullet ∷ [] = last_split m.gutters (omega (arith, new)) ∙ ap (λ (g : Gutter). take k m.gutters ++ g ∷ []) last.1 in
-    let before : waiting m ≡ 1 + items_in (drop m.seen (take k m.gutters)) = ap (λ (l : List Gutter). items_in (drop m.seen l)) split ∙ items_with_last m.seen (take k m.gutters) Bullet (omega (arith, long, new)) in
-    let now : waiting (boxed done m) ≡ 1 + items_in (drop m.seen (take k m.gutters)) = items_with_last m.seen (take k m.gutters) (Task done) (omega (arith, long, new)) in
+    let long : length (take k m.gutters) ≡ k = omega (arith, length-take k m.gutters, fewer) in
+    let split : m.gutters ≡ take k m.gutters ++ old ∷ [] = last_split m.gutters (omega (arith, fewer)) ∙ ap (λ (g : Gutter). take k m.gutters ++ g ∷ []) last.1 in
+    let before : waiting m ≡ items_in (old ∷ []) + items_in (drop m.seen (take k m.gutters)) = ap (λ (l : List Gutter). items_in (drop m.seen l)) split ∙ items_with_last m.seen (take k m.gutters) old (omega (arith, long, fewer)) in
+    let now : waiting (with_last new m) ≡ items_in (new ∷ []) + items_in (drop m.seen (take k m.gutters)) = items_with_last m.seen (take k m.gutters) new (omega (arith, long, fewer)) in
     let faces = h.faces in
-    record { within = omega (arith, length-append (take k m.gutters) (Task done ∷ []), long, new); faces = omega (arith, before, now, faces) }
+    record { within = omega (arith, length-append (take k m.gutters) (new ∷ []), long, fewer); faces = omega (arith, before, now, same, faces) }
 
 words_began : (count : ℕ) (defined : Defined) (bytes : List ℕ) (m : Mapping) → Began count m → Began count (words_shown defined bytes m)
 words_began count defined bytes m h = put_began count Words (words defined bytes) (addresses_in defined bytes) m h
 
 task_began : (count : ℕ) (done : Option Bool) (defined : Defined) (bytes : List ℕ) (m : Mapping) → Began count m → new_gutter m ≡ Some Bullet → Began count (task_by done defined bytes m)
 task_began count None defined bytes m h e = words_began count defined bytes m h
-task_began count (Some done) defined bytes m h e = words_began count defined (after_box bytes) (boxed done m) (boxed_began count done m h e)
+task_began count (Some done) defined bytes m h e = words_began count defined (after_box bytes) (with_last (Task done) m) (replaced_began count Bullet (Task done) m refl h e)
 
-alert_began : (count : ℕ) (alert : Option Alert) (defined : Defined) (bytes : List ℕ) (m : Mapping) → Began count m → Began count (alert_by alert defined bytes m)
-alert_began count None defined bytes m h = words_began count defined bytes m h
-alert_began count (Some alert) defined bytes m h = put_began count Words (alert_line alert ∷ restyled Paragraph Paragraph (words defined (after_line bytes))) (addresses_in defined (after_line bytes)) m h
+alert_began : (count : ℕ) (alert : Option Alert) (defined : Defined) (bytes : List ℕ) (m : Mapping) → Began count m → new_gutter m ≡ Some Bar → Began count (alert_by alert defined bytes m)
+alert_began count None defined bytes m h e = words_began count defined bytes m h
+alert_began count (Some alert) defined bytes m h e =
+    put_began count Words (alert_line alert ∷ restyled Paragraph Paragraph (words defined (after_line bytes))) (addresses_in defined (after_line bytes)) (with_last (AlertBar alert) m) (replaced_began count Bar (AlertBar alert) m refl h e)
 
 paragraph_began : (count : ℕ) (gutter : Option Gutter) (defined : Defined) (bytes : List ℕ) (m : Mapping) → Began count m → new_gutter m ≡ gutter → Began count (paragraph_by gutter defined bytes m)
 paragraph_began count (Some Bullet) defined bytes m h e = task_began count (box_of bytes) defined bytes m h e
-paragraph_began count (Some Bar) defined bytes m h e = alert_began count (alert_of bytes) defined bytes m h
+paragraph_began count (Some Bar) defined bytes m h e = alert_began count (alert_of bytes) defined bytes m h e
 paragraph_began count (Some (Number number)) defined bytes m h e = words_began count defined bytes m h
 paragraph_began count (Some (Task done)) defined bytes m h e = words_began count defined bytes m h
 paragraph_began count (Some Code) defined bytes m h e = words_began count defined bytes m h
+paragraph_began count (Some (AlertBar alert)) defined bytes m h e = words_began count defined bytes m h
+paragraph_began count (Some (Signs level)) defined bytes m h e = words_began count defined bytes m h
+paragraph_began count (Some (Below level)) defined bytes m h e = words_began count defined bytes m h
 paragraph_began count None defined bytes m h e = words_began count defined bytes m h
 
 leaf_began : (count : ℕ) (defined : Defined) (kind : Kind) (lines : List Remaining) (m : Mapping) → Began count m → Began count (leaf_shown defined kind lines m)

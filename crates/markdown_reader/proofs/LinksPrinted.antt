@@ -22,18 +22,18 @@ use Rattle.markdown_reader.specs.Definitions.{label_of, with_definition, defined
 use Rattle.markdown_reader.specs.Markdown.{unmarked_links}
 use Rattle.mad_md.specs.Lines.{LineContent, horizontal_rule}
 use Rattle.mad_md.specs.declared.composite.CompositeStyle.TheVariants.{Paragraph}
+use Rattle.mad_sections.specs.declared.gutters.Alert.{Alert}
 use Rattle.mad_sections.specs.declared.gutters.Gutter.{Gutter}
-use Rattle.mad_sections.specs.declared.gutters.Gutter.TheVariants.{Bar, Bullet, Number, Task, Code}
+use Rattle.mad_sections.specs.declared.gutters.Gutter.TheVariants.{Bar, AlertBar, Bullet, Number, Task, Code, Signs, Below}
 use Rattle.markdown_lines.specs.Code.{code_lines}
 use Rattle.markdown_lines.specs.Leaf.{html_lines}
 use Rattle.markdown_lines.specs.Links as line_links
 use Rattle.markdown_lines.specs.Links.{Defined, definition_address, address_or_none, address_by, address_in, address_of, leaf_addresses, links_at}
 use Rattle.markdown_lines.specs.Restyled.{restyled}
-use Rattle.markdown_reader.specs.Mapping.{LinkSaid, Mapping, nothing_shown, is_item, new_gutter, boxed, is_big, is_spaced, spaced, link_at, put, passed, list_ended, begun, item_ended, ended_by, words, addresses_in, text_of as leaf_text, words_shown, task_by, alert_line, alert_by, paragraph_by, heading_style, address_said, table_addresses, leaf_shown, shown_part, shown_parts}
+use Rattle.markdown_reader.specs.Mapping.{LinkSaid, Mapping, nothing_shown, is_item, new_gutter, with_last, is_big, is_spaced, spaced, link_at, put, passed, list_ended, begun, item_ended, ended_by, words, addresses_in, text_of as leaf_text, words_shown, task_by, alert_line, alert_by, paragraph_by, heading_style, address_said, table_addresses, leaf_shown, shown_part, shown_parts}
 use Rattle.markdown_reader.specs.declared.forms.Form.{Form}
 use Rattle.markdown_reader.specs.declared.forms.Form.TheVariants.{Words, Large, Listed, Boxed}
 use Rattle.markdown_reader.specs.Signs.{after_box, box_of, after_line, alert_of}
-use Rattle.markdown_reader.specs.declared.signs.Alert.{Alert}
 use Rattle.markdown_reader.proofs.LinesPrinted.{text_printed}
 use Rattle.markdown_lines.specs.Printed.{is_obeyed}
 use Rattle.markdown_reader.specs.Printed.{ArePrintedLinks}
@@ -194,12 +194,12 @@ words_has defined bytes m k h = put_has Words (words defined bytes) (addresses_i
 
 task_has : (done : Option Bool) (defined : Defined) (bytes : List ℕ) (m : Mapping) → LeadsPrinted defined → HasPrinted m → HasPrinted (task_by done defined bytes m)
 task_has None defined bytes m k h = words_has defined bytes m k h
-task_has (Some done) defined bytes m k h = words_has defined (after_box bytes) (boxed done m) k h
+task_has (Some done) defined bytes m k h = words_has defined (after_box bytes) (with_last (Task done) m) k h
 
 alert_has : (alert : Option Alert) (defined : Defined) (bytes : List ℕ) (m : Mapping) → LeadsPrinted defined → HasPrinted m → HasPrinted (alert_by alert defined bytes m)
 alert_has None defined bytes m k h = words_has defined bytes m k h
 alert_has (Some alert) defined bytes m k h =
-    put_has Words (alert_line alert ∷ restyled Paragraph Paragraph (words defined (after_line bytes))) (addresses_in defined (after_line bytes)) m (leaf_addresses_printed defined (leaf_text (after_line bytes)) k) h
+    put_has Words (alert_line alert ∷ restyled Paragraph Paragraph (words defined (after_line bytes))) (addresses_in defined (after_line bytes)) (with_last (AlertBar alert) m) (leaf_addresses_printed defined (leaf_text (after_line bytes)) k) h
 
 paragraph_has : (gutter : Option Gutter) (defined : Defined) (bytes : List ℕ) (m : Mapping) → LeadsPrinted defined → HasPrinted m → HasPrinted (paragraph_by gutter defined bytes m)
 paragraph_has (Some Bullet) defined bytes m k h = task_has (box_of bytes) defined bytes m k h
@@ -207,6 +207,9 @@ paragraph_has (Some Bar) defined bytes m k h = alert_has (alert_of bytes) define
 paragraph_has (Some (Number number)) defined bytes m k h = words_has defined bytes m k h
 paragraph_has (Some (Task done)) defined bytes m k h = words_has defined bytes m k h
 paragraph_has (Some Code) defined bytes m k h = words_has defined bytes m k h
+paragraph_has (Some (AlertBar alert)) defined bytes m k h = words_has defined bytes m k h
+paragraph_has (Some (Signs level)) defined bytes m k h = words_has defined bytes m k h
+paragraph_has (Some (Below level)) defined bytes m k h = words_has defined bytes m k h
 paragraph_has None defined bytes m k h = words_has defined bytes m k h
 
 leaf_has : (defined : Defined) (kind : Kind) (lines : List Remaining) (m : Mapping) → LeadsPrinted defined → HasPrinted m → HasPrinted (leaf_shown defined kind lines m)

@@ -13,20 +13,20 @@ use Rattle.markdown_leaves.specs.declared.parts.Kind.TheVariants.{Nothing, Parag
 use Rattle.mad_md.specs.Lines.{LineContent, horizontal_rule}
 use Rattle.mad_md.specs.declared.composite.CompositeStyle.TheVariants.{Paragraph}
 use Rattle.mad_sections.specs.Sections.{SectionContent}
+use Rattle.mad_sections.specs.declared.gutters.Alert.{Alert}
 use Rattle.mad_sections.specs.declared.gutters.Gutter.{Gutter}
-use Rattle.mad_sections.specs.declared.gutters.Gutter.TheVariants.{Bar, Bullet, Number, Task, Code}
+use Rattle.mad_sections.specs.declared.gutters.Gutter.TheVariants.{Bar, AlertBar, Bullet, Number, Task, Code, Signs, Below}
 use Rattle.markdown_lines.specs.Code.{code_lines}
 use Rattle.markdown_lines.specs.Leaf.{html_lines}
 use Rattle.markdown_lines.specs.Links.{Defined}
 use Rattle.markdown_lines.specs.Restyled.{restyled, empty_line}
 use Rattle.markdown_lines.specs.Tables.{table_lines}
-use Rattle.markdown_reader.specs.Mapping.{Mapping, nothing_shown, is_number, item_gutter, is_item, new_gutter, boxed, is_big, leaf_gutters, items_gutters, is_spaced, spaced, blank_row, section_of, added, put, passed, list_ended, begun, number_in, last_list, nothing_since, with_section, item_ended, ended_by, closed, words, addresses_in, words_shown, task_by, alert_line, alert_by, paragraph_by, heading_style, table_addresses, leaf_shown, shown_part, shown_parts}
+use Rattle.markdown_reader.specs.Mapping.{Mapping, nothing_shown, is_number, item_gutter, is_item, new_gutter, with_last, is_big, leaf_gutters, items_gutters, is_spaced, spaced, blank_row, section_of, added, put, passed, list_ended, begun, number_in, last_list, nothing_since, with_section, item_ended, ended_by, closed, words, addresses_in, words_shown, task_by, alert_line, alert_by, paragraph_by, heading_style, table_addresses, leaf_shown, shown_part, shown_parts}
 use Rattle.markdown_reader.specs.ListedSections.{MayBeListed, SectionsMayBeListed}
 use Rattle.markdown_reader.specs.Nested.{Opened, opened_by, opened_in, IsOf, AreOf, AreNested, new_ones, IsBehindAll, IsBlankRow, AddsNested, SectionsNest, form_of, form_by}
 use Rattle.markdown_reader.specs.declared.forms.Form.{Form}
 use Rattle.markdown_reader.specs.declared.forms.Form.TheVariants.{Words, Large, Listed, Boxed}
 use Rattle.markdown_reader.specs.Signs.{after_box, box_of, after_line, alert_of}
-use Rattle.markdown_reader.specs.declared.signs.Alert.{Alert}
 
 by_bool : (P : Bool → Type 0) (b : Bool) → (b ≡ true → P true) → (b ≡ false → P false) → P b
 by_bool P true on off = on refl
@@ -100,23 +100,32 @@ of_more [] (x ∷ gutters) o g h k = absurd h
 of_more (x ∷ opened) [] o g h k = absurd h
 of_more (x ∷ opened) (y ∷ gutters) o g h k = (h.0, of_more opened gutters o g h.1 k)
 
--- a box in the place of the last bullet
-box_is : (container : Container) (done : Bool) → IsOf container Bullet → IsOf container (Task done)
-box_is Quote done h = absurd h
-box_is (Item sign number content) done h = h
+-- a task's box is of an item, as its bullet is
+box_is : (done : Bool) (container : Container) → IsOf container Bullet → IsOf container (Task done)
+box_is done Quote h = absurd h
+box_is done (Item sign number content) h = h
 
-boxed_at : (k : ℕ) (opened : List Opened) (gutters : List Gutter) (done : Bool) → AreOf opened gutters → length gutters ≡ suc k → slice_index_or gutters k Bar ≡ Bullet → AreOf opened (take k gutters ++ Task done ∷ [])
-boxed_at zero [] [] done h e last = absurd (omega arith)
-boxed_at zero [] (g ∷ gutters) done h e last = absurd h
-boxed_at zero (o ∷ opened) [] done h e last = absurd h
-boxed_at zero (o ∷ []) (g ∷ []) done h e last = (box_is o.container done (subst (IsOf o.container) last h.0), tt)
-boxed_at zero (o ∷ []) (g ∷ x ∷ gutters) done h e last = absurd h.1
-boxed_at zero (o ∷ x ∷ opened) (g ∷ []) done h e last = absurd h.1
-boxed_at zero (o ∷ x ∷ opened) (g ∷ y ∷ gutters) done h e last = absurd (omega arith)
-boxed_at (suc k) [] [] done h e last = absurd (omega arith)
-boxed_at (suc k) [] (g ∷ gutters) done h e last = absurd h
-boxed_at (suc k) (o ∷ opened) [] done h e last = absurd h
-boxed_at (suc k) (o ∷ opened) (g ∷ gutters) done h e last = (h.0, boxed_at k opened gutters done h.1 (omega arith) last)
+-- an alert's bar is of a quote, as another bar is
+bar_is : (alert : Alert) (container : Container) → IsOf container Bar → IsOf container (AlertBar alert)
+bar_is alert Quote h = tt
+bar_is alert (Item sign number content) h = absurd h
+
+abbrev StandsFor : Gutter → Gutter → Type 0
+StandsFor new old = (container : Container) → IsOf container old → IsOf container new
+
+-- such a gutter in the place of the last
+replaced_at : (k : ℕ) (opened : List Opened) (gutters : List Gutter) (old new : Gutter) → StandsFor new old → AreOf opened gutters → length gutters ≡ suc k → slice_index_or gutters k Bar ≡ old → AreOf opened (take k gutters ++ new ∷ [])
+replaced_at zero [] [] old new f h e last = absurd (omega arith)
+replaced_at zero [] (g ∷ gutters) old new f h e last = absurd h
+replaced_at zero (o ∷ opened) [] old new f h e last = absurd h
+replaced_at zero (o ∷ []) (g ∷ []) old new f h e last = (f o.container (subst (IsOf o.container) last h.0), tt)
+replaced_at zero (o ∷ []) (g ∷ x ∷ gutters) old new f h e last = absurd h.1
+replaced_at zero (o ∷ x ∷ opened) (g ∷ []) old new f h e last = absurd h.1
+replaced_at zero (o ∷ x ∷ opened) (g ∷ y ∷ gutters) old new f h e last = absurd (omega arith)
+replaced_at (suc k) [] [] old new f h e last = absurd (omega arith)
+replaced_at (suc k) [] (g ∷ gutters) old new f h e last = absurd h
+replaced_at (suc k) (o ∷ opened) [] old new f h e last = absurd h
+replaced_at (suc k) (o ∷ opened) (g ∷ gutters) old new f h e last = (h.0, replaced_at k opened gutters old new f h.1 (omega arith) last)
 
 last_is : (a b : Bool) (x g : Gutter) → (if a then (if b then None else Some x) else None) ≡ Some g → (b ≡ false) × (x ≡ g)
 last_is true true x g e = absurd (no e)
@@ -257,12 +266,12 @@ begun_fits opened (Item sign number content) m h =
 
 -- ---- leaves
 
-boxed_fits : (opened : List Opened) (done : Bool) (m : Mapping) → Fits opened m → new_gutter m ≡ Some Bullet → Fits opened (boxed done m)
-boxed_fits opened done m h e =
-    let last = last_is (nat_lt m.seen (length m.gutters)) (length m.gutters == 0) (slice_index_or m.gutters (length m.gutters - 1) Bar) Bullet e in
+replaced_fits : (opened : List Opened) (old new : Gutter) (m : Mapping) → StandsFor new old → Fits opened m → new_gutter m ≡ Some old → Fits opened (with_last new m)
+replaced_fits opened old new m f h e =
+    let last = last_is (nat_lt m.seen (length m.gutters)) (length m.gutters == 0) (slice_index_or m.gutters (length m.gutters - 1) Bar) old e in
     let off = last.0 in
     let some : length m.gutters ≡ suc (length m.gutters - 1) = grind (arith, nat_tests, off) in
-    record { gutters = boxed_at (length m.gutters - 1) opened m.gutters done h.gutters some last.1; seen = h.seen }
+    record { gutters = replaced_at (length m.gutters - 1) opened m.gutters old new f h.gutters some last.1; seen = h.seen }
 
 words_does : (opened : List Opened) (defined : Defined) (bytes : List ℕ) (m : Mapping) → Fits opened m → Does Words opened m (words_shown defined bytes m)
 words_does opened defined bytes m h = put_does opened Words (words defined bytes) (addresses_in defined bytes) m h
@@ -270,19 +279,24 @@ words_does opened defined bytes m h = put_does opened Words (words defined bytes
 task_does : (opened : List Opened) (done : Option Bool) (defined : Defined) (bytes : List ℕ) (m : Mapping) → Fits opened m → new_gutter m ≡ Some Bullet → Does Words opened m (task_by done defined bytes m)
 task_does opened None defined bytes m h e = words_does opened defined bytes m h
 task_does opened (Some done) defined bytes m h e =
-    let d = words_does opened defined (after_box bytes) (boxed done m) (boxed_fits opened done m h e) in
+    let d = words_does opened defined (after_box bytes) (with_last (Task done) m) (replaced_fits opened Bullet (Task done) m (box_is done) h e) in
     record { adds = record { new = d.adds.new; joins = d.adds.joins; nested = d.adds.nested }; fits = d.fits }
 
-alert_does : (opened : List Opened) (alert : Option Alert) (defined : Defined) (bytes : List ℕ) (m : Mapping) → Fits opened m → Does Words opened m (alert_by alert defined bytes m)
-alert_does opened None defined bytes m h = words_does opened defined bytes m h
-alert_does opened (Some alert) defined bytes m h = put_does opened Words (alert_line alert ∷ restyled Paragraph Paragraph (words defined (after_line bytes))) (addresses_in defined (after_line bytes)) m h
+alert_does : (opened : List Opened) (alert : Option Alert) (defined : Defined) (bytes : List ℕ) (m : Mapping) → Fits opened m → new_gutter m ≡ Some Bar → Does Words opened m (alert_by alert defined bytes m)
+alert_does opened None defined bytes m h e = words_does opened defined bytes m h
+alert_does opened (Some alert) defined bytes m h e =
+    let d = put_does opened Words (alert_line alert ∷ restyled Paragraph Paragraph (words defined (after_line bytes))) (addresses_in defined (after_line bytes)) (with_last (AlertBar alert) m) (replaced_fits opened Bar (AlertBar alert) m (bar_is alert) h e) in
+    record { adds = record { new = d.adds.new; joins = d.adds.joins; nested = d.adds.nested }; fits = d.fits }
 
 paragraph_does : (opened : List Opened) (gutter : Option Gutter) (defined : Defined) (bytes : List ℕ) (m : Mapping) → Fits opened m → new_gutter m ≡ gutter → Does Words opened m (paragraph_by gutter defined bytes m)
 paragraph_does opened (Some Bullet) defined bytes m h e = task_does opened (box_of bytes) defined bytes m h e
-paragraph_does opened (Some Bar) defined bytes m h e = alert_does opened (alert_of bytes) defined bytes m h
+paragraph_does opened (Some Bar) defined bytes m h e = alert_does opened (alert_of bytes) defined bytes m h e
 paragraph_does opened (Some (Number number)) defined bytes m h e = words_does opened defined bytes m h
 paragraph_does opened (Some (Task done)) defined bytes m h e = words_does opened defined bytes m h
 paragraph_does opened (Some Code) defined bytes m h e = words_does opened defined bytes m h
+paragraph_does opened (Some (AlertBar alert)) defined bytes m h e = words_does opened defined bytes m h
+paragraph_does opened (Some (Signs level)) defined bytes m h e = words_does opened defined bytes m h
+paragraph_does opened (Some (Below level)) defined bytes m h e = words_does opened defined bytes m h
 paragraph_does opened None defined bytes m h e = words_does opened defined bytes m h
 
 leaf_does : (opened : List Opened) (defined : Defined) (kind : Kind) (lines : List Remaining) (m : Mapping) → Fits opened m → Does (form_of kind) opened m (leaf_shown defined kind lines m)

@@ -17,8 +17,10 @@ use Rattle.markdown_leaves.specs.declared.parts.Kind.TheVariants.{Nothing, Parag
 use Rattle.mad_md.specs.Lines.{LineContent, horizontal_rule}
 use Rattle.mad_md.specs.declared.composite.CompositeStyle.TheVariants.{Paragraph}
 use Rattle.mad_sections.specs.Sections.{SectionContent}
+use Rattle.mad_sections.specs.declared.gutters.Alert.{Alert}
+use Rattle.mad_sections.specs.declared.gutters.Alert.TheVariants.{Note, Tip, Important, Warning, Caution}
 use Rattle.mad_sections.specs.declared.gutters.Gutter.{Gutter}
-use Rattle.mad_sections.specs.declared.gutters.Gutter.TheVariants.{Bar, Bullet, Number, Task, Code}
+use Rattle.mad_sections.specs.declared.gutters.Gutter.TheVariants.{Bar, AlertBar, Bullet, Number, Task, Code, Signs, Below}
 use Rattle.markdown_lines.specs.Code.{code_lines}
 use Rattle.markdown_lines.specs.Leaf.{html_lines}
 use Rattle.markdown_lines.specs.Links.{Defined}
@@ -26,14 +28,12 @@ use Rattle.markdown_lines.specs.Printed.{is_obeyed, ArePrinted}
 use Rattle.markdown_lines.specs.Restyled.{restyled, empty_line}
 use Rattle.markdown_lines.specs.Tables.{table_lines}
 use Rattle.markdown_reader.specs.Definitions.{definitions_of}
-use Rattle.markdown_reader.specs.Mapping.{Mapping, nothing_shown, is_item, new_gutter, boxed, is_big, is_spaced, spaced, blank_row, linked, section_of, put, passed, list_ended, begun, item_ended, ended_by, text_of, words, addresses_in, words_shown, task_by, alert_line, alert_by, paragraph_by, heading_style, table_addresses, code_shown, leaf_shown, shown_part, shown_parts}
+use Rattle.markdown_reader.specs.Mapping.{Mapping, nothing_shown, is_item, new_gutter, with_last, is_big, is_spaced, spaced, blank_row, linked, section_of, put, passed, list_ended, begun, item_ended, ended_by, text_of, words, addresses_in, words_shown, task_by, alert_line, alert_by, paragraph_by, heading_style, table_addresses, code_shown, leaf_shown, shown_part, shown_parts}
 use Rattle.markdown_reader.specs.Markdown.{printable_sections}
 use Rattle.markdown_reader.specs.Printed.{ArePrintedSections}
 use Rattle.markdown_reader.specs.declared.forms.Form.{Form}
 use Rattle.markdown_reader.specs.declared.forms.Form.TheVariants.{Words, Large, Listed, Boxed}
 use Rattle.markdown_reader.specs.Signs.{after_box, box_of, after_line, alert_word, alert_of}
-use Rattle.markdown_reader.specs.declared.signs.Alert.{Alert}
-use Rattle.markdown_reader.specs.declared.signs.Alert.TheVariants.{Note, Tip, Important, Warning, Caution}
 use Rattle.markdown_reader.proofs.GlyphsPrinted.{nothing_printed, cons_printed, leaf_printed}
 use Rattle.markdown_reader.proofs.LinesPrinted.{html_printed, restyled_printed, code_lines_printed, table_printed}
 
@@ -87,7 +87,7 @@ words_has defined bytes m h = put_has Words (words defined bytes) (addresses_in 
 
 task_has : (done : Option Bool) (defined : Defined) (bytes : List ℕ) (m : Mapping) → HasPrinted m → HasPrinted (task_by done defined bytes m)
 task_has None defined bytes m h = words_has defined bytes m h
-task_has (Some done) defined bytes m h = words_has defined (after_box bytes) (boxed done m) h
+task_has (Some done) defined bytes m h = words_has defined (after_box bytes) (with_last (Task done) m) h
 
 -- characters of ASCII that no terminal obeys
 abbrev is_plain : ℕ → Bool
@@ -131,7 +131,7 @@ alert_has : (alert : Option Alert) (defined : Defined) (bytes : List ℕ) (m : M
 alert_has None defined bytes m h = words_has defined bytes m h
 alert_has (Some alert) defined bytes m h =
     let rows = words defined (after_line bytes) in
-    put_has Words (alert_line alert ∷ restyled Paragraph Paragraph rows) (addresses_in defined (after_line bytes)) m
+    put_has Words (alert_line alert ∷ restyled Paragraph Paragraph rows) (addresses_in defined (after_line bytes)) (with_last (AlertBar alert) m)
     (cons_printed (alert_line alert) (restyled Paragraph Paragraph rows) (word_printed alert, tt) (restyled_printed Paragraph Paragraph rows (leaf_printed defined.labels (text_of (after_line bytes))))) h
 
 paragraph_has : (gutter : Option Gutter) (defined : Defined) (bytes : List ℕ) (m : Mapping) → HasPrinted m → HasPrinted (paragraph_by gutter defined bytes m)
@@ -140,6 +140,9 @@ paragraph_has (Some Bar) defined bytes m h = alert_has (alert_of bytes) defined 
 paragraph_has (Some (Number number)) defined bytes m h = words_has defined bytes m h
 paragraph_has (Some (Task done)) defined bytes m h = words_has defined bytes m h
 paragraph_has (Some Code) defined bytes m h = words_has defined bytes m h
+paragraph_has (Some (AlertBar alert)) defined bytes m h = words_has defined bytes m h
+paragraph_has (Some (Signs level)) defined bytes m h = words_has defined bytes m h
+paragraph_has (Some (Below level)) defined bytes m h = words_has defined bytes m h
 paragraph_has None defined bytes m h = words_has defined bytes m h
 
 code_has : (lines : List Remaining) (m : Mapping) → HasPrinted m → HasPrinted (code_shown lines m)

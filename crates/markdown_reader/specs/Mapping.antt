@@ -15,8 +15,9 @@ use Rattle.mad_md.specs.Lines.{LineContent, normal, horizontal_rule}
 use Rattle.mad_md.specs.declared.composite.CompositeStyle.{CompositeStyle}
 use Rattle.mad_md.specs.declared.composite.CompositeStyle.TheVariants.{Paragraph, Header}
 use Rattle.mad_sections.specs.Sections.{SectionContent}
+use Rattle.mad_sections.specs.declared.gutters.Alert.{Alert}
 use Rattle.mad_sections.specs.declared.gutters.Gutter.{Gutter}
-use Rattle.mad_sections.specs.declared.gutters.Gutter.TheVariants.{Bar, Bullet, Number, Task, Code}
+use Rattle.mad_sections.specs.declared.gutters.Gutter.TheVariants.{Bar, AlertBar, Bullet, Number, Task, Code}
 use Rattle.markdown_lines.specs.Code.{code_lines}
 use Rattle.markdown_lines.specs.Leaf.{leaf_rows, html_lines}
 use Rattle.markdown_lines.specs.Links as line_links
@@ -27,7 +28,6 @@ use Rattle.markdown_reader.specs.Signs.{after_box, box_of, after_line, alert_wor
 use Rattle.markdown_reader.specs.declared.forms.Form.{Form}
 use Rattle.markdown_reader.specs.declared.forms.Form.TheVariants.{Words, Large, Listed, Boxed}
 use Rattle.markdown_reader.specs.declared.lists.Counted.{Counted}
-use Rattle.markdown_reader.specs.declared.signs.Alert.{Alert}
 
 -- a link: the number of a section, and the address to which the link leads
 pub record LinkSaid : Type 0 where
@@ -87,9 +87,10 @@ item_gutter sign number = if is_number sign then Number number else Bullet
 
 -- it is an item's, so its other face is blank
 abbrev pub is_item : Gutter → Bool
-is_item Bar = false
-is_item Code = false
-is_item _ = true
+is_item Bullet = true
+is_item (Number number) = true
+is_item (Task done) = true
+is_item _ = false
 
 -- without the items behind the last bar
 abbrev pub up_to_bar : List Gutter → List Gutter
@@ -103,9 +104,9 @@ last_gutter gutters = if length gutters == 0 then None else Some (slice_index_or
 abbrev pub new_gutter : Mapping → Option Gutter
 new_gutter m = if nat_lt m.seen (length m.gutters) then last_gutter m.gutters else None
 
--- a box in the place of the last gutter
-abbrev pub boxed : Bool → Mapping → Mapping
-boxed done m = record m { gutters = take (length m.gutters - 1) m.gutters ++ Task done ∷ [] }
+-- another gutter in the place of the last
+abbrev pub with_last : Gutter → Mapping → Mapping
+with_last gutter m = record m { gutters = take (length m.gutters - 1) m.gutters ++ gutter ∷ [] }
 
 -- ---- sections
 
@@ -230,7 +231,7 @@ words_shown defined bytes m = put Words (words defined bytes) (addresses_in defi
 -- the first paragraph of an item with a bullet: the box in front of it is the item's gutter
 abbrev pub task_by : Option Bool → Defined → List ℕ → Mapping → Mapping
 task_by None defined bytes m = words_shown defined bytes m
-task_by (Some done) defined bytes m = words_shown defined (after_box bytes) (boxed done m)
+task_by (Some done) defined bytes m = words_shown defined (after_box bytes) (with_last (Task done) m)
 
 -- the flags that a text in bold has
 abbrev pub bold : Flags
@@ -240,10 +241,10 @@ bold = record { bold = true; italic = false; code = false; strikeout = false; li
 abbrev pub alert_line : Alert → LineContent
 alert_line alert = normal (record { style = Paragraph; runs = record { flags = bold; text = alert_word alert } ∷ [] })
 
--- the first paragraph of a quote: the alert that its first line is has a row of its own
+-- the first paragraph of a quote: the alert that its first line is has a row of its own, and the bar is the alert's
 abbrev pub alert_by : Option Alert → Defined → List ℕ → Mapping → Mapping
 alert_by None defined bytes m = words_shown defined bytes m
-alert_by (Some alert) defined bytes m = put Words (alert_line alert ∷ restyled Paragraph Paragraph (words defined (after_line bytes))) (addresses_in defined (after_line bytes)) m
+alert_by (Some alert) defined bytes m = put Words (alert_line alert ∷ restyled Paragraph Paragraph (words defined (after_line bytes))) (addresses_in defined (after_line bytes)) (with_last (AlertBar alert) m)
 
 -- a paragraph, by the gutter that is new in front of it
 abbrev pub paragraph_by : Option Gutter → Defined → List ℕ → Mapping → Mapping

@@ -1,5 +1,5 @@
 -- Which containers are open where a section is told, and which of them begin with it: by the parts of the text, and the number of sections before each.
-use Rattle.std.specs.Prelude.{◌≡◌, ℕ, ◌+◌, ◌-◌, true, false, ◌==◌, List, [], ◌∷◌, ◌++◌, length, take, Option, None, if◌then◌else◌}
+use Rattle.std.specs.Prelude.{◌≡◌, ℕ, ◌+◌, ◌-◌, true, false, ◌==◌, List, [], ◌∷◌, ◌++◌, length, take, None, if◌then◌else◌}
 use Rattle.markdown_blocks.specs.declared.containers.Container.{Container}
 use Rattle.markdown_blocks.specs.declared.containers.Container.TheVariants.{Quote, Item}
 use Rattle.markdown_leaves.specs.Parts.{PartContent, begins, ends, block}
@@ -8,7 +8,7 @@ use Rattle.markdown_leaves.specs.declared.parts.Kind.TheVariants.{Heading, Inden
 use Rattle.mad_md.specs.declared.composite.CompositeStyle.TheVariants.{Paragraph}
 use Rattle.mad_sections.specs.Sections.{SectionContent}
 use Rattle.mad_sections.specs.declared.gutters.Gutter.{Gutter}
-use Rattle.mad_sections.specs.declared.gutters.Gutter.TheVariants.{Bar, Bullet, Number, Task}
+use Rattle.mad_sections.specs.declared.gutters.Gutter.TheVariants.{Bar, AlertBar, Bullet, Number, Task}
 use Rattle.markdown_lines.specs.Links.{Defined}
 use Rattle.markdown_lines.specs.Restyled.{empty_line}
 use Rattle.markdown_reader.specs.Mapping.{Mapping, nothing_shown, is_number, up_to_bar, leaf_gutters, items_gutters, shown_part, shown_parts}
@@ -45,9 +45,10 @@ abbrev pub form_by : PartContent → Form
 form_by (block leaf) = form_of leaf.kind
 form_by _ = Words
 
--- a gutter that a container has: a bar, a number, a bullet, or a task's box in the place of that
+-- a gutter that a container has: a bar, or that of an alert; a number, a bullet, or a task's box in the place of that
 abbrev pub IsOf : Container → Gutter → Type 0
 IsOf Quote Bar = Unit {0}
+IsOf Quote (AlertBar alert) = Unit {0}
 IsOf (Item sign number content) (Number n) = is_number sign ≡ true
 IsOf (Item sign number content) Bullet = is_number sign ≡ false
 IsOf (Item sign number content) (Task done) = is_number sign ≡ false

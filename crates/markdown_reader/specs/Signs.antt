@@ -3,8 +3,8 @@ use Rattle.std.specs.Prelude.{ℕ, ◌+◌, Bool, not, ◌||◌, ◌&&◌, ◌==
 use Rattle.std.specs.Str.{str_eq_ignore_ascii_case}
 use Rattle.markdown_marks.specs.Bytes.{first, is_blank_byte, without_blanks}
 use Rattle.markdown_marks.specs.Headings.{without_end}
-use Rattle.markdown_reader.specs.declared.signs.Alert.{Alert}
-use Rattle.markdown_reader.specs.declared.signs.Alert.TheVariants.{Note, Tip, Important, Warning, Caution}
+use Rattle.mad_sections.specs.declared.gutters.Alert.{Alert}
+use Rattle.mad_sections.specs.declared.gutters.Alert.TheVariants.{Note, Tip, Important, Warning, Caution}
 
 -- ---- tasks
 

@@ -3,6 +3,7 @@
 ghost use Rattle.markdown_reader.specs.Faces.{FacesOnce};
 ghost use Rattle.markdown_reader.specs.ListedSections.{SectionsMayBeListed};
 ghost use Rattle.markdown_reader.specs.Nested.{SectionsNest};
+ghost use Rattle.markdown_reader.specs.PlainLines.{SectionsArePlain};
 
 /// A section is behind exactly the gutters of the containers that are open where it is told, and each of these begins with the first section in
 /// it. Code is in a box behind them, and a table tells them with a bullet for the items of a list. A blank row before it is behind those that
@@ -23,4 +24,10 @@ pub fn faces_are_shown_once()
 #[tactic(auto, using(crate::proofs::NestedLemmas::may_be_listed))]
 pub fn tables_may_be_lists()
     ensures { SectionsMayBeListed }
+{}
+
+/// No line of a text has a sign of its own: each is a paragraph, a heading, code, a rule, or of a table whose cells are paragraphs.
+#[tactic(auto, using(crate::proofs::PlainLemmas::sections_are_plain))]
+pub fn lines_are_plain()
+    ensures { SectionsArePlain }
 {}

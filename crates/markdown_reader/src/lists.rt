@@ -68,11 +68,8 @@ pub(crate) fn is_item(gutter: Gutter) -> bool
     ensures { result ≡ is_item gutter }
 {
     match gutter {
-        Gutter::Bar
-        | Gutter::AlertBar(_)
-        | Gutter::Code
-        | Gutter::Signs(_)
-        | Gutter::Below(_) => false,
+        Gutter::Bar | Gutter::AlertBar(_) | Gutter::Code | Gutter::Signs(_) | Gutter::Below(_) =>
+            false,
         Gutter::Bullet | Gutter::Number(_) | Gutter::Task(_) => true,
     }
 }

@@ -12,7 +12,7 @@ ghost use Rattle.markdown_lines.specs.Restyled.{restyled};
 ghost use Rattle.markdown_lines.specs.Shown.{shown};
 ghost use Rattle.markdown_lines.specs.Tables.{table_lines};
 ghost use Rattle.markdown_reader.specs.Signs.{alert_of, box_of};
-ghost use Rattle.markdown_reader.specs.Mapping.{nothing_shown, with_list, new_gutter, boxed, with_section, blank_row, is_spaced, spaced, linked, added, put, passed, list_ended, quote_begun, numbered, begun, item_ended, ended_by, closed, ended, text_of, words_shown, task_by, alert_line, alert_by, paragraph_by, heading_style, heading_shown, code_shown, table_addresses, leaf_shown, shown_part, shown_parts};
+ghost use Rattle.markdown_reader.specs.Mapping.{nothing_shown, with_list, new_gutter, with_last, with_section, blank_row, is_spaced, spaced, linked, added, put, passed, list_ended, quote_begun, numbered, begun, item_ended, ended_by, closed, ended, text_of, words_shown, task_by, alert_line, alert_by, paragraph_by, heading_style, heading_shown, code_shown, table_addresses, leaf_shown, shown_part, shown_parts};
 ghost use Rattle.markdown_reader.specs.MappingOf.{mapping_of};
 ghost use Rattle.markdown_reader.specs.SectionsSaid.{lines_said, link_said, section_said};
 
@@ -22,9 +22,9 @@ use crate::lists::{
     number_in, up_to_bar,
 };
 use crate::sections::{Link, MarkdownSection, addresses_of, push_links};
-use crate::signs::{Alert, after_box, after_line, alert_of, alert_word, box_of};
+use crate::signs::{after_box, after_line, alert_of, alert_word, box_of};
 use mad_md::CompositeStyle;
-use mad_sections::Gutter;
+use mad_sections::{Alert, Gutter};
 use markdown_blocks::Container;
 use markdown_leaves::defining::joined;
 use markdown_leaves::{Kind, Part};
@@ -408,13 +408,13 @@ impl Mapper {
         self.put(alloc, Form::Words, leaf.rows, leaf.addresses)
     }
 
-    // A box in the place of the last gutter.
-    fn tick(&mut self, done: bool) -> Result<(), AllocError>
-        ensures { OnOk result (mapping_of self.new ≡ boxed done (mapping_of self.old)) }
+    // Another gutter in the place of the last.
+    fn replace_gutter(&mut self, gutter: Gutter) -> Result<(), AllocError>
+        ensures { OnOk result (mapping_of self.new ≡ with_last gutter (mapping_of self.old)) }
     {
         let depth = self.gutters.as_slice().len().saturating_sub(1);
         self.gutters.truncate(depth);
-        self.gutters.push(Gutter::Task(done))?;
+        self.gutters.push(gutter)?;
         Ok(())
     }
 
@@ -429,7 +429,7 @@ impl Mapper {
     {
         match box_of(bytes) {
             Some(done) => {
-                self.tick(done)?;
+                self.replace_gutter(Gutter::Task(done))?;
                 self.show_words(alloc, definitions, after_box(bytes))
             }
             None => self.show_words(alloc, definitions, bytes),
@@ -449,6 +449,7 @@ impl Mapper {
         let text = text_of(alloc, after_line(bytes))?;
         let leaf = read_leaf(alloc, definitions, text.as_str())?;
         let lines = alert_rows(alloc, alert, &leaf.rows)?;
+        self.replace_gutter(Gutter::AlertBar(alert))?;
         self.put(alloc, Form::Words, lines, leaf.addresses)
     }
 
@@ -480,9 +481,13 @@ impl Mapper {
         match gutter {
             Some(Gutter::Bullet) => self.show_task(alloc, definitions, bytes),
             Some(Gutter::Bar) => self.show_quoted(alloc, definitions, bytes),
-            Some(Gutter::Number(_)) | Some(Gutter::Task(_)) | Some(Gutter::Code) | None => {
-                self.show_words(alloc, definitions, bytes)
-            }
+            Some(Gutter::AlertBar(_))
+            | Some(Gutter::Number(_))
+            | Some(Gutter::Task(_))
+            | Some(Gutter::Code)
+            | Some(Gutter::Signs(_))
+            | Some(Gutter::Below(_))
+            | None => self.show_words(alloc, definitions, bytes),
         }
     }
 

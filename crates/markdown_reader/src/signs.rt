@@ -4,18 +4,9 @@ ghost use Rattle.std.specs.Prelude.{◌≡◌, ◌≤◌, ◌+◌, length, take,
 ghost use Rattle.std.specs.Str.{str_eq_ignore_ascii_case};
 ghost use Rattle.markdown_reader.specs.Signs.{is_tick, ends_line, after_box, has_box, box_of, line_len, first_line, after_line, alert_word, alert_in, alert_of};
 
+use mad_sections::Alert;
 use markdown_marks::bytes::{first, is_blank_byte, without_blanks};
 use markdown_marks::headings::without_end;
-
-/// What a quote says that is an alert.
-#[derive(Debug, Clone, Copy, PartialEq, Eq)]
-pub enum Alert {
-    Note,
-    Tip,
-    Important,
-    Warning,
-    Caution,
-}
 
 // The byte of this index, 0 if there is none.
 fn byte_at(text: &[u8], index: usize) -> u8

@@ -6,17 +6,20 @@
 //! 2. [`lines`]: `lines`, what each line of a text does.
 //! 3. [`inlines`]: `inlines`, the inlines of a text.
 //! 4. [`pieces`]: `pieces`, the inlines of a text's leaves.
-//! 5. [`shown`]: `shown`, the lines that are shown of a text, and `links`, its links.
+//! 5. [`shown`]: `sections`, the sections that are shown of a text, and `links`, its links.
+//! 6. [`pages`]: `page W`, the rows of a text at a width; `page none`, without one. `boxes W`, the same where code has a background,
+//!    and `ascii W`, where bullets are ASCII.
 //!
 //! In a text `▪` is a byte order mark.
 //!
-//! As `--told CALL FILE` it answers the call of each text of a file, with a line `==` before each answer. A byte 1 stands between two texts. So
+//! As `--told CALL FILE` it answers the call of each text of a file, with a byte 1 before each answer. The same stands between two texts. So
 //! `tools/commonmark` and `tools/markdown_files` ask it.
 #![tactic(auto)]
 
 mod blocks;
 mod inlines;
 mod lines;
+mod pages;
 mod pieces;
 mod shown;
 
@@ -35,9 +38,19 @@ impl Calls for MarkdownCalls {
             "blocks" => blocks::picture_of(alloc, text),
             "pieces" => pieces::draw_leaves(alloc, text),
             "links" => shown::draw_links(alloc, text),
-            "shown" => shown::draw_lines(alloc, text),
-            _ => inlines::draw_inlines(alloc, call, text),
+            "sections" => shown::draw_sections(alloc, text),
+            _ => answer_at(alloc, call, text),
         }
+    }
+}
+
+// The call of a page, or of inlines.
+fn answer_at(alloc: Global, call: &str, text: &str) -> Result<String, AllocError> {
+    match call.split_once(' ') {
+        Some(("page", width)) => pages::draw_page(alloc, width, text),
+        Some(("boxes", width)) => pages::draw_boxes(alloc, width, text),
+        Some(("ascii", width)) => pages::draw_ascii(alloc, width, text),
+        _ => inlines::draw_inlines(alloc, call, text),
     }
 }
 
@@ -53,7 +66,7 @@ fn tell(rt: &HostRuntime, call: &str, file: &str) -> io::Result<()> {
     let texts = fs::read_to_string(rt, file)?;
     for text in texts.as_str().split('\u{1}') {
         let answer = MarkdownCalls.answer(rt.alloc(), call, text)?;
-        print!(rt; "==\n{answer}")?;
+        print!(rt; "\u{1}{answer}")?;
     }
     Ok(())
 }

@@ -1,7 +1,8 @@
-//! The lines that are shown of a text: what each is, and its runs, each with its flags and its text in quotes. The picture of a control character is its
-//! number.
+//! The sections that are shown of a text: their gutters, and what each line is, its runs, each with its flags and its text in quotes. The picture of a
+//! control character is its number.
 
 use mad_md::{Alignment, Composite, CompositeStyle, Compound, Line};
+use mad_sections::{Alert, Gutter, Section};
 use markdown_reader::Markdown;
 use std::alloc::{AllocError, Global};
 use std::fmt::Write;
@@ -97,23 +98,73 @@ fn draw_line(picture: &mut String, line: &Line<'_>) -> Result<(), AllocError> {
     picture.push('\n')
 }
 
-/// The lines of a text.
-pub(crate) fn draw_lines(alloc: Global, text: &str) -> Result<String, AllocError> {
+fn alert_word(alert: Alert) -> &'static str {
+    match alert {
+        Alert::Note => "note",
+        Alert::Tip => "tip",
+        Alert::Important => "important",
+        Alert::Warning => "warning",
+        Alert::Caution => "caution",
+    }
+}
+
+fn draw_gutter(picture: &mut String, gutter: Gutter) -> Result<(), AllocError> {
+    match gutter {
+        Gutter::Bar => picture.push_str(" |"),
+        Gutter::AlertBar(alert) => {
+            let word = alert_word(alert);
+            write!(picture, " |{word}")
+        }
+        Gutter::Bullet => picture.push_str(" *"),
+        Gutter::Number(number) => write!(picture, " {number}."),
+        Gutter::Task(false) => picture.push_str(" [ ]"),
+        Gutter::Task(true) => picture.push_str(" [x]"),
+        Gutter::Code => picture.push_str(" ="),
+        Gutter::Signs(level) => write!(picture, " #{level}"),
+        Gutter::Below(level) => write!(picture, " _{level}"),
+    }
+}
+
+fn draw_gutters(picture: &mut String, gutters: &[Gutter]) -> Result<(), AllocError> {
+    for gutter in gutters {
+        draw_gutter(picture, *gutter)?;
+    }
+    Ok(())
+}
+
+fn draw_section(picture: &mut String, section: &Section<'_>) -> Result<(), AllocError> {
+    let fresh = section.fresh;
+    write!(picture, "= {fresh}")?;
+    draw_gutters(picture, section.gutters)?;
+    if let Some(gutters) = section.list {
+        picture.push_str(", items")?;
+        draw_gutters(picture, gutters)?;
+    }
+    picture.push('\n')?;
+    for line in &section.text.lines {
+        draw_line(picture, line)?;
+    }
+    Ok(())
+}
+
+/// The sections of a text: how many of the gutters begin with it, the gutters, of a table those of its items too, and the lines.
+pub(crate) fn draw_sections(alloc: Global, text: &str) -> Result<String, AllocError> {
     let markdown = Markdown::read(alloc, text)?;
-    let shown = markdown.text(alloc)?;
+    let page = markdown.page(alloc)?;
     let mut picture = String::new(alloc);
-    for line in &shown.lines {
-        draw_line(&mut picture, line)?;
+    for section in &page.sections {
+        draw_section(&mut picture, section)?;
     }
     Ok(picture)
 }
 
-/// The links of a text: the number of a line, and an address.
+/// The links of a text: the number of a section, and an address.
 pub(crate) fn draw_links(alloc: Global, text: &str) -> Result<String, AllocError> {
     let markdown = Markdown::read(alloc, text)?;
     let mut picture = String::new(alloc);
     for link in markdown.links() {
-        write!(picture, "{} ", link.line)?;
+        let section = link.section;
+        write!(picture, "{section} ")?;
         for c in link.address.chars() {
             draw_character(&mut picture, c)?;
         }

@@ -15,7 +15,7 @@ returns-in-None g c =
     let read = c.from.ensures in
     then_ok _ _ c.put_line.result (λ pushed. (
       c.from.result,
-      record { kind = read.kind; text = ap (map run_of) read.text; measured = read.measured; spacing = read.spacing; margins = read.margins },
+      record { kind = read.kind; text = ap (map run_of) read.text; measured = read.measured; spacing = read.spacing; margins = read.margins; known = read.typed },
       Normal c.from.result ∷ [],
       pushed,
       subst (λ w. IsLineAt IsCompositeWrap (g.S.LineSkin.rules c.args.skin.now) w (Normal c.from.result) (Normal c.from.result ∷ [])) (sym c.in-None.is) refl,

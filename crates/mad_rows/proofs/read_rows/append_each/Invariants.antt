@@ -2,7 +2,6 @@ use Rattle.std.proofs.Common.{map, take, string_bytes}
 use Rattle.mad_wrap.specs.Words.{alone}
 use Rattle.mad_rows.specs.ReadRows.{token_bytes}
 use Rattle.mad_rows.specs.WordRows.{WritesPieces}
-use Rattle.mad_rows.proofs.WordRowLemmas.{each_more}
 use Rattle.mad_rows.proofs.read_rows.append_each.Given as goal
 
 abbrev pub invariant-loop-token : goal.invariant-loop-token

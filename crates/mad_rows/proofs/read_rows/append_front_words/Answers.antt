@@ -1,9 +1,9 @@
-use Rattle.std.proofs.Common.{ℕ, ◌≤◌, ◌++◌, List, string_bytes, refl, ap, ◌∙◌, subst, arith, rules}
+use Rattle.std.proofs.Common.{ℕ, ◌++◌, List, string_bytes, ap, ◌∙◌, subst, arith, rules}
 use Rattle.std.specs.Str.{IsUtf8}
 use Rattle.mad_measure.specs.Chunks.{ArePlain}
 use Rattle.mad_measure.proofs.TokenLemmas.{ends_at_border}
 use Rattle.mad_wrap.specs.Writings.{put_bytes}
-use Rattle.mad_rows.proofs.WordRowLemmas.{some_start, some_span, some_token}
+use Rattle.mad_rows.proofs.WordRowLemmas.{some_span, some_token}
 use Rattle.mad_rows.proofs.read_rows.append_front_words.Goals as goal
 
 pub loop-at-preserved-then-span-end : goal.loop-at-preserved-then-span-end

@@ -1,7 +1,6 @@
 use Rattle.std.proofs.Common.{◌≡◌, ◌++◌, take, string_bytes}
 use Rattle.std.specs.List.{flat_map}
 use Rattle.mad_rows.specs.ReadRows.{token_bytes}
-use Rattle.mad_rows.proofs.WordRowLemmas.{parts_more}
 use Rattle.mad_rows.proofs.read_rows.append_parts.Given as goal
 
 abbrev pub invariant-loop-token : goal.invariant-loop-token

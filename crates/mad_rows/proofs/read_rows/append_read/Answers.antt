@@ -24,6 +24,7 @@ returns-in-Some c =
     c.from-kind.ensures c.line_style-style.ensures c.margins_and_rest-margin.ensures.margins (c.room_of-room.ensures ∙ ap (room_of (line_rules skin) kind) c.margins_and_rest-margin.ensures.inner) (c.is_aligned_left.ensures c.if-not-is_aligned_left.false)
     (c.in-Some.ensures.0 ∙ ap (λ (ps : List Compound). width_of (flagged_text ps)) c.as_slice-compounds.ensures.value) c.in-Some.ensures.1 c.ranges.width.fits
     (c.in_ok-append_whole.ensures ∙ ap (λ (ps : List Compound). string_bytes c.args.rows.now ++ (front_text skin kind margins.0 ++ (pieces_bytes (map (compound_piece skin line) ps) ++ 10 ∷ []))) c.as_slice-compounds.ensures.value)
+    c.typed_composite.ensures
 
 pub returns : goal.returns
 returns c =
@@ -44,7 +45,7 @@ returns c =
     (ap (is_cut_clean r) (sym same) ∙ sym c.is_cut_clean.ensures ∙ c.if-is_cut_clean.false)
     (subst (λ (ps : List Compound). bytes_of ps < 2 ^ 62) same (c.are_short.ensures c.if-not-are_short.false))
     (omega (arith, c.if-width-eq18446744073709551615.false, c.ranges.width.fits))
-    w.cut w.rows w.bytes
+    w.cut w.rows w.bytes c.typed_composite.ensures
 
 pub returns-then-room : goal.returns-then-room
 returns-then-room c =
@@ -64,4 +65,4 @@ returns-then-room c =
     c.if-room.true
     (subst (λ (ps : List Compound). bytes_of ps < 2 ^ 62) same (c.are_short.ensures c.if-not-are_short.false))
     (omega (arith, c.if-width-eq18446744073709551615.false, c.ranges.width.fits))
-    w.cut w.writes w.bytes
+    w.cut w.writes w.bytes c.typed_composite.ensures

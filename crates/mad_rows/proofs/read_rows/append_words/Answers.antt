@@ -1,4 +1,4 @@
-use Rattle.std.proofs.Common.{rules, ℕ, ◌≡◌, ◌+◌, ◌<◌, List, false, true, if◌then◌else◌, inl, inr, map, drop, slice_index_or, string_bytes, refl, sym, ap, ◌∙◌, arith, subst}
+use Rattle.std.proofs.Common.{◌≡◌, ◌+◌, List, false, true, if◌then◌else◌, inl, inr, map, drop, slice_index_or, string_bytes, refl, sym, ap, ◌∙◌, arith, subst}
 use Rattle.std.specs.Str.{IsUtf8}
 use Rattle.std.proofs.lemmas.Str.{IsCharBoundary-start}
 use Rattle.mad_measure.specs.declared.tokens.Token.{Token}

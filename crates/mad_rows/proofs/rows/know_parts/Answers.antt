@@ -15,4 +15,5 @@ returns c = record {
   bullet = search rules;
   quote_mark = search rules;
   rule = search rules;
+  page = c.know_signs.ensures;
 }

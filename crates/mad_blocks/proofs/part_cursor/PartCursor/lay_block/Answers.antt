@@ -15,7 +15,7 @@ loop-block-preserved g c =
     let next = rw c.in-Some.is at c.in_ok-composite.ensures in
     run_more is_code (g.S.LineSkin.rules c.args.skin.now) (normal (styled_runs c.args.first)) (lines_left c.args.self.now) (lines_left c.loop-block.self) (lines_left c.next_code.new.self) (normal (styled_runs c.in-Some.composite)) (Normal c.from-in-Some.result)
     (map Normal c.loop-block.block.items) (map Normal c.push-in-Some.new.self.items) c.loop-block.invariant next.0 next.1
-    (record { kind = made.kind; text = ap (map run_of) made.text; measured = made.measured; spacing = made.spacing; margins = made.margins })
+    (record { kind = made.kind; text = ap (map run_of) made.text; measured = made.measured; spacing = made.spacing; margins = made.margins; known = made.typed })
     (ap (map Normal) c.in_ok-push-2.ensures.items ∙ map-append Normal c.loop-block.block.items (c.from-in-Some.result ∷ []))
 
 pub push_block-requires : goal.push_block-requires

@@ -18,7 +18,7 @@ loop-cell-preserved g c =
     let read = c.from.ensures in
     cells_more (g.S.LineSkin.rules c.args.skin.now) (map styled_runs c.args.row.cells.items) (map styled_runs (into_iter_items c.loop-cell.cell-iterator)) (map styled_runs (into_iter_items c.next.new.self)) (styled_runs c.in-Some.cell)
     c.loop-cell.cells.items c.push.new.self.items c.from.result c.loop-cell.invariant (ap (map styled_runs) c.in-Some.ensures.steps.0)
-    (record { kind = read.kind; text = ap (map run_of) read.text; measured = read.measured; spacing = read.spacing; margins = read.margins }) c.in_ok-push.ensures.items
+    (record { kind = read.kind; text = ap (map run_of) read.text; measured = read.measured; spacing = read.spacing; margins = read.margins; known = read.typed }) c.in_ok-push.ensures.items
 
 pub returns : goal.returns
 returns g c =

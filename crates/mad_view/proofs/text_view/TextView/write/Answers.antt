@@ -8,8 +8,8 @@ returns-clause-shown g c bar drawable =
     took_flushed (g.O.Out.seen c.args.out.now) (g.O.Out.seen c.write_on.new.out) (g.O.Out.seen c.flush.new.self) _ (c.in_ok-write_on.ensures.shown bar drawable) c.in_ok-flush.ensures
 
 pub returns-clause-shown_layout : goal.returns-clause-shown_layout
-returns-clause-shown_layout g c source width within bar typed keeps layout =
-    took_flushed (g.O.Out.seen c.args.out.now) (g.O.Out.seen c.write_on.new.out) (g.O.Out.seen c.flush.new.self) _ (c.in_ok-write_on.ensures.shown_layout source width within bar typed keeps layout) c.in_ok-flush.ensures
+returns-clause-shown_layout g c source width within bar keeps layout =
+    took_flushed (g.O.Out.seen c.args.out.now) (g.O.Out.seen c.write_on.new.out) (g.O.Out.seen c.flush.new.self) _ (c.in_ok-write_on.ensures.shown_layout source width within bar keeps layout) c.in_ok-flush.ensures
 
 pub returns-clause-headline : goal.returns-clause-headline
 returns-clause-headline g c =

@@ -1,0 +1,85 @@
+-- What stands in rows and isn't the text's own, put into the sections of a page.
+use Rattle.std.specs.Prelude.{ℕ, zero, suc, ◌+◌, min, nat_lt, if◌then◌else◌, List, [], ◌∷◌, ◌++◌, length, Option, Some, None, option_map}
+use Rattle.mad_md.specs.Lines.{LineContent, normal, horizontal_rule}
+use Rattle.mad_md.specs.declared.composite.CompositeStyle.{CompositeStyle}
+use Rattle.mad_md.specs.declared.composite.CompositeStyle.TheVariants.{Header}
+use Rattle.mad_sections.specs.Sections.{SectionContent, section_content}
+use Rattle.mad_sections.specs.declared.gutters.Gutter.{Gutter}
+use Rattle.mad_sections.specs.declared.gutters.Gutter.TheVariants.{Below, Signs}
+use Rattle.mad_dressing.specs.declared.heading_marks.HeadingMarks.{HeadingMarks}
+use Rattle.mad_dressing.specs.declared.dressing.Dressing.{Dressing}
+use Rattle.mad_dressing.specs.declared.dressing.Dressing.TheVariants as dressing
+use Rattle.mad_dressing.specs.declared.dressed.Dressed.{Dressed}
+
+-- ---- headings
+
+-- the level of a line of this style, counted from 0, if it is a heading
+abbrev pub header_level : CompositeStyle → Option ℕ
+header_level (Header zero) = None
+header_level (Header (suc level)) = Some level
+header_level _ = None
+
+-- the same of a line
+abbrev pub line_level : LineContent → Option ℕ
+line_level (normal said) = header_level said.style
+line_level _ = None
+
+-- the level of a heading, if lines begin with one
+abbrev pub heading_level : List LineContent → Option ℕ
+heading_level [] = None
+heading_level (line ∷ lines) = line_level line
+
+-- ---- what is put into a page
+
+-- nothing, a rule below a section, behind these gutters, or signs in front of it, which are the last of these
+pub data Put : Type 0 where
+  nothing : Put
+  rule_below : List Gutter → Put
+  signs_before : List Gutter → Put
+
+-- what is put there with a section behind these gutters, if it is a heading of this level: the first levels have rules, others may have signs
+abbrev pub put_at : HeadingMarks → List Gutter → Option ℕ → Put
+put_at marks gutters None = nothing
+put_at marks gutters (Some level) =
+    if nat_lt level marks.rules then rule_below (gutters ++ Below level ∷ [])
+    else if marks.signs then signs_before (gutters ++ Signs level ∷ [])
+    else nothing
+
+-- what is put there with a section
+abbrev pub put_with : HeadingMarks → SectionContent → Put
+put_with marks section = put_at marks section.gutters (heading_level section.lines)
+
+-- a section that is one rule, behind these gutters; none begins with it
+abbrev pub rule_behind : List Gutter → SectionContent
+rule_behind gutters = record { gutters = gutters; fresh = 0; list = None; lines = horizontal_rule ∷ [] }
+
+-- a section behind its gutters and one more, which begins with it
+abbrev pub signed : List Gutter → SectionContent → SectionContent
+signed gutters section = record { gutters = gutters; fresh = min section.fresh (length section.gutters) + 1; list = section.list; lines = section.lines }
+
+-- the sections that are shown in the place of one, with what is put there
+abbrev pub dressed_by : Put → SectionContent → List SectionContent
+dressed_by nothing section = section ∷ []
+dressed_by (rule_below gutters) section = section ∷ rule_behind gutters ∷ []
+dressed_by (signs_before gutters) section = signed gutters section ∷ []
+
+-- the sections that are shown in the place of one: a heading with the rule below it or the signs in front of it, all else as it is
+abbrev pub dressed : HeadingMarks → SectionContent → List SectionContent
+dressed marks section = dressed_by (put_with marks section) section
+
+-- ---- what values say
+
+-- what a dressing puts there
+abbrev pub put_of : Dressing → Put
+put_of dressing.Nothing = nothing
+put_of (dressing.Rule gutters) = rule_below gutters.items
+put_of (dressing.Signs gutters) = signs_before gutters.items
+
+-- a section that may be there
+abbrev pub maybe_section : Option SectionContent → List SectionContent
+maybe_section None = []
+maybe_section (Some section) = section ∷ []
+
+-- what the sections say that are shown
+abbrev pub sections_dressed : Dressed → List SectionContent
+sections_dressed d = section_content d.section ∷ maybe_section (option_map section_content d.rule)

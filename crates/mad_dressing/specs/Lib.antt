@@ -1,0 +1,2 @@
+pub mod DressLaws
+pub mod Dressed

@@ -1,0 +1,85 @@
+//! The sections that are shown in the place of one.
+
+ghost use Rattle.std.specs.Prelude.{◌≡◌, ◌∷◌, [], None, map, IfOk};
+ghost use Rattle.mad_md.specs.Lines.{contents, horizontal_rule};
+ghost use Rattle.mad_sections.specs.Sections.{section_content};
+ghost use Rattle.mad_dressing.specs.Dressed.{dressed_by, put_of, rule_behind, sections_dressed, signed};
+
+use crate::dressing::Dressing;
+use mad_md::{Line, Text};
+use mad_sections::{Gutter, Section};
+use std::alloc::{AllocError, Global};
+
+/// A section with what is put into the page with it.
+#[derive(Debug, PartialEq, Drop)]
+pub struct Dressed<'s> {
+    /// The section; with signs behind one gutter more.
+    pub section: Section<'s>,
+    /// The rule below it, if it has one: a section of its own.
+    pub rule: Option<Section<'s>>,
+}
+
+/// A section with what is put into the page with it. Its text is moved, and none of it changes.
+///
+/// # Errors
+///
+/// Out of memory is the only error.
+pub fn dress<'s>(
+    alloc: Global,
+    section: Section<'s>,
+    dressing: &'s Dressing,
+) -> Result<Dressed<'s>, AllocError>
+    ensures { IfOk result (λ dressed. sections_dressed dressed ≡ dressed_by (put_of dressing.entry.now) (section_content section.entry)) }
+{
+    match dressing {
+        Dressing::Nothing => Ok(Dressed {
+            section,
+            rule: None,
+        }),
+        Dressing::Rule(gutters) => {
+            let rule = rule_behind(alloc, gutters)?;
+            Ok(Dressed {
+                section,
+                rule: Some(rule),
+            })
+        }
+        Dressing::Signs(gutters) => Ok(Dressed {
+            section: signed(section, gutters),
+            rule: None,
+        }),
+    }
+}
+
+// A section that is one rule, behind these gutters.
+fn rule_behind<'s>(alloc: Global, gutters: &'s [Gutter]) -> Result<Section<'s>, AllocError>
+    ensures { IfOk result (λ section. section_content section ≡ rule_behind gutters.entry.now) }
+{
+    let text = rule_text(alloc)?;
+    Ok(Section {
+        gutters,
+        fresh: 0,
+        list: None,
+        text,
+    })
+}
+
+// A text that is one rule.
+fn rule_text<'s>(alloc: Global) -> Result<Text<'s>, AllocError>
+    ensures { IfOk result (λ text. contents text ≡ horizontal_rule ∷ []) }
+{
+    let mut lines = Vec::new(alloc);
+    lines.push(Line::HorizontalRule)?;
+    Ok(Text { lines })
+}
+
+// A section behind its gutters and one more, which begins with it.
+fn signed<'s>(section: Section<'s>, gutters: &'s [Gutter]) -> Section<'s>
+    ensures { section_content result ≡ signed gutters.entry.now (section_content section.entry) }
+{
+    Section {
+        gutters,
+        fresh: section.fresh.min(section.gutters.len()).saturating_add(1),
+        list: section.list,
+        text: section.text,
+    }
+}

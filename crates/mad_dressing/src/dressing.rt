@@ -1,0 +1,87 @@
+//! What is put into a page with a section.
+
+ghost use Rattle.std.specs.Prelude.{◌≡◌, ◌++◌, ◌∷◌, [], map, IfOk};
+ghost use Rattle.mad_md.specs.Lines.{content_of};
+ghost use Rattle.mad_sections.specs.Sections.{section_content};
+ghost use Rattle.mad_dressing.specs.Dressed.{header_level, heading_level, line_level, put_of, put_with};
+
+use crate::heading_marks::HeadingMarks;
+use mad_md::{CompositeStyle, Line};
+use mad_sections::{Gutter, Section};
+use std::alloc::{AllocError, Global};
+
+/// What is put into a page with a section. It has the gutters of what is put there, so it has to last as long as they are drawn.
+#[derive(Debug, Drop)]
+pub enum Dressing {
+    /// Nothing.
+    Nothing,
+    /// A rule below the section, behind these gutters.
+    Rule(Vec<Gutter>),
+    /// The signs of a heading in front of it: the last of these gutters.
+    Signs(Vec<Gutter>),
+}
+
+/// What is put into a page with a section.
+///
+/// # Errors
+///
+/// Out of memory is the only error.
+pub fn dressing_of(
+    alloc: Global,
+    section: &Section,
+    marks: HeadingMarks,
+) -> Result<Dressing, AllocError>
+    ensures { IfOk result (λ dressing. put_of dressing ≡ put_with marks (section_content section.now)) }
+{
+    let Some(level) = heading_level(&section.text.lines) else {
+        return Ok(Dressing::Nothing);
+    };
+    if level < marks.rules {
+        let gutters = with_gutter(alloc, section.gutters, Gutter::Below(level))?;
+        Ok(Dressing::Rule(gutters))
+    } else if marks.signs {
+        let gutters = with_gutter(alloc, section.gutters, Gutter::Signs(level))?;
+        Ok(Dressing::Signs(gutters))
+    } else {
+        Ok(Dressing::Nothing)
+    }
+}
+
+// The level of a heading, counted from 0, if lines begin with one.
+fn heading_level(lines: &[Line]) -> Option<u8>
+    ensures { result ≡ heading_level (map content_of lines.now) }
+{
+    match lines {
+        [first, ..] => line_level(first),
+        [] => None,
+    }
+}
+
+// The level of a heading's line.
+fn line_level(line: &Line) -> Option<u8>
+    ensures { result ≡ line_level (content_of line.now) }
+{
+    match line {
+        Line::Normal(composite) => header_level(composite.style),
+        _ => None,
+    }
+}
+
+// The level of a line of this style, if it is a heading.
+fn header_level(style: CompositeStyle) -> Option<u8>
+    ensures { result ≡ header_level style }
+{
+    match style {
+        CompositeStyle::Header(level) => level.checked_sub(1),
+        _ => None,
+    }
+}
+
+// Gutters and one more. Only out of memory is an error.
+fn with_gutter(alloc: Global, gutters: &[Gutter], last: Gutter) -> Result<Vec<Gutter>, AllocError>
+    ensures { IfOk result (λ more. more.items ≡ gutters.now ++ last ∷ []) }
+{
+    let mut more = Vec::from_slice(alloc, gutters)?;
+    more.push(last)?;
+    Ok(more)
+}

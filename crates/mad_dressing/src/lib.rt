@@ -1,0 +1,18 @@
+//! What stands in the rows of a page and isn't the text's own, put into its sections: rules below headings, and signs in front of them.
+//!
+//! In the order of the work:
+//!
+//! 1. [`heading_marks`]: which headings have rules below, and which have signs.
+//! 2. [`dressing`]: what is put into a page with a section.
+//! 3. [`dressed`]: the sections that are shown in the place of one.
+//! 4. [`laws`]: no character of the text changes, and what is new is rules and signs alone.
+#![tactic(auto)]
+
+pub mod dressed;
+pub mod dressing;
+pub mod heading_marks;
+pub mod laws;
+
+pub use dressed::{Dressed, dress};
+pub use dressing::{Dressing, dressing_of};
+pub use heading_marks::HeadingMarks;

@@ -1,0 +1,20 @@
+-- The skins whose parts of a page read back equal from what they are written as.
+use Rattle.std.specs.Prelude.{◌≡◌, ℕ, ◌<◌, List, Ok}
+use Rattle.std.specs.List.{AllByRecursion}
+use Rattle.serde_json.specs.Data.{Data}
+use Rattle.mad_style.specs.declared.compound_styles.CompoundStyle.{CompoundStyle}
+use Rattle.mad_style.specs.declared.styled_chars.StyledChar.{StyledChar}
+use Rattle.mad_parse.specs.ReadsBack.{IsReadBackChar, IsReadBackStyle}
+use Rattle.mad_page_skin.specs.declared.page_skin.PageSkin.{PageSkin}
+use Rattle.mad_page_json.specs.PageReading.{page_under}
+use Rattle.mad_page_json.specs.Parts.{char_parts, style_parts}
+
+-- a skin whose styles and characters read back; the number of levels with rules is a byte
+pub record IsReadBackPage (skin : PageSkin) : Type 0 where
+  pub styles : AllByRecursion (λ (named : List ℕ × CompoundStyle). IsReadBackStyle named.1) (style_parts skin)
+  pub chars : AllByRecursion (λ (named : List ℕ × StyledChar). IsReadBackChar named.1) (char_parts skin)
+  pub rules : skin.headings.rules < 256
+
+-- such a skin is read of that value, from any skin of the same text
+abbrev pub PageReadsBack : PageSkin → Data → Type 0
+PageReadsBack skin d = IsReadBackPage skin → (old : PageSkin) → old.text ≡ skin.text → page_under old d ≡ Ok skin

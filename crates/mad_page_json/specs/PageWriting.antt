@@ -1,0 +1,20 @@
+-- The value that the parts of a page's skin are written as.
+use Rattle.std.specs.Prelude.{ℕ, List, [], ◌∷◌, codes}
+use Rattle.serde_json.specs.Data.{Data, Members, boolean, no_members, number, object, put, unsigned}
+use Rattle.mad_dressing.specs.declared.heading_marks.HeadingMarks.{HeadingMarks}
+use Rattle.mad_page_skin.specs.declared.page_skin.PageSkin.{PageSkin}
+use Rattle.mad_json.specs.Written.{char_data, style_data}
+use Rattle.mad_page_json.specs.Parts.{char_parts, style_parts}
+
+-- members with parts, each under its key
+abbrev pub with_parts : {S : Type 0} → (S → Data) → List (List ℕ × S) → Members → Members
+with_parts shown [] members = members
+with_parts shown (named ∷ parts) members = with_parts shown parts (put named.0 (shown named.1) members)
+
+-- members with what says which headings have rules and signs
+abbrev pub with_headings : HeadingMarks → Members → Members
+with_headings headings members = put (codes "signs") (boolean headings.signs) (put (codes "rules") (number (unsigned headings.rules)) members)
+
+-- the object of a skin
+abbrev pub page_data : PageSkin → Data
+page_data skin = object (with_parts style_data (style_parts skin) (with_parts char_data (char_parts skin) (with_headings skin.headings no_members)))

@@ -1,0 +1,69 @@
+//! The object that says the parts of a page's skin.
+
+ghost use Rattle.std.specs.Prelude.{◌≡◌, IfOk, OnOk, map};
+ghost use Rattle.std.specs.List.{All};
+ghost use Rattle.serde_json.specs.Data.{object};
+ghost use Rattle.serde_json.specs.View.{members_view, view};
+ghost use Rattle.mad_json.specs.Written.{text_data};
+ghost use Rattle.mad_parse.specs.Written.{tokens_text};
+ghost use Rattle.mad_page_json.specs.Named.{named_said};
+ghost use Rattle.mad_page_json.specs.PageReadsBack.{PageReadsBack};
+ghost use Rattle.mad_page_json.specs.PageWriting.{page_data, with_headings, with_parts};
+
+use crate::named::Named;
+use crate::parts::{char_parts, style_parts};
+use mad_dressing::HeadingMarks;
+use mad_page_skin::PageSkin;
+use mad_parse::PushStyleTokens;
+use serde_json::{Map, Value, put};
+use std::alloc::{AllocError, Global};
+
+/// The object that says the parts of a page's skin, each under its key. The skin of its text has an object of its own.
+///
+/// # Errors
+///
+/// Out of memory.
+pub fn page_to_value(alloc: Global, skin: &PageSkin) -> Result<Value, AllocError>
+    ensures value { IfOk result (λ value. view value ≡ page_data skin.now) }
+    ensures reads_back { IfOk result (λ value. PageReadsBack skin.now (view value)) }
+{
+    let mut members = Map::new(alloc);
+    put_headings(alloc, &mut members, skin.headings)?;
+    put_parts(alloc, &mut members, &char_parts(skin))?;
+    put_parts(alloc, &mut members, &style_parts(skin))?;
+    Ok(object_of(members))
+}
+
+fn object_of(members: Map<String, Value>) -> Value
+    ensures { view result ≡ object (members_view members.entries) }
+{
+    Value::Object(members)
+}
+
+// Which headings have rules and signs.
+fn put_headings(
+    alloc: Global,
+    members: &mut Map<String, Value>,
+    headings: HeadingMarks,
+) -> Result<(), AllocError>
+    ensures { OnOk result (members_view members.new.entries ≡ with_headings headings (members_view members.old.entries)) }
+{
+    put(members, alloc, "rules", Value::from(headings.rules))?;
+    put(members, alloc, "signs", Value::from(headings.signs))
+}
+
+// Parts under their keys.
+fn put_parts<P: PushStyleTokens>(
+    alloc: Global,
+    members: &mut Map<String, Value>,
+    parts: &[Named<P>],
+) -> Result<(), AllocError>
+    ensures value { OnOk result (members_view members.new.entries ≡ with_parts (λ part. text_data (P.tokens_of_value part)) (map named_said parts.now) (members_view members.old.entries)) }
+    ensures reads_back { OnOk result (All (λ named. P.reads_back named.part (tokens_text (P.tokens_of_value named.part))) parts.now) }
+{
+    for named in parts {
+        let text = named.part.to_style_tokens_string(alloc)?;
+        put(members, alloc, named.key, Value::String(text))?;
+    }
+    Ok(())
+}

@@ -1,0 +1,54 @@
+-- The skin of a page of Markdown.
+use Rattle.std.specs.Prelude.{true, false}
+use Rattle.mad_term.specs.declared.attribute.Attribute.TheVariants as attribute
+use Rattle.mad_style.specs.CompoundStyles.{unstyled}
+use Rattle.mad_style.specs.StyledChars.{styled_char}
+use Rattle.mad_rows.specs.RowStyles.{with_links}
+use Rattle.mad_rows.specs.declared.row_skin.RowSkin.{RowSkin}
+use Rattle.mad_layout.specs.RowSkins.{page_styles, row_skin}
+use Rattle.mad_layout.specs.declared.skin.MadSkin.{MadSkin}
+use Rattle.mad_page_skin.specs.Inks.{attributed}
+use Rattle.mad_page_skin.specs.declared.page_skin.PageSkin.{PageSkin}
+use Rattle.mad_page_skin.specs.declared.part_styles.CodeStyles.{CodeStyles}
+use Rattle.mad_page_skin.specs.declared.part_styles.TitleStyles.{TitleStyles}
+
+-- titles in which nothing is set
+abbrev pub unstyled_titles : TitleStyles
+unstyled_titles = record { note = unstyled; tip = unstyled; important = unstyled; warning = unstyled; caution = unstyled }
+
+-- tones in which nothing is set
+abbrev pub unstyled_code : CodeStyles
+unstyled_code =
+    record {
+      comment = unstyled;
+      string = unstyled;
+      number = unstyled;
+      keyword = unstyled;
+      name = unstyled;
+      key = unstyled;
+      inserted = unstyled;
+      deleted = unstyled;
+    }
+
+-- what rows show of the skin of a page: they keep words whole
+abbrev pub page_row_skin : PageSkin → RowSkin
+page_row_skin skin = record (row_skin skin.text) { link = skin.link; whole_words = true; page = skin.page }
+
+-- The skin of a page by that of the other Markdown: links look as there, headings have neither rules nor signs, and what is new has no style. In a
+-- pager numbers of links, hits and the last row are reversed.
+abbrev pub page_skin_of : MadSkin → PageSkin
+page_skin_of text =
+    record {
+      text = text;
+      page = page_styles text;
+      headings = record { rules = 0; signs = false };
+      link = (with_links (row_skin text)).link;
+      sign = styled_char unstyled 0x25A3;
+      picture = unstyled;
+      head = unstyled;
+      titles = unstyled_titles;
+      code = unstyled_code;
+      number = attributed attribute.Reverse;
+      hit = attributed attribute.Reverse;
+      status = attributed attribute.Reverse;
+    }

@@ -1,0 +1,87 @@
+//! The skin of a page of Markdown.
+
+ghost use Rattle.std.specs.Prelude.{◌≡◌, true};
+ghost use Rattle.mad_layout.specs.RowSkins.{page_styles, row_skin};
+ghost use Rattle.mad_rows.specs.RowStyles.{with_links};
+ghost use Rattle.mad_page_skin.specs.PageSkins.{page_row_skin, page_skin_of};
+
+use crate::part_styles::{CodeStyles, TitleStyles};
+use mad_dressing::HeadingMarks;
+use mad_layout::MadSkin;
+use mad_rows::{PageStyles, RowSkin};
+use mad_style::{CompoundStyle, StyledChar};
+use mad_term::Attribute;
+
+// What is in front of the words of a picture.
+const PICTURE: char = '▣';
+
+/// How Markdown as people write it looks.
+#[derive(Clone, Copy, PartialEq, Debug)]
+pub struct PageSkin {
+    /// The styles of a text's parts.
+    pub text: MadSkin,
+    /// How what a page shows beside its text looks.
+    pub page: PageStyles,
+    /// Which headings have rules below, and which have signs in front.
+    pub headings: HeadingMarks,
+    /// What the text of a link adds to its line's style.
+    pub link: CompoundStyle,
+    /// What is in front of the words of a picture.
+    pub sign: StyledChar,
+    /// What the words of a picture add to their line's style.
+    pub picture: CompoundStyle,
+    /// What the heads of a table add to their line's style.
+    pub head: CompoundStyle,
+    /// The words that say what an alert is.
+    pub titles: TitleStyles,
+    /// The tones of code.
+    pub code: CodeStyles,
+    /// The number of a link, in a pager.
+    pub number: CompoundStyle,
+    /// What was sought and found, in a pager.
+    pub hit: CompoundStyle,
+    /// The last row of a pager.
+    pub status: CompoundStyle,
+}
+
+impl PageSkin {
+    /// The skin of a page that looks as a skin of the other Markdown does: links are underlined, where a flag of a compound adds anything, and
+    /// headings have neither rules nor signs.
+    pub fn of(text: &MadSkin) -> PageSkin
+        ensures skin { result ≡ page_skin_of text.now }
+        ensures rows { page_row_skin result ≡ with_links (record (row_skin text.now) { whole_words = true }) }
+    {
+        let rows = text.row_skin().with_links();
+        let plain = CompoundStyle::default();
+        let reversed = CompoundStyle::with_attr(Attribute::Reverse);
+        PageSkin {
+            text: *text,
+            page: rows.page,
+            headings: HeadingMarks {
+                rules: 0,
+                signs: false,
+            },
+            link: rows.link,
+            sign: StyledChar::nude(PICTURE),
+            picture: plain,
+            head: plain,
+            titles: TitleStyles::default(),
+            code: CodeStyles::default(),
+            number: reversed,
+            hit: reversed,
+            status: reversed,
+        }
+    }
+
+    /// What rows show of the skin. Words stay whole in them.
+    pub fn row_skin(&self) -> RowSkin
+        ensures { result ≡ page_row_skin self.now }
+    {
+        RowSkin {
+            link: self.link,
+            whole_words: true,
+            page: self.page,
+            ..self.text.row_skin()
+        }
+    }
+}

@@ -1,0 +1,21 @@
+-- The marks of a page take one column each.
+use Rattle.mad_style.specs.StyledChars.{char_alone}
+use Rattle.mad_style.specs.declared.kinds.CompositeKind.{CompositeKind}
+use Rattle.mad_draw.specs.Pieces.{IsColumnChar}
+use Rattle.mad_rows.specs.declared.row_skin.RowSkin.{RowSkin}
+use Rattle.mad_layout.specs.Premises.{IsPrintablePrefix, AreBordersShown}
+use Rattle.mad_page_rows.specs.FaceLaws.{AreFacesShown}
+use Rattle.mad_page_skin.specs.PageSkins.{page_row_skin}
+use Rattle.mad_page_skin.specs.declared.page_skin.PageSkin.{PageSkin}
+
+-- the marks of a text: what is in front of its lines, the borders of tables, and rules
+pub record AreTextMarksShown (skin : RowSkin) : Type 0 where
+  pub prefixes : (kind : CompositeKind) → IsPrintablePrefix skin kind
+  pub borders : AreBordersShown skin
+  pub rule : IsColumnChar (char_alone skin.horizontal_rule)
+
+-- the marks of a page: those of its text, what stands beside it, and what is in front of a picture's words
+pub record ArePageMarksShown (skin : PageSkin) : Type 0 where
+  pub text : AreTextMarksShown (page_row_skin skin)
+  pub beside : AreFacesShown (page_row_skin skin)
+  pub picture : IsColumnChar (char_alone skin.sign)

@@ -1,0 +1,129 @@
+-- Examples 201 to 225, computed.
+use Rattle.std.proofs.Common.{◌≡◌, [], ◌∷◌, codes, true, false, refl}
+use Rattle.mad_sections.specs.declared.gutters.Gutter.TheVariants.{Bar, Bullet, Number, Code}
+use Rattle.mad_md.specs.declared.composite.CompositeStyle.TheVariants.{Paragraph, Header}
+use Rattle.mad_md.specs.Lines.{horizontal_rule}
+use Rattle.markdown_examples.specs.Rows.{plain, flagged, row, code_row, behind, blank}
+use Rattle.markdown_reader.specs.Mapping.{link_at}
+use Rattle.markdown_reader.specs.Markdown.{printable_sections, unmarked_links}
+use Rattle.markdown_examples.specs.Sections9.{AreSections9}
+use Rattle.markdown_examples.proofs.Computing.{sections}
+
+e201 : printable_sections (codes "\\b ```rs\n+ ~~~    ") ≡ behind [] 0 (row Paragraph (plain (codes "\\b ```rs") ∷ []) ∷ []) ∷ behind (Bullet ∷ []) 1 (row Paragraph ([]) ∷ []) ∷ []
+unfolding sections
+e201 = refl
+
+e202 : printable_sections (codes "foo\n---\n</a>[  2) ") ≡ behind [] 0 (row (Header 2) (plain (codes "foo") ∷ []) ∷ []) ∷ blank [] ∷ behind [] 0 (row Paragraph (plain (codes "[  2)") ∷ []) ∷ []) ∷ []
+unfolding sections
+e202 = refl
+
+e203 : printable_sections (codes "\n===\n1. - 2) ```rs\n") ≡ behind [] 0 (row Paragraph (plain (codes "===") ∷ []) ∷ []) ∷ behind (Number 1 ∷ Bullet ∷ Number 2 ∷ []) 3 (row Paragraph ([]) ∷ []) ∷ []
+unfolding sections
+e203 = refl
+
+e204 : printable_sections (codes " >   ```rs\nfoo`````") ≡ behind [] 0 (row Paragraph (plain (codes "foo`````") ∷ []) ∷ []) ∷ []
+unfolding sections
+e204 = refl
+
+e205 : printable_sections (codes "## ~~<b]</a>\t```rs\n") ≡ behind [] 0 (row (Header 2) (plain (codes "~~<b] ```rs") ∷ []) ∷ []) ∷ []
+unfolding sections
+e205 = refl
+
+e206 : printable_sections (codes "'<div></a>](/u)===a") ≡ behind [] 0 (row Paragraph (plain (codes "'](/u)===a") ∷ []) ∷ []) ∷ []
+unfolding sections
+e206 = refl
+
+e207 : printable_sections (codes "(](![``\n|-|-|\n <!--") ≡ behind [] 0 (row Paragraph (plain (codes "(](![`` |-|-|") ∷ []) ∷ []) ∷ []
+unfolding sections
+e207 = refl
+
+e208 : printable_sections (codes "- b [a]: /u\n```# __") ≡ behind (Bullet ∷ []) 1 (row Paragraph (plain (codes "b [a]: /u") ∷ []) ∷ []) ∷ []
+unfolding sections
+e208 = refl
+
+e209 : printable_sections (45 ∷ 45 ∷ 45 ∷ 10 ∷ 124 ∷ 45 ∷ 124 ∷ 45 ∷ 124 ∷ 10 ∷ 33 ∷ 91 ∷ 230 ∷ 166 ∷ 130 ∷ 9 ∷ 10 ∷ 61 ∷ 61 ∷ 61 ∷ 10 ∷ []) ≡ behind [] 0 (horizontal_rule ∷ []) ∷ blank [] ∷ behind [] 0 (row (Header 1) (plain (124 ∷ 45 ∷ 124 ∷ 45 ∷ 124 ∷ 32 ∷ 33 ∷ 91 ∷ 230 ∷ 166 ∷ 130 ∷ []) ∷ []) ∷ []) ∷ []
+unfolding sections
+e209 = refl
+
+e210 : printable_sections (codes ".\n\n|-|<div>~~~~~|-|") ≡ behind [] 0 (row Paragraph (plain (codes ".") ∷ []) ∷ []) ∷ blank [] ∷ behind [] 0 (row Paragraph (plain (codes "|-|~~~~~|-|") ∷ []) ∷ []) ∷ []
+unfolding sections
+e210 = refl
+
+e211 : printable_sections (codes "1.       __\n---\nb !") ≡ behind (Number 1 ∷ Code ∷ []) 2 (code_row (plain (codes "  __") ∷ []) ∷ []) ∷ blank [] ∷ behind [] 0 (horizontal_rule ∷ []) ∷ blank [] ∷ behind [] 0 (row Paragraph (plain (codes "b !") ∷ []) ∷ []) ∷ []
+unfolding sections
+e211 = refl
+
+e212 : printable_sections (codes "<!--.# <a><!--_</a>") ≡ []
+unfolding sections
+e212 = refl
+
+e213 : printable_sections (codes "<!--```rs\n``\n![[a]\t") ≡ []
+unfolding sections
+e213 = refl
+
+e214 : printable_sections (codes "</a>2) ](/u)\n---\n![") ≡ behind [] 0 (row (Header 2) (plain (codes "2) ](/u)") ∷ []) ∷ []) ∷ blank [] ∷ behind [] 0 (row Paragraph (plain (codes "![") ∷ []) ∷ []) ∷ []
+unfolding sections
+e214 = refl
+
+e215 : printable_sections (60 ∷ 47 ∷ 97 ∷ 62 ∷ 96 ∷ 96 ∷ 226 ∷ 128 ∷ 156 ∷ 10 ∷ 61 ∷ 61 ∷ 61 ∷ 10 ∷ 93 ∷ 40 ∷ 47 ∷ 117 ∷ 41 ∷ 126 ∷ 126 ∷ []) ≡ behind [] 0 (row (Header 1) (plain (96 ∷ 96 ∷ 226 ∷ 128 ∷ 156 ∷ []) ∷ []) ∷ []) ∷ blank [] ∷ behind [] 0 (row Paragraph (plain (codes "](/u)~~") ∷ []) ∷ []) ∷ []
+unfolding sections
+e215 = refl
+
+e216 : printable_sections (codes "<div>\t> \n===\n===](\\") ≡ behind [] 0 (row Paragraph (plain (codes "> === ===](\\") ∷ []) ∷ []) ∷ []
+unfolding sections
+e216 = refl
+
+e217 : printable_sections (codes "<div>..\n===\n>[a]## ") ≡ behind [] 0 (row Paragraph (plain (codes ".. === >[a]##") ∷ []) ∷ []) ∷ []
+unfolding sections
+e217 = refl
+
+e218 : printable_sections (60 ∷ 104 ∷ 116 ∷ 116 ∷ 112 ∷ 58 ∷ 47 ∷ 47 ∷ 97 ∷ 62 ∷ 226 ∷ 128 ∷ 156 ∷ 92 ∷ 42 ∷ 46 ∷ 10 ∷ 45 ∷ 45 ∷ 45 ∷ 10 ∷ []) ≡ behind [] 0 (row (Header 2) (flagged false false false false true (codes "http://a") ∷ plain (226 ∷ 128 ∷ 156 ∷ 42 ∷ 46 ∷ []) ∷ []) ∷ []) ∷ []
+unfolding sections
+e218 = refl
+
+l218 : unmarked_links (60 ∷ 104 ∷ 116 ∷ 116 ∷ 112 ∷ 58 ∷ 47 ∷ 47 ∷ 97 ∷ 62 ∷ 226 ∷ 128 ∷ 156 ∷ 92 ∷ 42 ∷ 46 ∷ 10 ∷ 45 ∷ 45 ∷ 45 ∷ 10 ∷ []) ≡ link_at 0 (codes "http://a") ∷ []
+unfolding sections
+l218 = refl
+
+e219 : printable_sections (codes "> \n\n\n|-|-|\n\n\n&#35;>") ≡ behind [] 0 (row Paragraph (plain (codes "|-|-|") ∷ []) ∷ []) ∷ blank [] ∷ behind [] 0 (row Paragraph (plain (codes "#>") ∷ []) ∷ []) ∷ []
+unfolding sections
+e219 = refl
+
+e220 : printable_sections (codes ">[a]: /u\nb **[](/u)") ≡ behind (Bar ∷ []) 1 (row Paragraph (plain (codes "b **") ∷ []) ∷ []) ∷ []
+unfolding sections
+e220 = refl
+
+l220 : unmarked_links (codes ">[a]: /u\nb **[](/u)") ≡ link_at 0 (codes "/u") ∷ []
+unfolding sections
+l220 = refl
+
+e221 : printable_sections (95 ∷ 91 ∷ 10 ∷ 61 ∷ 61 ∷ 61 ∷ 10 ∷ 96 ∷ 96 ∷ 96 ∷ 114 ∷ 115 ∷ 10 ∷ 42 ∷ 42 ∷ 102 ∷ 111 ∷ 111 ∷ 226 ∷ 128 ∷ 156 ∷ []) ≡ behind [] 0 (row (Header 1) (plain (codes "_[") ∷ []) ∷ []) ∷ blank [] ∷ behind (Code ∷ []) 1 (code_row (plain (42 ∷ 42 ∷ 102 ∷ 111 ∷ 111 ∷ 226 ∷ 128 ∷ 156 ∷ []) ∷ []) ∷ []) ∷ []
+unfolding sections
+e221 = refl
+
+e222 : printable_sections (codes "__<a>~~>\n===\n<div>\n") ≡ behind [] 0 (row (Header 1) (plain (codes "__~~>") ∷ []) ∷ []) ∷ []
+unfolding sections
+e222 = refl
+
+e223 : printable_sections (codes "\n---\n</a>\t__http://x") ≡ behind [] 0 (horizontal_rule ∷ []) ∷ blank [] ∷ behind [] 0 (row Paragraph (plain (codes "__") ∷ flagged false false false false true (codes "http://x") ∷ []) ∷ []) ∷ []
+unfolding sections
+e223 = refl
+
+l223 : unmarked_links (codes "\n---\n</a>\t__http://x") ≡ link_at 2 (codes "http://x") ∷ []
+unfolding sections
+l223 = refl
+
+e224 : printable_sections (codes "\n|-|-|\n<div>```<div>") ≡ behind [] 0 (row Paragraph (plain (codes "|-|-|") ∷ []) ∷ []) ∷ behind [] 0 (row Paragraph (plain (codes "```") ∷ []) ∷ []) ∷ []
+unfolding sections
+e224 = refl
+
+e225 : printable_sections (codes "# <http://a>http://x") ≡ behind [] 0 (row (Header 1) (flagged false false false false true (codes "http://a") ∷ plain (codes "http://x") ∷ []) ∷ []) ∷ []
+unfolding sections
+e225 = refl
+
+l225 : unmarked_links (codes "# <http://a>http://x") ≡ link_at 0 (codes "http://a") ∷ []
+unfolding sections
+l225 = refl
+
+pub sections9 : AreSections9
+sections9 = record { e201 = e201; e202 = e202; e203 = e203; e204 = e204; e205 = e205; e206 = e206; e207 = e207; e208 = e208; e209 = e209; e210 = e210; e211 = e211; e212 = e212; e213 = e213; e214 = e214; e215 = e215; e216 = e216; e217 = e217; e218 = e218; l218 = l218; e219 = e219; e220 = e220; l220 = l220; e221 = e221; e222 = e222; e223 = e223; l223 = l223; e224 = e224; e225 = e225; l225 = l225 }

@@ -1,0 +1,308 @@
+-- Steady and printed sections keep what drawing asks of texts.
+use Rattle.std.proofs.Common.{◌≡◌, ◌⊎◌, ℕ, zero, suc, ◌-◌, ◌<◌, ◌≤◌, min, nat_lt, nat_le, not, ◌&&◌, ◌==◌, Bool, true, false, cond, if◌then◌else◌, List, [], ◌∷◌, ◌++◌, map, drop, length, Option, Some, None, ⊎_elim, refl, sym, subst, arith, append-nil}
+use Rattle.std.specs.Char.{is_control, is_whitespace}
+use Rattle.std.specs.List.{AllByRecursion, list_all}
+use Rattle.std.specs.Str.{IsUtf8, NonePass, NoCharPasses}
+use Rattle.std.proofs.lemmas.Bool.{and_from}
+use Rattle.std.proofs.lemmas.Bool.Decides.{nat_tests}
+use Rattle.std.proofs.lemmas.Str.{chars-IsAscii, chars_from_encodes}
+use Rattle.std.proofs.lemmas.Str.Ascii.{IsAscii-cons, IsAscii-nil}
+use Rattle.unicode_width.specs.Width.{char_width}
+use Rattle.mad_characters.proofs.CharColumns.{char_columns-three}
+use Rattle.mad_md.specs.Flagged.{Flags, FlaggedChar, Run, flagged}
+use Rattle.mad_md.specs.Lines.{StyledRuns, LineContent, normal, table_row, table_rule, horizontal_rule}
+use Rattle.mad_steady.specs.Widths.{AreJoinedChars}
+use Rattle.mad_steady.proofs.PieceLemmas.{pieces}
+use Rattle.mad_screen.specs.Painting.{IsPrinted}
+use Rattle.mad_md.specs.declared.composite.CompositeStyle.{CompositeStyle}
+use Rattle.mad_md.specs.declared.composite.CompositeStyle.TheVariants.{Paragraph, Header, ListItem, OrderedListItem, ListItemFollowUp, Code, Quote}
+use Rattle.mad_style.specs.Kinds.{kind_of}
+use Rattle.mad_rows.specs.declared.row_skin.RowSkin.{RowSkin}
+use Rattle.mad_layout.specs.TableColumns.{kept_widths}
+use Rattle.mad_layout.proofs.ReadParts.{lines_are}
+use Rattle.markdown_lines.specs.Printed.{is_obeyed, IsPrintedRun, IsPrintedCell, IsPrintedLine, ArePrinted}
+use Rattle.markdown_lines.specs.Steady.{IsSteadyRun, AreSteadyRuns, IsSteadyCell, IsSteadyLine, AreSteadyLines}
+use Rattle.std.specs.Prelude.{chars, IfSome, IsSome}
+use Rattle.mad_md.specs.TypedLines.{IsTypedRun, IsTypedText, IsTypedLine}
+use Rattle.mad_layout.specs.Premises.{AreJoined, IsPrintableRun, IsPrintableText, ArePrintableIn, IsPrintableContent, KeepsPremises, inner_width, runs_text}
+use Rattle.mad_layout.proofs.SourceLemmas.{three-le}
+use Rattle.mad_blocks.specs.TextParts.{LineInPart, lines_in_parts}
+use Rattle.mad_layout.proofs.ColumnChars.{ascii_column}
+use Rattle.mad_measure.proofs.AllLemmas.{all_joined}
+use Rattle.mad_sections.specs.Gutters.{room_at}
+use Rattle.mad_sections.specs.Items.{paragraph, colon, label, cell_lines, row_lines, or_blank, item_lines, are_short, says_heads, items_of}
+use Rattle.mad_sections.specs.Sections.{SectionContent}
+use Rattle.mad_sections.specs.TableTexts.{rows_in}
+use Rattle.mad_sections.specs.Unfolded.{lacks_room, list_sections, as_list, unfolded_in, unfolded}
+use Rattle.mad_sections.specs.declared.gutters.Gutter.{Gutter}
+use Rattle.mad_sections.proofs.Choices.{by_bool}
+use Rattle.mad_sections.proofs.RoomLemmas.{rooms_last}
+use Rattle.mad_page_rows.specs.FaceLaws.{IsTypedGutter}
+use Rattle.mad_page_rows.specs.Faces.{has_ascii_boxes}
+use Rattle.mad_page_rows.specs.PageFits.{KeepsRoom, sections_at}
+use Rattle.mad_rows.specs.RowStyles.{line_rules, line_style}
+use Rattle.mad_format.specs.Indents.{room_of}
+use Rattle.mad_wrap.specs.WrapLines.{HasRoom}
+use Rattle.mad_wrap.specs.declared.room.Room.{Room}
+use Rattle.markdown_reader.specs.Printed.{ArePrintedSections}
+use Rattle.markdown_reader.specs.Steady.{AreSteadySections}
+use Rattle.markdown_reader.specs.Markdown.{markdown_sections}
+use Rattle.markdown_reader.specs.PlainLines.{IsPlainStyle, IsPlainLine, ArePlainLines, ArePlainSections}
+use Rattle.markdown_reader.proofs.PlainLemmas.{sections_are_plain}
+use Rattle.markdown_layout.specs.KeptPremises.{AreMarksShown, IsTypedSection, KeepPremises}
+use Rattle.markdown_layout.proofs.WideColumns.{kept_wide}
+
+-- ---- characters
+
+is_no_control : (c : ℕ) → is_obeyed c ≡ false → ((32 ≤ c) × (c < 127)) ⊎ (160 ≤ c)
+is_no_control c h = grind (arith, nat_tests)
+
+width_by : (low wide high : Bool) (w : ℕ) → (low ≡ true → wide ≡ true) → (low ≡ false → high ≡ true) → IsSome (cond low (cond wide (Some 1) None) (cond high (Some w) None))
+width_by true true high w f g = refl
+width_by true false high w f g = absurd (no (f refl))
+  where
+    no : false ≡ true → ⊥
+    no e = cc
+width_by false wide true w f g = refl
+width_by false wide false w f g = absurd (no (g refl))
+  where
+    no : false ≡ true → ⊥
+    no e = cc
+
+printed_char : (c : ℕ) → is_obeyed c ≡ false → IsSome (char_width false c)
+unfolding char_width
+printed_char c h =
+    let range = is_no_control c h in
+    width_by (nat_lt c 0x7F) (nat_le 0x20 c) (nat_le 0xA0 c) _ (λ low. ⊎_elim (λ r. grind (arith, nat_tests, r.0)) (λ r. grind (arith, nat_tests, r, low)) range) (λ high. ⊎_elim (λ r. grind (arith, nat_tests, r.1, high)) (λ r. grind (arith, nat_tests, r)) range)
+
+printed : (cs : List ℕ) → NonePass is_obeyed cs → IsPrinted cs
+printed [] h = tt
+printed (c ∷ cs) h = (printed_char c h.0, printed cs h.1)
+
+plain_char : (c : ℕ) → is_obeyed c ≡ false → not (is_control c) ≡ true
+plain_char c h = grind (arith, nat_tests)
+
+plain : (cs : List ℕ) → NonePass is_obeyed cs → list_all (λ c. not (is_control c)) cs ≡ true
+plain [] h = refl
+plain (c ∷ cs) h = and_from (not (is_control c)) (list_all (λ c. not (is_control c)) cs) (plain_char c h.0) (plain cs h.1)
+
+not_blank : (white code : Bool) → not white ≡ true → not (white && not code) ≡ true
+not_blank true code h = absurd (no h)
+  where
+    no : false ≡ true → ⊥
+    no e = cc
+not_blank false code h = refl
+
+joined : (flags : Flags) (a b : Bool) (cs : List ℕ) → (a ≡ true → b ≡ true) → AreJoinedChars a cs → AreJoined b (flagged flags cs)
+joined flags a b [] f h = tt
+joined flags a b (c ∷ cs) f h =
+    ((λ z. ((h.0 z).0, f (h.0 z).1)), joined flags (not (is_whitespace c)) (not (is_whitespace c && not flags.code)) cs (not_blank (is_whitespace c) flags.code) h.1)
+
+-- what holds of everything holds of each element
+every : {A : Type 0} (P : A → Type 0) → ((x : A) → P x) → (xs : List A) → AllByRecursion P xs
+every P f [] = tt
+every P f (x ∷ xs) = (f x, every P f xs)
+
+-- ---- runs
+
+none_obeyed : (text : List ℕ) → IsUtf8 text → NoCharPasses is_obeyed text → NonePass is_obeyed (chars text)
+none_obeyed text utf8 h = subst (NonePass is_obeyed) (chars_from_encodes h.0 text utf8 h.1) h.2
+
+printable : (r : Run) → IsTypedRun r → IsPrintedRun r → IsSteadyRun r → IsPrintableRun r
+printable r utf8 h steady =
+    let none : NonePass is_obeyed (chars r.text) = none_obeyed r.text utf8 h in
+    record {
+      printed = printed (chars r.text) none;
+      joined = joined r.flags false false (chars r.text) (λ e. e) (pieces (chars r.text) steady [] (chars r.text) [] (sym (append-nil (chars r.text))) refl (plain (chars r.text) none));
+    }
+
+all_printable : (runs : List Run) → AllByRecursion IsTypedRun runs → AllByRecursion IsPrintedRun runs → AreSteadyRuns runs → AllByRecursion IsPrintableRun runs
+all_printable [] t p s = tt
+all_printable (r ∷ runs) t p s = (printable r t.0 p.0 s.0, all_printable runs t.1 p.1 s.1)
+
+-- ---- lines
+
+-- a paragraph whose runs are printable
+record IsFineCell (cell : StyledRuns) : Type 0 where
+  style : cell.style ≡ Paragraph
+  runs : AllByRecursion IsPrintableRun cell.runs
+
+-- a line without a sign of its own, each of whose runs is printable
+record IsFineText (text : StyledRuns) : Type 0 where
+  style : IsPlainStyle text.style
+  runs : AllByRecursion IsPrintableRun text.runs
+
+abbrev IsFine : LineContent → Type 0
+IsFine (normal text) = IsFineText text
+IsFine (table_row cells) = AllByRecursion IsFineCell cells
+IsFine (table_rule aligns) = Unit {0}
+IsFine horizontal_rule = Unit {0}
+
+all_cells : (cells : List StyledRuns) → AllByRecursion IsTypedText cells → AllByRecursion IsPrintedCell cells → AllByRecursion IsSteadyCell cells → AllByRecursion (λ (cell : StyledRuns). cell.style ≡ Paragraph) cells → AllByRecursion IsFineCell cells
+all_cells [] t p s plain = tt
+all_cells (cell ∷ cells) t p s plain = (record { style = plain.0; runs = all_printable cell.runs t.0.runs p.0 s.0 }, all_cells cells t.1 p.1 s.1 plain.1)
+
+fine : (line : LineContent) → IsTypedLine line → IsPrintedLine line → IsSteadyLine line → IsPlainLine line → IsFine line
+fine (normal text) t p s plain = record { style = plain; runs = all_printable text.runs t.runs p s }
+fine (table_row cells) t p s plain = all_cells cells t p s plain
+fine (table_rule aligns) t p s plain = tt
+fine horizontal_rule t p s plain = tt
+
+all_fine : (text : List LineContent) → AllByRecursion IsTypedLine text → ArePrinted text → AreSteadyLines text → ArePlainLines text → AllByRecursion IsFine text
+unfolding ArePrinted AreSteadyLines
+all_fine [] t p s plain = tt
+all_fine (line ∷ text) t p s plain = (fine line t.0 p.0 s.0 plain.0, all_fine text t.1 p.1 s.1 plain.1)
+
+-- ---- room
+
+-- runs behind no sign have room in three columns
+runs_room : (room : Room) (text : List FlaggedChar) → room.first ≡ 0 → room.other ≡ 0 → 3 ≤ room.width → HasRoom room text
+runs_room room text first other wide = record {
+  indent = omega (arith, first, other);
+  each = every _ (λ (x : FlaggedChar). let few = char_columns-three x.char in omega (arith, first, other, wide, few)) text;
+}
+
+text_printable : (skin : RowSkin) (width : ℕ) (style : CompositeStyle) (runs : List Run) → 3 ≤ width → IsPlainStyle style → AllByRecursion IsPrintableRun runs → IsPrintableText skin width (kind_of style) runs
+text_printable skin width Paragraph runs wide h k = record { prefix = tt; printable = k; room = λ _. runs_room (room_of (line_rules skin) (kind_of Paragraph) width) (runs_text runs) refl refl wide }
+text_printable skin width (Header level) runs wide h k = record { prefix = tt; printable = k; room = λ _. runs_room (room_of (line_rules skin) (kind_of (Header level)) width) (runs_text runs) refl refl wide }
+text_printable skin width Code runs wide h k = record { prefix = tt; printable = k; room = λ _. runs_room (room_of (line_rules skin) (kind_of Code) width) (runs_text runs) refl refl wide }
+text_printable skin width (ListItem level) runs wide h k = absurd h
+text_printable skin width (OrderedListItem level index) runs wide h k = absurd h
+text_printable skin width (ListItemFollowUp level) runs wide h k = absurd h
+text_printable skin width Quote runs wide h k = absurd h
+
+cells_keep : (skin : RowSkin) (widths : List ℕ) (cells : List StyledRuns) → AllByRecursion (λ (w : ℕ). 3 ≤ w) widths → AllByRecursion IsFineCell cells → ArePrintableIn skin widths cells
+cells_keep skin [] cells wide h = tt
+cells_keep skin (w ∷ ws) [] wide h = tt
+cells_keep skin (w ∷ ws) (cell ∷ cells) wide h =
+    (subst (λ (style : CompositeStyle). IsPrintableText skin w (kind_of style) cell.runs) (sym h.0.style) (text_printable skin w Paragraph cell.runs wide.0 tt h.0.runs), cells_keep skin ws cells wide.1 h.1)
+
+line_keeps : (skin : RowSkin) (width : ℕ) (part : List LineContent) (line : LineContent) → 3 ≤ width → AreMarksShown skin → IsFine line → IsPrintableContent skin width part line
+line_keeps skin width part (normal text) wide marks h =
+    text_printable skin (inner_width skin width text) text.style text.runs (three-le (line_style skin (kind_of text.style)) width wide) h.style h.runs
+line_keeps skin width part (table_row cells) wide marks h = (omega (arith, wide), marks.borders, cells_keep skin (kept_widths skin width part) cells (kept_wide skin width part) h)
+line_keeps skin width part (table_rule aligns) wide marks h = (omega (arith, wide), marks.borders)
+line_keeps skin width part horizontal_rule wide marks h = marks.rule
+
+lines_keep : (skin : RowSkin) (width : ℕ) (xs : List LineInPart) → 3 ≤ width → AreMarksShown skin → AllByRecursion IsFine (map (λ (x : LineInPart). x.line) xs) → KeepsPremises skin width xs
+lines_keep skin width [] wide marks h = tt
+lines_keep skin width (x ∷ xs) wide marks h = (line_keeps skin width x.part x.line wide marks h.0, lines_keep skin width xs wide marks h.1)
+
+-- ---- sections
+
+record IsFineSection (s : SectionContent) : Type 0 where
+  gutters : AllByRecursion IsTypedGutter s.gutters
+  list : IfSome s.list (AllByRecursion IsTypedGutter)
+  lines : AllByRecursion IsFine s.lines
+
+section_keeps : (skin : RowSkin) (width : ℕ) (s : SectionContent) → 3 ≤ width → AreMarksShown skin → IsFineSection s → KeepsRoom skin width s
+section_keeps skin width s wide marks h =
+    let ascii : Bool = has_ascii_boxes skin in
+    record {
+      gutters = h.gutters;
+      premises = lines_keep skin (room_at ascii width s.gutters) (lines_in_parts s.lines) (rooms_last ascii width s.gutters wide) marks (subst (AllByRecursion IsFine) (sym (lines_are s.lines)) h.lines);
+    }
+
+sections_keep : (skin : RowSkin) (width : ℕ) (sections : List SectionContent) → 3 ≤ width → AreMarksShown skin → AllByRecursion IsFineSection sections → AllByRecursion (KeepsRoom skin width) sections
+sections_keep skin width [] wide marks h = tt
+sections_keep skin width (s ∷ sections) wide marks h = (section_keeps skin width s wide marks h.0, sections_keep skin width sections wide marks h.1)
+
+fine_sections : (page : List SectionContent) → AllByRecursion IsTypedSection page → ArePrintedSections page → AreSteadySections page → ArePlainSections page → AllByRecursion IsFineSection page
+unfolding ArePrintedSections AreSteadySections
+fine_sections [] t p s plain = tt
+fine_sections (section ∷ page) t p s plain = (record { gutters = t.0.gutters; list = t.0.list; lines = all_fine section.lines t.0.lines p.0 s.0 plain.0 }, fine_sections page t.1 p.1 s.1 plain.1)
+
+-- ---- tables as lists
+
+colon_joined : AreJoined false (flagged colon.flags (58 ∷ 32 ∷ []))
+colon_joined =
+    let first = ascii_column 58 refl (omega arith) (omega arith) in
+    let second = ascii_column 32 refl (omega arith) (omega arith) in
+    (λ none. absurd (omega (arith, none, first.one)), (λ none. absurd (omega (arith, none, second.one)), tt))
+
+colon_chars : chars colon.text ≡ 58 ∷ 32 ∷ []
+colon_chars = chars-IsAscii (58 ∷ 32 ∷ []) (IsAscii-cons 58 (32 ∷ []) (omega arith) (IsAscii-cons 32 [] (omega arith) IsAscii-nil))
+
+colon_printed : IsPrinted (58 ∷ 32 ∷ [])
+unfolding char_width
+colon_printed = (refl, (refl, tt))
+
+colon_fine : IsPrintableRun colon
+colon_fine = record {
+  printed = subst IsPrinted (sym colon_chars) colon_printed;
+  joined = subst (λ (cs : List ℕ). AreJoined false (flagged colon.flags cs)) (sym colon_chars) colon_joined;
+}
+
+label_by : (t : Bool) (runs : List Run) → AllByRecursion IsPrintableRun runs → AllByRecursion IsPrintableRun (if t then [] else runs ++ colon ∷ [])
+label_by true runs h = tt
+label_by false runs h = all_joined IsPrintableRun runs (colon ∷ []) h (colon_fine, tt)
+
+label_fine : (heads : List StyledRuns) → AllByRecursion IsFineCell heads → AllByRecursion IsPrintableRun (label heads)
+label_fine [] h = tt
+label_fine (head ∷ heads) h = label_by (length head.runs == 0) head.runs h.0.runs
+
+cell_fine : (label : List Run) (cell : StyledRuns) → AllByRecursion IsPrintableRun label → IsFineCell cell → AllByRecursion IsFine (cell_lines label cell)
+cell_fine label cell h k =
+    by_bool (λ t. AllByRecursion IsFine (if t then [] else paragraph (label ++ cell.runs) ∷ [])) (length cell.runs == 0) (λ none. tt)
+    (λ some. (record { style = tt; runs = all_joined IsPrintableRun label cell.runs h k.runs }, tt))
+
+rest_fine : (heads : List StyledRuns) → AllByRecursion IsFineCell heads → AllByRecursion IsFineCell (drop 1 heads)
+rest_fine [] h = tt
+rest_fine (head ∷ heads) h = h.1
+
+row_fine : (heads cells : List StyledRuns) → AllByRecursion IsFineCell heads → AllByRecursion IsFineCell cells → AllByRecursion IsFine (row_lines heads cells)
+row_fine heads [] h k = tt
+row_fine heads (cell ∷ cells) h k =
+    all_joined IsFine (cell_lines (label heads) cell) (row_lines (drop 1 heads) cells) (cell_fine (label heads) cell (label_fine heads h) k.0) (row_fine (drop 1 heads) cells (rest_fine heads h) k.1)
+
+or_blank_fine : (lines : List LineContent) → AllByRecursion IsFine lines → AllByRecursion IsFine (or_blank lines)
+or_blank_fine [] h = (record { style = tt; runs = tt }, tt)
+or_blank_fine (line ∷ lines) h = h
+
+abbrev AreFineItems : List (List LineContent) → Type 0
+AreFineItems items = AllByRecursion (λ (lines : List LineContent). AllByRecursion IsFine lines) items
+
+abbrev AreFineRows : List (List StyledRuns) → Type 0
+AreFineRows rows = AllByRecursion (λ (cells : List StyledRuns). AllByRecursion IsFineCell cells) rows
+
+each_item : (heads : List StyledRuns) (rows : List (List StyledRuns)) → AllByRecursion IsFineCell heads → AreFineRows rows → AreFineItems (map (item_lines heads) rows)
+each_item heads [] h k = tt
+each_item heads (cells ∷ rows) h k = (or_blank_fine (row_lines heads cells) (row_fine heads cells h k.0), each_item heads rows h k.1)
+
+items_fine : (room : ℕ) (rows : List (List StyledRuns)) → AreFineRows rows → AreFineItems (items_of room rows)
+items_fine room [] h = tt
+items_fine room (heads ∷ rows) h =
+    by_bool (λ t. AreFineItems (if t then map (item_lines heads) rows else map (item_lines []) (heads ∷ rows))) (says_heads room heads rows)
+    (λ said. each_item heads rows h.0 h.1) (λ long. each_item [] (heads ∷ rows) tt h)
+
+rows_fine : (lines : List LineContent) → AllByRecursion IsFine lines → AreFineRows (rows_in lines)
+rows_fine [] h = tt
+rows_fine (normal text ∷ lines) h = rows_fine lines h.1
+rows_fine (table_row cells ∷ lines) h = (h.0, rows_fine lines h.1)
+rows_fine (table_rule aligns ∷ lines) h = rows_fine lines h.1
+rows_fine (horizontal_rule ∷ lines) h = rows_fine lines h.1
+
+list_fine : (gutters : List Gutter) (fresh : ℕ) (items : List (List LineContent)) → AllByRecursion IsTypedGutter gutters → AreFineItems items → AllByRecursion IsFineSection (list_sections gutters fresh items)
+list_fine gutters fresh [] h k = tt
+list_fine gutters fresh (lines ∷ items) h k = (record { gutters = h; list = tt; lines = k.0 }, list_fine gutters 0 items h k.1)
+
+shown_fine : (whole : Bool) (room : ℕ) (list : Option (List Gutter)) (s : SectionContent) → IsFineSection s → IfSome list (AllByRecursion IsTypedGutter) → AllByRecursion IsFineSection (unfolded_in whole (Some room) list s)
+shown_fine whole room None s h k = (h, tt)
+shown_fine whole room (Some gutters) s h k =
+    by_bool (λ t. AllByRecursion IsFineSection (if t then as_list room gutters s else s ∷ [])) (lacks_room whole room s.lines)
+    (λ lacks. list_fine gutters (min s.fresh (length s.gutters)) (items_of room (rows_in s.lines)) k (items_fine room (rows_in s.lines) (rows_fine s.lines h.lines)))
+    (λ has. (h, tt))
+
+page_fine : (skin : RowSkin) (width : ℕ) (page : List SectionContent) → AllByRecursion IsFineSection page → AllByRecursion IsFineSection (sections_at skin width page)
+page_fine skin width [] h = tt
+page_fine skin width (s ∷ page) h =
+    let ascii : Bool = has_ascii_boxes skin in
+    all_joined IsFineSection (unfolded (line_rules skin).whole_words ascii (Some width) s) (sections_at skin width page) (shown_fine (line_rules skin).whole_words (room_at ascii width s.gutters) s.list s h.0 h.0.list) (page_fine skin width page h.1)
+
+-- steady and printed sections, whose lines have no sign of their own, keep what drawing asks of texts
+keep : (page : List SectionContent) → ArePrintedSections page → AreSteadySections page → ArePlainSections page → KeepPremises page
+keep page p s plain typed skin width wide marks = sections_keep skin width (sections_at skin width page) wide marks (page_fine skin width page (fine_sections page typed p s plain))
+
+-- so do the sections of a text that was read
+pub read_keeps : (source : List ℕ) (page : List SectionContent) → page ≡ markdown_sections source → ArePrintedSections page → AreSteadySections page → KeepPremises page
+read_keeps source page is p s = keep page p s (subst ArePlainSections (sym is) (sections_are_plain source))

@@ -1,0 +1,88 @@
+-- Rows behind gutters that change no look.
+use Rattle.std.proofs.Common.{◌≡◌, ℕ, ◌+◌, Bool, true, false, ◌||◌, ◌&&◌, List, [], ◌∷◌, ◌++◌, Option, Some, None, refl, sym, ap, ◌∙◌, append_assoc, append-nil, if◌then◌else◌}
+use Rattle.std.specs.List.{last_or}
+use Rattle.std.specs.Option.{option_and_then}
+use Rattle.mad_draw.specs.Pieces.{RowPiece, pieces_bytes, spaces}
+use Rattle.mad_draw.proofs.PieceLemmas.{bytes_both}
+use Rattle.mad_rows.specs.Rows.{line_pieces, line_bytes}
+use Rattle.mad_rows.specs.declared.row_skin.RowSkin.{RowSkin}
+use Rattle.mad_sections.specs.declared.gutters.Gutter.{Gutter}
+use Rattle.mad_sections.specs.declared.gutters.Gutter.TheVariants.{Bar, AlertBar, Bullet, Number, Task, Code, Signs, Below}
+use Rattle.mad_pages.specs.PageRows.{RowContent}
+use Rattle.mad_page_rows.specs.Faces.{faces, has_ascii_boxes, has_boxes, columns_behind, is_code, codes, back_columns, backs, ends_in_code, in_box, level_of, level_above, ruled, line_skin, behind_pieces, page_row_bytes}
+use Rattle.markdown_layout.specs.Looks.{changes_look, change_look}
+
+neither : (a b : Bool) → (a || b) ≡ false → (a ≡ false) × (b ≡ false)
+neither true b h = absurd (no h)
+  where
+    no : true ≡ false → ⊥
+    no e = cc
+neither false b h = (refl, h)
+
+record IsPlain (g : Gutter) : Type 0 where
+  code : is_code g ≡ false
+  level : level_of g ≡ None
+
+is_plain : (g : Gutter) → changes_look g ≡ false → IsPlain g
+is_plain Bar h = record { code = refl; level = refl }
+is_plain (AlertBar alert) h = record { code = refl; level = refl }
+is_plain Bullet h = record { code = refl; level = refl }
+is_plain (Number number) h = record { code = refl; level = refl }
+is_plain (Task done) h = record { code = refl; level = refl }
+is_plain Code h = absurd (no h)
+  where
+    no : true ≡ false → ⊥
+    no e = cc
+is_plain (Signs level) h = record { code = refl; level = refl }
+is_plain (Below level) h = absurd (no h)
+  where
+    no : true ≡ false → ⊥
+    no e = cc
+
+none_code : (gs : List Gutter) → change_look gs ≡ false → codes gs ≡ 0
+none_code [] h = refl
+none_code (g ∷ gs) h =
+    let both = neither (changes_look g) (change_look gs) h in
+    ap (λ (t : Bool). (if t then 1 else 0) + codes gs) (is_plain g both.0).code ∙ ap (λ (n : ℕ). 0 + n) (none_code gs both.1)
+
+not_last : (gs : List Gutter) → change_look gs ≡ false → ends_in_code gs ≡ false
+not_last [] h = refl
+not_last (g ∷ []) h = (is_plain g (neither (changes_look g) false h).0).code
+not_last (g ∷ k ∷ gs) h = not_last (k ∷ gs) (neither (changes_look g) (change_look (k ∷ gs)) h).1
+
+no_level : (last : Option Gutter) (gs : List Gutter) → option_and_then level_of last ≡ None → change_look gs ≡ false → option_and_then level_of (last_or last gs) ≡ None
+no_level last [] k h = k
+no_level last (g ∷ gs) k h =
+    let both = neither (changes_look g) (change_look gs) h in
+    no_level (Some g) gs (is_plain g both.0).level both.1
+
+and_none : (a b : Bool) → b ≡ false → (a && b) ≡ false
+and_none true b h = h
+and_none false b h = refl
+
+if_none : (t : Bool) (n : ℕ) → n ≡ 0 → (if t then n else 0) ≡ 0
+if_none true n h = h
+if_none false n h = refl
+
+same_skin : (skin : RowSkin) (gs : List Gutter) → in_box skin gs ≡ false → change_look gs ≡ false → line_skin skin gs ≡ skin
+same_skin skin gs out h =
+    ap (λ (t : Bool). ruled (if t then record skin { paragraph = skin.code_block } else skin) (level_above gs)) out ∙ ap (ruled skin) (no_level None gs refl h)
+
+-- what is behind the faces is the line alone
+behind_open : (skin : RowSkin) (width : Option ℕ) (row : RowContent) → change_look row.gutters ≡ false → behind_pieces skin width false row ++ backs skin row.gutters ≡ line_pieces skin (columns_behind (has_ascii_boxes skin) width row.gutters) false row.line
+behind_open skin width row h =
+    let columns = columns_behind (has_ascii_boxes skin) width row.gutters in
+    let out : in_box skin row.gutters ≡ false = and_none (has_boxes skin) (ends_in_code row.gutters) (not_last row.gutters h) in
+    let none : back_columns skin row.gutters ≡ 0 = if_none (has_boxes skin) (codes row.gutters) (none_code row.gutters h) in
+    let looks : behind_pieces skin width false row ≡ line_pieces skin columns (false || in_box skin row.gutters) row.line = ap (λ (s : RowSkin). line_pieces s columns (false || in_box skin row.gutters) row.line) (same_skin skin row.gutters out h) in
+    let line : behind_pieces skin width false row ≡ line_pieces skin columns false row.line = looks ∙ ap (λ (t : Bool). line_pieces skin columns (false || t) row.line) out in
+    let side : backs skin row.gutters ≡ [] = ap (λ (n : ℕ). spaces skin.code_block.compound_style n) none in
+    ap (λ (l : List RowPiece). l ++ backs skin row.gutters) line ∙ ap (λ (s : List RowPiece). line_pieces skin columns false row.line ++ s) side ∙ append-nil (line_pieces skin columns false row.line)
+
+-- a row behind such gutters: their faces, and its line
+pub open_row : (skin : RowSkin) (width : Option ℕ) (row : RowContent) → change_look row.gutters ≡ false
+    → page_row_bytes skin width row ≡ pieces_bytes (faces skin row.gutters row.fresh) ++ line_bytes skin (columns_behind (has_ascii_boxes skin) width row.gutters) row.line
+open_row skin width row h =
+    let front = faces skin row.gutters row.fresh in
+    let line = line_pieces skin (columns_behind (has_ascii_boxes skin) width row.gutters) false row.line in
+    ap (λ (l : List RowPiece). pieces_bytes (front ++ l) ++ 10 ∷ []) (behind_open skin width row h) ∙ ap (λ (b : List ℕ). b ++ 10 ∷ []) (bytes_both front line) ∙ append_assoc (pieces_bytes front) (pieces_bytes line) (10 ∷ [])

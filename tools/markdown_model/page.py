@@ -1,0 +1,119 @@
+"""The rows of a text's page at a width, in a skin without styles: python3 -m markdown_model.page [--tags] [--sections] WIDTH FILE ..
+
+WIDTH is a number or `none`. With --sections it writes the sections that are shown there, a table that has no room as a list. With --tags, tags of html set
+flags, which the library doesn't read.
+"""
+from __future__ import annotations
+
+import argparse
+import gzip
+from dataclasses import replace
+from pathlib import Path
+
+from . import dump
+from .leaf_rows import Cells, Row, columns, fits_as_table, layout, placed, table_of
+from .lines import EMPTY, Align, Compound, Line, paragraph
+from .sections import BULLET, CODE_SIDES, DONE, OPEN, Gutter, Section, hanging, sections_of
+
+PageRow = tuple[str, Row]
+LOOKS = ("page", "boxes", "ascii")
+ASCII = {gutter: hanging(gutter.name, gutter.term, sign) for gutter, sign in ((BULLET, "*"), (OPEN, "[ ]"), (DONE, "[x]"))}
+
+
+def gutters_shown(width: int | None, gutters: list[Gutter]) -> list[Gutter]:
+    """The last gutters, as many as take less than half of the width."""
+    count = taken = 0
+    while count < len(gutters):
+        taken += gutters[-1 - count].columns
+        if width is not None and 2 * taken >= width:
+            break
+        count += 1
+    return gutters[len(gutters) - count:]
+
+
+def room(width: int | None, gutters: list[Gutter]) -> int | None:
+    return None if width is None else width - sum(g.columns for g in gutters_shown(width, gutters))
+
+
+def unfolded(width: int | None, section: Section) -> list[Section]:
+    """A table whose longest words don't fit side by side in its room is a list: an item for each row, in it a paragraph for each cell that isn't empty, behind
+    its head. Where a head is longer than half of the room, or there are no rows, the head row is the first item, and isn't said again."""
+    table, columns_left = table_of(section.lines), room(width, section.gutters)
+    if table is None or columns_left is None or fits_as_table(table, columns_left):
+        return [section]
+    said = bool(table.rows) and all(2 * head_length(head.compounds) <= columns_left for head in table.heads)
+    items = [item_lines(table.heads, row) for row in table.rows] if said else [item_lines([], row) for row in [table.heads, *table.rows]]
+    return [replace(section, gutters=section.gutters + [section.bullet], fresh=section.fresh + 1 if k == 0 else 1, lines=lines) for k, lines in enumerate(items)]
+
+
+def head_length(row: Row) -> int:
+    """Columns, where each character counts as one at least."""
+    return sum(max(columns(ch), 1) for c in row for ch in c.src)
+
+
+def item_lines(heads: Cells, row: Cells) -> list[Line]:
+    def label(column: int) -> Row:
+        head = heads[column].compounds if column < len(heads) else []
+        return head + [Compound(": ")] if head else []
+
+    return [paragraph(label(k) + cell.compounds) for k, cell in enumerate(row) if cell.compounds] or [EMPTY]
+
+
+def section_rows(width: int | None, section: Section) -> list[PageRow]:
+    """The layout of a section's lines in its room, each row behind the gutters that are shown."""
+    shown = gutters_shown(width, section.gutters)
+    late = len(shown) - min(section.fresh, len(shown))
+    first = "".join(g.rest for g in shown[:late]) + "".join(g.first for g in shown[late:])
+    rest = "".join(g.rest for g in shown)
+    return [(first if k == 0 else rest, row) for k, row in enumerate(layout(room(width, section.gutters), section.lines))]
+
+
+def boxed_rows(width: int | None, section: Section) -> list[PageRow]:
+    """The same where code has a background: of the two columns of code's gutter one is behind the row, and the row fills what is between them."""
+    rows = section_rows(width, section)
+    columns_left = room(width, section.gutters)
+    if gutters_shown(width, section.gutters)[-1:] != [CODE_SIDES]:
+        return rows
+    return [(front[:-1], placed(row, columns_left or 0, Align.LEFT) + [Compound(" ")]) for front, row in rows]
+
+
+def shown_sections(width: int | None, sections: list[Section]) -> list[Section]:
+    return [u for s in sections for u in unfolded(width, s)]
+
+
+def texts(width: int | None, sections: list[Section], look: str = "page") -> list[str]:
+    """The rows of a page, as texts. In the look `boxes` code has a background, in `ascii` bullets are ASCII."""
+    rows_of = boxed_rows if look == "boxes" else section_rows
+    if look == "ascii":
+        sections = list(map(in_ascii, sections))
+    return [front + "".join(c.src for c in row) for s in shown_sections(width, sections) for front, row in rows_of(width, s)]
+
+
+def in_ascii(section: Section) -> Section:
+    return replace(section, gutters=[ASCII.get(g, g) for g in section.gutters], bullet=ASCII[BULLET])
+
+
+def page(source: str, width: int | None, look: str = "page", tags: bool = False, streamed: bool = False) -> list[str]:
+    return texts(width, sections_of(source, tags, streamed), look)
+
+
+def width_of(word: str) -> int | None:
+    return None if word == "none" else int(word)
+
+
+def main() -> None:
+    parser = argparse.ArgumentParser(usage="python3 -m markdown_model.page [--tags] [--sections] WIDTH FILE ..")
+    parser.add_argument("--tags", action="store_true")
+    parser.add_argument("--sections", action="store_true")
+    parser.add_argument("width", type=width_of)
+    parser.add_argument("files", nargs="+", type=Path)
+    given = parser.parse_args()
+    for path in given.files:
+        raw = path.read_bytes()
+        sections = sections_of((gzip.decompress(raw) if path.suffix == ".gz" else raw).decode("utf-8", "replace"), given.tags)
+        rows = dump.picture(shown_sections(given.width, sections)) if given.sections else texts(given.width, sections)
+        print("\n".join(rows))
+
+
+if __name__ == "__main__":
+    main()
