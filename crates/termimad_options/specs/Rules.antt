@@ -1,7 +1,7 @@
 -- Which options there are.
-use Rattle.std.specs.Prelude.{ℕ, List, [], ◌∷◌, foldl, codes, Some}
+use Rattle.std.specs.Prelude.{ℕ, List, [], ◌∷◌, codes, Some, true}
 use Rattle.clap.specs.Words.{App, Rule, new_app, new_rule, with_rule}
-use Rattle.clap.specs.declared.builder.ArgAction.TheVariants.{Append, Count}
+use Rattle.clap.specs.declared.builder.action.ArgAction.TheVariants.{Append, Count}
 use Rattle.clap.specs.declared.builder.value_parser.ValueParser.TheVariants.{Unsigned}
 
 -- an option with a value; where it comes twice, the last one counts
@@ -18,7 +18,7 @@ files_rule = record (new_rule (codes "FILE")) { action = Some Append }
 
 -- `-w`, `--width`: a number of columns from 1 to 65,535
 abbrev pub width_rule : Rule
-width_rule = record (new_rule (codes "width")) { short = Some 119; long = Some (codes "width"); action = Some Append; parser = Some (Unsigned 1 65535) }
+width_rule = record (valued (codes "width")) { short = Some 119; parser = Some (Unsigned 1 65535) }
 
 -- `-F`
 abbrev pub fits_rule : Rule
@@ -29,9 +29,13 @@ abbrev pub with_rules : App → List Rule → App
 with_rules a [] = a
 with_rules a (r ∷ rs) = with_rules (with_rule a r) rs
 
+-- a command that has a version, and no option of its own yet
+abbrev pub versioned : List ℕ → App
+versioned name = record (new_app name) { top = record (new_app name).top { has_version = true } }
+
 -- the options that there are
 unfoldable pub termimad_rules : App
 termimad_rules =
-    with_rules (new_app (codes "termimad"))
+    with_rules (versioned (codes "termimad"))
     (files_rule ∷ width_rule ∷ valued (codes "skin") ∷ valued (codes "code") ∷ valued (codes "links") ∷ counted (codes "lines") ∷ counted (codes "plain")
     ∷ counted (codes "stream") ∷ counted (codes "no-pager") ∷ fits_rule ∷ [])

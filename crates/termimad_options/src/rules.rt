@@ -1,8 +1,8 @@
 //! Which options there are.
 
-ghost use Rattle.std.specs.Prelude.{◌≡◌, IfOk};
+ghost use Rattle.std.specs.Prelude.{◌≡◌, IfOk, codes, false};
 ghost use Rattle.clap.specs.Words.{app_of, rule_of};
-ghost use Rattle.termimad_options.specs.Rules.{counted, files_rule, fits_rule, termimad_rules, valued, width_rule};
+ghost use Rattle.termimad_options.specs.Rules.{counted, files_rule, fits_rule, termimad_rules, valued, versioned, width_rule};
 
 use clap::builder::ValueParser;
 use clap::{Arg, ArgAction, Command};
@@ -16,14 +16,14 @@ use std::alloc::{AllocError, Global};
 pub fn options<'a>(alloc: Global) -> Result<Command<'a>, AllocError>
     ensures { IfOk result (λ c. app_of c ≡ termimad_rules) }
 {
-    let skin = valued(alloc, "skin", "SKIN", "A name (auto, dark, light, sixteen, none), a file or JSON text");
+    let skin = valued(alloc, "skin", "SKIN", "Shows it in auto, dark, light, sixteen, none, a file's or JSON's skin");
     let code = valued(alloc, "code", "LANGUAGE", "Shows code of this language");
     let links = valued(alloc, "links", "WHEN", "Writes where links lead: auto, always or never");
     let lines = counted(alloc, "lines", "Shows each line by itself, in the smaller grammar");
     let plain = counted(alloc, "plain", "Shows text that isn't Markdown, with its colors");
     let stream = counted(alloc, "stream", "Writes each part of a text as it comes");
     let no_pager = counted(alloc, "no-pager", "Writes, and doesn't page");
-    Command::new(alloc, "termimad")
+    bare(alloc)
         .arg(files(alloc))?
         .arg(width(alloc))?
         .arg(skin)?
@@ -36,9 +36,20 @@ pub fn options<'a>(alloc: Global) -> Result<Command<'a>, AllocError>
         .arg(fits(alloc))
 }
 
+// The command without its options.
+fn bare<'a>(alloc: Global) -> Command<'a>
+    ensures { app_of result ≡ versioned (codes "termimad") }
+{
+    Command::new(alloc, "termimad")
+        .version("0.3.0")
+        .about("Shows Markdown: pages it on a terminal, and writes it elsewhere")
+        .after_help("+N shows the text from its row N on. Without FILE, standard input is read.")
+}
+
 // The texts to show.
 fn files<'a>(alloc: Global) -> Arg<'a>
-    ensures { rule_of result ≡ files_rule }
+    ensures rule { rule_of result ≡ files_rule }
+    ensures own { result.global ≡ false }
 {
     Arg::new(alloc, "FILE")
         .action(ArgAction::Append)
@@ -47,19 +58,18 @@ fn files<'a>(alloc: Global) -> Arg<'a>
 
 // The columns of what is written.
 fn width<'a>(alloc: Global) -> Arg<'a>
-    ensures { rule_of result ≡ width_rule }
+    ensures rule { rule_of result ≡ width_rule }
+    ensures own { result.global ≡ false }
 {
-    Arg::new(alloc, "width")
+    valued(alloc, "width", "COLUMNS", "Lays out in so many columns")
         .short('w')
-        .long("width")
-        .action(ArgAction::Append)
         .value_parser(ValueParser::Unsigned(1, 65_535))
-        .help("Lays out in so many columns")
 }
 
 // No pager for a text that fits on the screen.
 fn fits<'a>(alloc: Global) -> Arg<'a>
-    ensures { rule_of result ≡ fits_rule }
+    ensures rule { rule_of result ≡ fits_rule }
+    ensures own { result.global ≡ false }
 {
     Arg::new(alloc, "fits")
         .short('F')
@@ -69,7 +79,8 @@ fn fits<'a>(alloc: Global) -> Arg<'a>
 
 // An option with a value; where it comes twice, the last one counts.
 fn valued<'a>(alloc: Global, name: &'a str, value: &'a str, help: &'a str) -> Arg<'a>
-    ensures { rule_of result ≡ valued name.now }
+    ensures rule { rule_of result ≡ valued name.now }
+    ensures own { result.global ≡ false }
 {
     Arg::new(alloc, name)
         .long(name)
@@ -80,7 +91,8 @@ fn valued<'a>(alloc: Global, name: &'a str, value: &'a str, help: &'a str) -> Ar
 
 // An option without a value, which may come twice.
 fn counted<'a>(alloc: Global, name: &'a str, help: &'a str) -> Arg<'a>
-    ensures { rule_of result ≡ counted name.now }
+    ensures rule { rule_of result ≡ counted name.now }
+    ensures own { result.global ≡ false }
 {
     Arg::new(alloc, name)
         .long(name)
