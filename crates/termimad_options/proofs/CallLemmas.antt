@@ -1,11 +1,11 @@
 -- What values of options are read as.
-use Rattle.std.proofs.Common.{◌≡◌, ◌∙◌, ◌&&◌, ◌-◌, ℕ, Bool, true, false, nat_lt, refl, sym, ap, List, [], ◌∷◌, map, length, Option, Some, None, Result, Ok, Err, lt-ltb, ltb-true, option_map, option_and_then, slice_get}
+use Rattle.std.proofs.Common.{◌≡◌, ◌∙◌, ◌&&◌, ◌-◌, ℕ, Bool, true, false, nat_lt, refl, sym, ap, subst, List, [], ◌∷◌, map, length, Some, None, Result, Ok, Err, lt-ltb, ltb-true, option_map, slice_get}
 use Rattle.std.proofs.lemmas.List.{length-map}
 use Rattle.std.proofs.lemmas.Option.{slice_get-map}
 use Rattle.std.specs.Borrow.{Bor}
 use Rattle.std.specs.Char.{digit_value}
 use Rattle.std.specs.List.{list_all}
-use Rattle.std.specs.Result.{result_ok}
+use Rattle.std.specs.Result.{IfErr, IsErrAnd, result_ok}
 use Rattle.std.specs.Str.Parse.{AllDigits, ParsesUnsigned, digits_value, without_leading_plus}
 use Rattle.clap.proofs.WalkLemmas.{both}
 use Rattle.clap.specs.Words.{Text}
@@ -42,3 +42,8 @@ pub last_text : (values : List (Bor Text)) → option_map (λ text. text.now) (s
 last_text values =
     sym (slice_get-map (λ (text : Bor Text). text.now) values (length values - 1))
     ∙ ap (λ n. slice_get (map (λ (text : Bor Text). text.now) values) (n - 1)) (sym (length-map values (λ (text : Bor Text). text.now)))
+
+-- the exit of a call that fails by this error
+pub error_exit : {T E : Type 0} (r : Result T E) (e : E) (Q : E → Type 0) → IsErrAnd r (λ x. x ≡ e) → Q e → IfErr r Q
+error_exit (Ok x) e Q h q = tt
+error_exit (Err x) e Q h q = subst Q (sym h) q

@@ -1,9 +1,9 @@
 -- What callers rely on.
-use Rattle.std.proofs.Common.{◌≡◌, ◌∙◌, true, false, refl, sym, ap, Some}
-use Rattle.std.proofs.Math.Option.{some-injective}
+use Rattle.std.proofs.Common.{refl, ap, unwrap_or}
 use Rattle.clap.proofs.OnLiterals.{clap_on_literals}
 use Rattle.termimad_options.specs.Rules.{termimad_rules}
 use Rattle.termimad_options.specs.Names.{endings}
+use Rattle.termimad_options.specs.declared.calls.Links.TheVariants.{Auto}
 use Rattle.termimad_options.specs.Laws.{NamesAskNothing, OptionsWin, PipesStayPlain, SomeCalls, SomeNames}
 
 pub pipes_plain : PipesStayPlain
@@ -16,7 +16,7 @@ pub nothing_asked : NamesAskNothing
 unfolding clap_on_literals termimad_rules
 nothing_asked program call h = record {
   width = h.width;
-  links = some-injective _ _ h.links;
+  links = ap (λ o. unwrap_or o Auto) h.links;
   streams = h.streams;
   writes = h.writes;
   fits = h.fits;

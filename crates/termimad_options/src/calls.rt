@@ -70,13 +70,20 @@ pub fn call_of<'a>(alloc: Global, words: &'a [&'a str]) -> Result<Call<'a>, Erro
 }
 
 // What options ask for, with an error where they say another word of links.
-fn call_in<'a>(alloc: Global, command: &mut Command<'a>, matches: &ArgMatches<'a>) -> Result<Call<'a>, Error>
+fn call_in<'a>(
+    alloc: Global,
+    command: &mut Command<'a>,
+    matches: &ArgMatches<'a>,
+) -> Result<Call<'a>, Error>
     ensures call { IfOk result (λ call. IsAskedBy (rows_of (found_of matches.now)) call) }
     ensures passes { IfErr result (λ e. is_some (links_said (rows_of (found_of matches.now))) ≡ true → kind_of e ≡ ErrorKind.OutOfMemory) }
 {
     match links_asked(matches) {
         Some(links) => Ok(asked(alloc, matches, links)?),
-        None => Err(command.error(ErrorKind::InvalidValue, "--links takes auto, always or never")?),
+        None => Err(command.error(
+            ErrorKind::InvalidValue,
+            "--links takes auto, always or never",
+        )?),
     }
 }
 

@@ -16,11 +16,29 @@ use std::alloc::{AllocError, Global};
 pub fn options<'a>(alloc: Global) -> Result<Command<'a>, AllocError>
     ensures { IfOk result (λ c. app_of c ≡ termimad_rules) }
 {
-    let skin = valued(alloc, "skin", "SKIN", "Shows it in auto, dark, light, sixteen, none, a file's or JSON's skin");
+    let skin = valued(
+        alloc,
+        "skin",
+        "SKIN",
+        "Shows it in auto, dark, light, sixteen, none, a file's or JSON's skin",
+    );
     let code = valued(alloc, "code", "LANGUAGE", "Shows code of this language");
-    let links = valued(alloc, "links", "WHEN", "Writes where links lead: auto, always or never");
-    let lines = counted(alloc, "lines", "Shows each line by itself, in the smaller grammar");
-    let plain = counted(alloc, "plain", "Shows text that isn't Markdown, with its colors");
+    let links = valued(
+        alloc,
+        "links",
+        "WHEN",
+        "Writes where links lead: auto, always or never",
+    );
+    let lines = counted(
+        alloc,
+        "lines",
+        "Shows each line by itself, in the smaller grammar",
+    );
+    let plain = counted(
+        alloc,
+        "plain",
+        "Shows text that isn't Markdown, with its colors",
+    );
     let stream = counted(alloc, "stream", "Writes each part of a text as it comes");
     let no_pager = counted(alloc, "no-pager", "Writes, and doesn't page");
     bare(alloc)

@@ -1,4 +1,4 @@
-use Rattle.std.proofs.Common.{◌≡◌, ◌∙◌, [], sym, ap, map, option_map, unwrap_or, codes, List, Option}
+use Rattle.std.proofs.Common.{◌∙◌, [], sym, ap, map, option_map, unwrap_or, codes, List, Option}
 use Rattle.std.proofs.lemmas.Result.{IfOk-weaker}
 use Rattle.std.specs.Borrow.{Bor}
 use Rattle.clap.proofs.WalkLemmas.{raw_values-rows}

@@ -1,4 +1,4 @@
-use Rattle.std.proofs.Common.{rules, ◌≡◌, ◌∙◌, ◌-◌, sym, ap, map, length, option_map, option_and_then, slice_get, List, Option}
+use Rattle.std.proofs.Common.{◌∙◌, ◌-◌, sym, ap, map, length, option_map, option_and_then, slice_get, List, Option}
 use Rattle.std.specs.Borrow.{Bor}
 use Rattle.clap.proofs.WalkLemmas.{raw_values-rows}
 use Rattle.clap.specs.Words.{Text, found_of}
