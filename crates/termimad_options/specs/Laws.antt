@@ -6,11 +6,11 @@ use Rattle.clap.specs.Words.{Row, Text, matches_of}
 use Rattle.termimad_options.specs.Rules.{termimad_rules}
 use Rattle.termimad_options.specs.Calls.{IsCallOf, Reading, as_code, as_markdown, as_plain, columns_written, is_call, is_said, last_said}
 use Rattle.termimad_options.specs.Names.{reading_of_file}
-use Rattle.termimad_options.specs.Plans.{columns_of, says_links, skin_of, way_of}
+use Rattle.termimad_options.specs.Plans.{columns_of, obeys, says_links, skin_of, suiting, way_of}
 use Rattle.termimad_options.specs.declared.calls.Call.{Call}
 use Rattle.termimad_options.specs.declared.calls.Links.TheVariants.{Auto}
 use Rattle.termimad_options.specs.declared.plans.Surroundings.{Surroundings}
-use Rattle.termimad_options.specs.declared.plans.Way.TheVariants.{Writes}
+use Rattle.termimad_options.specs.declared.plans.Way.TheVariants.{Pages, Writes}
 
 -- where standard output is no terminal, texts are written, and where no skin is named, without styles, and without what only a terminal is told
 abbrev pub PipesStayPlain : Type 0
@@ -26,9 +26,12 @@ OptionsWin = ((said : Reading) (name : Text) → reading_of_file (Some said) nam
     × ((call : Call) (around : Surroundings) (skin : Bor Text) → call.skin ≡ Some skin → bytes_eq skin.now (codes "auto") ≡ false
     → skin_of call around ≡ skin.now)
 
--- What a call without options asks for: no width and no skin, what the terminal suggests of links, and all that is paged elsewhere.
+-- What a call without options asks for: no file, no width, no skin and no grammar, and what the terminal suggests of links and of paging.
 pub record AsksNothing (call : Call) : Type 0 where
+  pub files : call.files.items ≡ []
   pub width : call.width ≡ None
+  pub skin : call.skin ≡ None
+  pub grammar : call.grammar ≡ None
   pub links : call.links ≡ Auto
   pub streams : call.streams ≡ false
   pub writes : call.writes ≡ false
@@ -37,6 +40,13 @@ pub record AsksNothing (call : Call) : Type 0 where
 -- a call of the program's name alone asks for nothing
 abbrev pub NamesAskNothing : Type 0
 NamesAskNothing = (program : Text) (call : Call) → IsCallOf (program ∷ []) call → AsksNothing call
+
+-- a call that asks for nothing pages on a terminal that obeys commands, in its columns and in the skin that suits it, where nothing else is set
+abbrev pub TerminalsPage : Type 0
+TerminalsPage = (call : Call) (around : Surroundings) → AsksNothing call → obeys around ≡ true
+    → (way_of call around ≡ Pages)
+    × ((columns : ℕ) → around.columns ≡ Some columns → columns_of call around ≡ columns)
+    × (around.skin ≡ None → around.is_colorless ≡ false → skin_of call around ≡ suiting around)
 
 -- the matches of words behind the program's name
 abbrev pub rows_for : List Text → List Row

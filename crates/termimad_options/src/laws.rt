@@ -1,6 +1,6 @@
 //! What callers rely on.
 
-ghost use Rattle.termimad_options.specs.Laws.{NamesAskNothing, OptionsWin, PipesStayPlain, SomeCalls, SomeNames};
+ghost use Rattle.termimad_options.specs.Laws.{NamesAskNothing, OptionsWin, PipesStayPlain, SomeCalls, SomeNames, TerminalsPage};
 
 /// Where standard output is no terminal, texts are written, and without styles where no skin is named.
 #[tactic(auto, using(crate::proofs::LawLemmas::pipes_plain))]
@@ -14,10 +14,16 @@ pub fn options_win()
     ensures { OptionsWin }
 {}
 
-/// A call of the program's name alone asks for nothing, so all is as help says.
+/// A call of the program's name alone asks for nothing.
 #[tactic(auto, using(crate::proofs::LawLemmas::nothing_asked))]
 pub fn names_ask_nothing()
     ensures { NamesAskNothing }
+{}
+
+/// A call that asks for nothing pages on a terminal, in its columns and in the skin that suits it.
+#[tactic(auto, using(crate::proofs::LawLemmas::terminals_page))]
+pub fn terminals_page()
+    ensures { TerminalsPage }
 {}
 
 /// Which words some calls take and refuse, and what they say.
