@@ -1,11 +1,11 @@
 -- What the words of a call ask for.
-use Rattle.std.specs.Prelude.{◌≡◌, ◌&&◌, ◌-◌, ℕ, nat_lt, Bool, List, [], map, option_map, option_and_then, is_some, unwrap_or, slice_get, length, Option, Some, None, codes, if◌then◌else◌}
+use Rattle.std.specs.Prelude.{◌≡◌, ◌&&◌, ◌-◌, ℕ, nat_lt, Bool, false, List, [], map, option_map, option_and_then, is_some, unwrap_or, slice_get, length, Option, Some, None, codes, if◌then◌else◌}
 use Rattle.std.specs.Char.{digit_value}
 use Rattle.std.specs.List.{list_all}
 use Rattle.std.specs.Option.{option_map_or}
 use Rattle.std.specs.Str.{bytes_eq}
 use Rattle.std.specs.Str.Parse.{digits_value, without_leading_plus}
-use Rattle.clap.specs.Words.{Row, Text, all_of, count_of, matches_of, takes}
+use Rattle.clap.specs.Words.{Row, Text, all_of, first_of, matches_of, takes}
 use Rattle.termimad_options.specs.Rules.{termimad_rules}
 use Rattle.termimad_options.specs.declared.calls.Call.{Call}
 use Rattle.termimad_options.specs.declared.calls.Grammar.{Grammar}
@@ -19,7 +19,7 @@ last_said id rows = option_and_then (λ values. slice_get values (length values 
 
 -- an option without a value was there
 abbrev pub is_said : Text → List Row → Bool
-is_said id rows = nat_lt 0 (count_of id rows)
+is_said id rows = option_map_or (λ text. bytes_eq text (codes "true")) (first_of id rows) false
 
 -- so many columns: the number below 65,536 that digits write, a plus sign before them or none
 abbrev pub columns_written : Text → Option ℕ

@@ -1,5 +1,5 @@
 -- How a text is read by its file's name.
-use Rattle.std.specs.Prelude.{◌-◌, ◌||◌, ℕ, Bool, List, [], ◌∷◌, length, drop, Option, Some, None, unwrap_or, codes, if◌then◌else◌}
+use Rattle.std.specs.Prelude.{◌-◌, ◌||◌, Bool, List, [], ◌∷◌, length, drop, Option, Some, None, unwrap_or, codes, if◌then◌else◌}
 use Rattle.std.specs.Borrow.{Bor}
 use Rattle.std.specs.Str.{bytes_eq}
 use Rattle.clap.specs.Words.{Text}

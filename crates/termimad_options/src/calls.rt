@@ -143,7 +143,10 @@ fn last<'a>(matches: &ArgMatches<'a>, id: &str) -> Option<&'a str>
 fn is_there(matches: &ArgMatches, id: &str) -> bool
     ensures { result ≡ is_said id.now (rows_of (found_of matches.now)) }
 {
-    matches.get_count(id) > 0
+    match matches.get_str(id) {
+        Some(text) => text == "true",
+        None => false,
+    }
 }
 
 // How texts are read.

@@ -2,7 +2,7 @@
 
 ghost use Rattle.std.specs.Prelude.{◌≡◌, IfOk, codes, false};
 ghost use Rattle.clap.specs.Words.{app_of, rule_of};
-ghost use Rattle.termimad_options.specs.Rules.{counted, files_rule, fits_rule, termimad_rules, valued, versioned, width_rule};
+ghost use Rattle.termimad_options.specs.Rules.{flag, files_rule, fits_rule, termimad_rules, valued, versioned, width_rule};
 
 use clap::builder::ValueParser;
 use clap::{Arg, ArgAction, Command};
@@ -29,18 +29,18 @@ pub fn options<'a>(alloc: Global) -> Result<Command<'a>, AllocError>
         "WHEN",
         "Writes where links lead: auto, always or never",
     );
-    let lines = counted(
+    let lines = flag(
         alloc,
         "lines",
         "Shows each line by itself, in the smaller grammar",
     );
-    let plain = counted(
+    let plain = flag(
         alloc,
         "plain",
         "Shows text that isn't Markdown, with its colors",
     );
-    let stream = counted(alloc, "stream", "Writes each part of a text as it comes");
-    let no_pager = counted(alloc, "no-pager", "Writes, and doesn't page");
+    let stream = flag(alloc, "stream", "Writes each part of a text as it comes");
+    let no_pager = flag(alloc, "no-pager", "Writes, and doesn't page");
     bare(alloc)
         .arg(files(alloc))?
         .arg(width(alloc))?
@@ -60,6 +60,7 @@ fn bare<'a>(alloc: Global) -> Command<'a>
 {
     Command::new(alloc, "termimad")
         .version("0.3.0")
+        .args_override_self(true)
         .about("Shows Markdown: pages it on a terminal, and writes it elsewhere")
         .after_help("+N shows the text from its row N on. Without FILE, standard input is read.")
 }
@@ -91,29 +92,29 @@ fn fits<'a>(alloc: Global) -> Arg<'a>
 {
     Arg::new(alloc, "fits")
         .short('F')
-        .action(ArgAction::Count)
+        .action(ArgAction::SetTrue)
         .help("Doesn't page what fits on one screen")
 }
 
-// An option with a value; where it comes twice, the last one counts.
+// An option with a value.
 fn valued<'a>(alloc: Global, name: &'a str, value: &'a str, help: &'a str) -> Arg<'a>
     ensures rule { rule_of result ≡ valued name.now }
     ensures own { result.global ≡ false }
 {
     Arg::new(alloc, name)
         .long(name)
-        .action(ArgAction::Append)
+        .action(ArgAction::Set)
         .value_name(value)
         .help(help)
 }
 
-// An option without a value, which may come twice.
-fn counted<'a>(alloc: Global, name: &'a str, help: &'a str) -> Arg<'a>
-    ensures rule { rule_of result ≡ counted name.now }
+// An option without a value.
+fn flag<'a>(alloc: Global, name: &'a str, help: &'a str) -> Arg<'a>
+    ensures rule { rule_of result ≡ flag name.now }
     ensures own { result.global ≡ false }
 {
     Arg::new(alloc, name)
         .long(name)
-        .action(ArgAction::Count)
+        .action(ArgAction::SetTrue)
         .help(help)
 }
