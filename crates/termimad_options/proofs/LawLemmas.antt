@@ -1,0 +1,74 @@
+-- What callers rely on.
+use Rattle.std.proofs.Common.{◌≡◌, List, [], ◌∷◌, Option, Some, None, Bool, true, false, refl, ap, map, option_map, is_some, unwrap_or, true≢false}
+use Rattle.clap.proofs.OnLiterals.{clap_on_literals}
+use Rattle.termimad_options.specs.Rules.{termimad_rules}
+use Rattle.termimad_options.specs.Names.{endings}
+use Rattle.termimad_options.specs.declared.calls.Links.TheVariants.{Auto}
+use Rattle.termimad_options.specs.Laws.{NamesAskNothing, OptionsWin, PipesStayPlain, SomeCalls, SomeNames, TerminalsPage}
+
+pub pipes_plain : PipesStayPlain
+pipes_plain call around e = (rw e refl, λ s t. rw (s, t, e) refl, rw e refl)
+
+pub options_win : OptionsWin
+options_win = (λ said name. refl, λ call around columns e. rw e refl, λ call around skin e other. rw (e, other) refl)
+
+none_before : {X Y : Type 0} (f : X → Y) (o : Option X) → option_map f o ≡ None → o ≡ None
+none_before f None e = refl
+none_before f (Some x) e = absurd (true≢false (ap is_some e))
+
+is_nonempty : {X : Type 0} → List X → Bool
+is_nonempty [] = false
+is_nonempty (x ∷ xs) = true
+
+empty_before : {X Y : Type 0} (f : X → Y) (xs : List X) → map f xs ≡ [] → xs ≡ []
+unfolding is_nonempty
+empty_before f [] e = refl
+empty_before f (x ∷ xs) e = absurd (true≢false (ap is_nonempty e))
+
+pub nothing_asked : NamesAskNothing
+unfolding clap_on_literals termimad_rules
+nothing_asked program call h = record {
+  files = empty_before _ _ h.files;
+  width = h.width;
+  skin = none_before _ _ h.skin;
+  grammar = none_before _ _ h.grammar;
+  links = ap (λ o. unwrap_or o Auto) h.links;
+  streams = h.streams;
+  writes = h.writes;
+  fits = h.fits;
+}
+
+pub terminals_page : TerminalsPage
+terminals_page call around h e =
+    (rw (e, h.writes, h.streams, h.fits) refl, λ columns t. rw (h.width, t) refl, λ s n. rw (h.skin, s, e, n) refl)
+
+pub calls_read : SomeCalls
+unfolding clap_on_literals termimad_rules
+calls_read = record {
+  all = refl;
+  twice = refl;
+  last = refl;
+  flag = refl;
+  file = refl;
+  no_flag = refl;
+  unknown = refl;
+  zero_columns = refl;
+  many_columns = refl;
+  no_columns = refl;
+  no_value = refl;
+  other_links = refl;
+  columns = refl;
+}
+
+pub names_read : SomeNames
+unfolding endings
+names_read = record {
+  rust = refl;
+  make = refl;
+  cmake = refl;
+  text = refl;
+  log = refl;
+  markdown = refl;
+  other = refl;
+  input = refl;
+}

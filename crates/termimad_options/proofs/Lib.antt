@@ -1,0 +1,3 @@
+mod RuleLemmas
+mod CallLemmas
+mod LawLemmas

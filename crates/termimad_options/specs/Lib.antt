@@ -1,0 +1,6 @@
+pub mod Rules
+pub mod Calls
+pub mod Places
+pub mod Names
+pub mod Plans
+pub mod Laws

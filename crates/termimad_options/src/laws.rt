@@ -1,0 +1,39 @@
+//! What callers rely on.
+
+ghost use Rattle.termimad_options.specs.Laws.{NamesAskNothing, OptionsWin, PipesStayPlain, SomeCalls, SomeNames, TerminalsPage};
+
+/// Where standard output is no terminal, texts are written, and without styles where no skin is named.
+#[tactic(auto, using(crate::proofs::LawLemmas::pipes_plain))]
+pub fn pipes_stay_plain()
+    ensures { PipesStayPlain }
+{}
+
+/// An option wins over a file's name, over what the terminal says, and over what is set.
+#[tactic(auto, using(crate::proofs::LawLemmas::options_win))]
+pub fn options_win()
+    ensures { OptionsWin }
+{}
+
+/// A call of the program's name alone asks for nothing.
+#[tactic(auto, using(crate::proofs::LawLemmas::nothing_asked))]
+pub fn names_ask_nothing()
+    ensures { NamesAskNothing }
+{}
+
+/// A call that asks for nothing pages on a terminal, in its columns and in the skin that suits it.
+#[tactic(auto, using(crate::proofs::LawLemmas::terminals_page))]
+pub fn terminals_page()
+    ensures { TerminalsPage }
+{}
+
+/// Which words some calls take and refuse, and what they say.
+#[tactic(auto, using(crate::proofs::LawLemmas::calls_read))]
+pub fn calls_are_read()
+    ensures { SomeCalls }
+{}
+
+/// How files of some names are read.
+#[tactic(auto, using(crate::proofs::LawLemmas::names_read))]
+pub fn names_are_read()
+    ensures { SomeNames }
+{}
