@@ -1,0 +1,78 @@
+-- The rows of Markdown show each character of what was read once, in order.
+use Rattle.std.specs.Prelude.{◌≡◌, ◌≢◌, ◌⊎◌, ℕ, zero, suc, ◌-◌, ◌^◌, ◌<◌, ◌≤◌, Bool, List, [], ◌∷◌, map, Some, if◌then◌else◌}
+use Rattle.std.specs.Char.{is_whitespace}
+use Rattle.std.specs.List.{flat_map}
+use Rattle.mad_md.specs.Flagged.{FlaggedChar}
+use Rattle.mad_md.specs.Lines.{StyledRuns, LineContent, normal, table_row, table_rule, horizontal_rule}
+use Rattle.mad_format.specs.LineRules.{LineRules}
+use Rattle.mad_format.specs.Lists.{EachBecomes}
+use Rattle.mad_format.specs.Wraps.{text_of}
+use Rattle.mad_format.specs.declared.line.FmtLine.{FmtLine}
+use Rattle.mad_format.specs.declared.line.FmtLine.TheVariants.{Normal, TableRow, TableRule, HorizontalRule}
+use Rattle.mad_sections.specs.Sections.{SectionContent}
+use Rattle.mad_sections.specs.TableTexts.{cell_text, rows_in}
+use Rattle.mad_sections.specs.UnfoldLaws.{IsMadeOfBoth, KeepsRow, labels_text, row_text}
+use Rattle.mad_pages.specs.PageLayouts.{IsPageAt}
+use Rattle.mad_pages.specs.PageRows.{RowContent}
+use Rattle.markdown_page_laws.specs.KeptPages.{lines_of_rows}
+use Rattle.markdown_reader.specs.Markdown.{markdown_sections}
+
+-- ---- characters
+
+-- the characters of a text that aren't whitespace
+abbrev pub solid : List FlaggedChar → List FlaggedChar
+solid [] = []
+solid (x ∷ xs) = if is_whitespace x.char then solid xs else x ∷ solid xs
+
+-- what the cells of a line say: a composite is one cell, and a rule has none
+abbrev pub texts_said : LineContent → List (List FlaggedChar)
+texts_said (normal said) = cell_text said ∷ []
+texts_said (table_row cells) = map cell_text cells
+texts_said _ = []
+
+-- the texts of a row's cells, without borders
+abbrev pub texts_in : FmtLine → List (List FlaggedChar)
+texts_in (Normal l) = text_of l ∷ []
+texts_in (TableRow row) = map text_of row.cells.items
+texts_in _ = []
+
+-- the text of a cell by its number, from the left; where none is, nothing
+abbrev pub text_at : ℕ → List (List FlaggedChar) → List FlaggedChar
+text_at i [] = []
+text_at zero (text ∷ texts) = text
+text_at (suc i) (text ∷ texts) = text_at i texts
+
+-- ---- lines
+
+-- Rows show a line: of each of its cells each character that isn't whitespace is in the cell of the same number of these rows, once and in order from the top to
+-- the bottom, and nothing else is.
+abbrev pub IsShownBy : LineContent → List FmtLine → Type 0
+IsShownBy line rows = (i : ℕ) → flat_map (λ (row : FmtLine). solid (text_at i (texts_in row))) rows ≡ solid (text_at i (texts_said line))
+
+-- what rows show, from the first to the last
+abbrev pub solid_in : List FmtLine → List FlaggedChar
+solid_in rows = flat_map (λ (row : FmtLine). flat_map solid (texts_in row)) rows
+
+-- Rows show the item of a table's row below these heads: each of its lines, which are a paragraph for each cell that isn't empty, behind the label of its own
+-- head. So their characters are those of the cells and of the labels, each once and in order.
+pub record ShowItem (heads cells : List StyledRuns) (rows : List RowContent) : Type 0 where
+  pub lines : List LineContent
+  pub said : KeepsRow heads cells lines
+  pub shown : EachBecomes IsShownBy lines (lines_of_rows rows)
+  pub characters : IsMadeOfBoth (solid (labels_text heads cells)) (solid (row_text cells)) (solid_in (lines_of_rows rows))
+
+-- Rows show a table as a list: an item for each row below the heads that are said, or where none is said for each row.
+pub record ShowList (table : List LineContent) (rows : List RowContent) : Type 0 where
+  pub heads : List StyledRuns
+  pub items : List (List StyledRuns)
+  pub whole : ((heads ≡ []) × (items ≡ rows_in table)) ⊎ ((rows_in table ≡ heads ∷ items) × (items ≢ []))
+  pub shown : EachBecomes (ShowItem heads) items rows
+
+-- rows show a section: each of its lines, or a list in the place of its table
+abbrev pub ShowSection : SectionContent → List RowContent → Type 0
+ShowSection section rows = EachBecomes IsShownBy section.lines (lines_of_rows rows) ⊎ ShowList section.lines rows
+
+-- The rows of each text of Markdown, at each width of three columns or more, fall into those of its sections, one after the other, and show these.
+abbrev pub MarkdownIsKept : Type 0
+MarkdownIsKept = (source : List ℕ) (rules : LineRules) (ascii : Bool) (width : ℕ) (rows : List RowContent) → 3 ≤ width → width < 2 ^ 64 - 1
+    → IsPageAt rules ascii (Some width) (markdown_sections source) rows → EachBecomes ShowSection (markdown_sections source) rows

@@ -1,0 +1,4 @@
+pub mod KeptCharacters
+pub mod KeptMarkdown
+pub mod KeptPages
+pub mod TableSections

@@ -1,0 +1,21 @@
+//! Laws of pages and of Markdown, each the contract of a small function: no character is lost between what is read and the rows that are shown.
+#![tactic(auto)]
+
+ghost use Rattle.markdown_page_laws.specs.KeptMarkdown.{MarkdownIsKept};
+ghost use Rattle.markdown_page_laws.specs.KeptPages.{PagesKeep};
+ghost use Rattle.markdown_page_laws.specs.TableSections.{TablesMayBeLists};
+
+/// The rows of a page keep the flagged characters of the sections that are shown, line by line and cell by cell, in order and on the fewest rows.
+pub fn pages_keep()
+    ensures { PagesKeep }
+{}
+
+/// A section of Markdown has no row of a table, or is a table that may be shown as a list.
+pub fn tables_may_be_lists()
+    ensures { TablesMayBeLists }
+{}
+
+/// The rows of a text of Markdown show each character of what was read that isn't whitespace once, in order, and nothing else but labels of lists.
+pub fn markdown_is_kept()
+    ensures { MarkdownIsKept }
+{}
