@@ -1,0 +1,208 @@
+-- The rows of Markdown show its sections.
+use Rattle.std.proofs.Common.{◌≡◌, ◌⊎◌, inl, inr, ℕ, zero, suc, ◌+◌, ◌-◌, ◌*◌, ◌^◌, ◌<◌, ◌≤◌, ◌==◌, min, nat_le, Bool, true, false, not, ◌&&◌, List, [], ◌∷◌, ◌++◌, length, map, drop, take, sum, Option, Some, None, is_some, if◌then◌else◌, refl, ap, sym, ◌∙◌, subst, arith, append-nil}
+use Rattle.std.specs.Char.{is_whitespace}
+use Rattle.std.specs.List.{AllByRecursion, AllZip, flat_map}
+use Rattle.std.proofs.lemmas.Bool.Decides.{nat_tests}
+use Rattle.std.proofs.lemmas.List.Sums.{sum_by-cons}
+use Rattle.mad_md.specs.Flagged.{FlaggedChar, Run}
+use Rattle.mad_md.specs.Lines.{StyledRuns, LineContent, normal, table_row, table_rule, horizontal_rule}
+use Rattle.mad_format.specs.LineRules.{LineRules}
+use Rattle.mad_format.specs.Lists.{EachBecomes}
+use Rattle.mad_format.specs.declared.line.FmtLine.{FmtLine}
+use Rattle.mad_blocks.proofs.LayoutJoins.{by_bool}
+use Rattle.mad_sections.specs.Gutters.{room_at}
+use Rattle.mad_sections.specs.Items.{paragraph, label, cell_lines, row_lines, or_blank, item_lines, says_heads, items_of}
+use Rattle.mad_sections.specs.Sections.{SectionContent}
+use Rattle.mad_sections.specs.TableTexts.{are_table, rows_in, columns_count, least_width, least_widths, has_room}
+use Rattle.mad_sections.specs.UnfoldLaws.{lines_text, IsMadeOfBoth, row_text, labels_text, KeepsRow, IsListOf}
+use Rattle.mad_sections.specs.Unfolded.{lacks_room, list_sections, as_list, unfolded_in, unfolded}
+use Rattle.mad_sections.specs.declared.gutters.Gutter.{Gutter}
+use Rattle.mad_sections.proofs.KeptLemmas.{list_when, stays_when}
+use Rattle.mad_sections.proofs.TableLemmas.{widths_count}
+use Rattle.mad_pages.specs.PageRows.{RowContent}
+use Rattle.markdown_reader.specs.Markdown.{markdown_sections}
+use Rattle.markdown_page_laws.specs.KeptMarkdown.{solid, solid_in, IsShownBy, ShowItem, ShowList, ShowSection, MarkdownIsKept}
+use Rattle.markdown_page_laws.specs.KeptPages.{lines_of_rows, KeepsSection, KeepsShown}
+use Rattle.markdown_page_laws.specs.TableSections.{IsNoRow, HaveNoRow, IsTableOrNone}
+use Rattle.markdown_page_laws.proofs.CharacterLemmas.{AreTexts, texts_have_no_row, texts_solid, nones_shown, lines_shown}
+use Rattle.markdown_page_laws.proofs.PageLemmas.{pages_keep}
+use Rattle.markdown_page_laws.proofs.TableSectionLemmas.{tables_may_be_lists}
+
+-- ---- characters of two texts
+
+-- what is made of two texts is made of their characters that aren't whitespace
+made_solid : (xs ys zs : List FlaggedChar) → IsMadeOfBoth xs ys zs → IsMadeOfBoth (solid xs) (solid ys) (solid zs)
+made_solid xs ys [] made = (ap solid made.0, ap solid made.1)
+made_solid xs ys (z ∷ zs) (inl (rest, same, made)) =
+    let more = made_solid rest ys zs made in
+    subst (λ (l : List FlaggedChar). IsMadeOfBoth (solid l) (solid ys) (solid (z ∷ zs))) (sym same)
+    (by_bool (λ b. IsMadeOfBoth (if b then solid rest else z ∷ solid rest) (solid ys) (if b then solid zs else z ∷ solid zs)) (is_whitespace z.char) (λ on. more) (λ off. inl (solid rest, refl, more)))
+made_solid xs ys (z ∷ zs) (inr (rest, same, made)) =
+    let more = made_solid xs rest zs made in
+    subst (λ (l : List FlaggedChar). IsMadeOfBoth (solid xs) (solid l) (solid (z ∷ zs))) (sym same)
+    (by_bool (λ b. IsMadeOfBoth (solid xs) (if b then solid rest else z ∷ solid rest) (if b then solid zs else z ∷ solid zs)) (is_whitespace z.char) (λ on. more) (λ off. inr (solid rest, refl, more)))
+
+-- ---- items
+
+cell_texts : (front : List Run) (cell : StyledRuns) (lines : List LineContent) → AreTexts lines → AreTexts (cell_lines front cell ++ lines)
+cell_texts front cell lines h = by_bool (λ b. AreTexts ((if b then [] else paragraph (front ++ cell.runs) ∷ []) ++ lines)) (length cell.runs == 0) (λ none. h) (λ some. (tt, h))
+
+row_texts : (heads cells : List StyledRuns) → AreTexts (row_lines heads cells)
+row_texts heads [] = tt
+row_texts heads (cell ∷ cells) = cell_texts (label heads) cell (row_lines (drop 1 heads) cells) (row_texts (drop 1 heads) cells)
+
+blank_texts : (lines : List LineContent) → AreTexts lines → AreTexts (or_blank lines)
+blank_texts [] h = (tt, tt)
+blank_texts (line ∷ lines) h = h
+
+rows_texts : (heads : List StyledRuns) (rows : List (List StyledRuns)) → AllByRecursion AreTexts (map (item_lines heads) rows)
+rows_texts heads [] = tt
+rows_texts heads (cells ∷ rows) = (blank_texts (row_lines heads cells) (row_texts heads cells), rows_texts heads rows)
+
+items_texts : (room : ℕ) (rows : List (List StyledRuns)) → AllByRecursion AreTexts (items_of room rows)
+items_texts room [] = tt
+items_texts room (heads ∷ rows) =
+    by_bool (λ b. AllByRecursion AreTexts (if b then map (item_lines heads) rows else map (item_lines []) (heads ∷ rows))) (says_heads room heads rows) (λ on. rows_texts heads rows) (λ off. rows_texts [] (heads ∷ rows))
+
+-- the lines of all sections are composites
+abbrev AreTextSections : List SectionContent → Type 0
+AreTextSections sections = AllByRecursion (λ (s : SectionContent). AreTexts s.lines) sections
+
+list_texts : (gutters : List Gutter) (fresh : ℕ) (items : List (List LineContent)) → AllByRecursion AreTexts items → AreTextSections (list_sections gutters fresh items)
+list_texts gutters fresh [] h = tt
+list_texts gutters fresh (lines ∷ items) h = (h.0, list_texts gutters 0 items h.1)
+
+listed_texts : (room : ℕ) (gutters : List Gutter) (s : SectionContent) → AreTextSections (as_list room gutters s)
+listed_texts room gutters s = list_texts gutters (min s.fresh (length s.gutters)) (items_of room (rows_in s.lines)) (items_texts room (rows_in s.lines))
+
+-- ---- a table that is a list
+
+item_shown : (rules : LineRules) (ascii : Bool) (width : ℕ) (heads cells : List StyledRuns) (item : SectionContent) (rows : List RowContent) → KeepsRow heads cells item.lines → AreTexts item.lines → KeepsSection rules ascii width item rows
+    → ShowItem heads cells rows
+item_shown rules ascii width heads cells item rows said texts kept =
+    let room : ℕ = room_at ascii width item.gutters in
+    let shown = texts_solid rules room (columns_count item.lines) item.lines (lines_of_rows rows) texts kept.lines in
+    record {
+      lines = item.lines;
+      said = said;
+      shown = nones_shown rules room (columns_count item.lines) item.lines (lines_of_rows rows) (texts_have_no_row item.lines texts) kept.lines;
+      characters = subst (IsMadeOfBoth (solid (labels_text heads cells)) (solid (row_text cells))) (sym shown) (made_solid (labels_text heads cells) (row_text cells) (lines_text item.lines) said.text);
+    }
+
+items_shown : (rules : LineRules) (ascii : Bool) (width : ℕ) (heads : List StyledRuns) (table : List (List StyledRuns)) (items : List SectionContent) (rows : List RowContent)
+    → AllZip (λ (cells : List StyledRuns) (item : SectionContent). KeepsRow heads cells item.lines) table items → AreTextSections items → EachBecomes (KeepsSection rules ascii width) items rows → EachBecomes (ShowItem heads) table rows
+items_shown rules ascii width heads [] [] rows said texts kept = kept
+items_shown rules ascii width heads [] (item ∷ items) rows said texts kept = absurd said
+items_shown rules ascii width heads (cells ∷ table) [] rows said texts kept = absurd said
+items_shown rules ascii width heads (cells ∷ table) (item ∷ items) rows said texts (here, there, joins, one, more) =
+    (here, there, joins, item_shown rules ascii width heads cells item here said.0 texts.0 one, items_shown rules ascii width heads table items there said.1 texts.1 more)
+
+list_shown : (rules : LineRules) (ascii : Bool) (width : ℕ) (s : SectionContent) (items : List SectionContent) (rows : List RowContent) → IsListOf s items → AreTextSections items → EachBecomes (KeepsSection rules ascii width) items rows
+    → ShowList s.lines rows
+list_shown rules ascii width s items rows list texts kept =
+    record { heads = list.heads; items = list.rows; whole = list.whole; shown = items_shown rules ascii width list.heads list.rows items rows list.kept texts kept }
+
+-- ---- a section that stays
+
+three_each : (whole_words : Bool) (n : ℕ) (rows : List (List StyledRuns)) → 3 * n ≤ sum (least_widths whole_words n rows)
+three_each whole_words zero rows = omega arith
+three_each true (suc n) rows =
+    let more = three_each true n (map (drop 1) rows) in
+    let own = sum_by-cons (λ x. x) (least_width true (flat_map (take 1) rows)) (least_widths true n (map (drop 1) rows)) in
+    omega (arith, more, own)
+three_each false (suc n) rows =
+    let more = three_each false n (map (drop 1) rows) in
+    let own = sum_by-cons (λ x. x) (least_width false (flat_map (take 1) rows)) (least_widths false n (map (drop 1) rows)) in
+    omega (arith, more, own)
+
+within_by : (m n : ℕ) → nat_le m n ≡ true → m ≤ n
+within_by m n on = grind (arith, nat_tests, on)
+
+has_three : (whole_words : Bool) (room : ℕ) (lines : List LineContent) → has_room whole_words room lines ≡ true → 4 * columns_count lines + 1 ≤ room
+has_three whole_words room lines has =
+    let n : ℕ = columns_count lines in
+    let fits = within_by (sum (least_widths whole_words n (rows_in lines)) + length (least_widths whole_words n (rows_in lines)) + 1) room has in
+    let count = widths_count whole_words n (rows_in lines) in
+    let three = three_each whole_words n (rows_in lines) in
+    omega (arith, fits, count, three)
+
+none_in : (lines : List LineContent) → length (rows_in lines) ≡ 0 → HaveNoRow lines
+none_in [] h = tt
+none_in (normal said ∷ lines) h = (tt, none_in lines h)
+none_in (table_row cells ∷ lines) h = absurd (omega (arith, h))
+none_in (table_rule aligns ∷ lines) h = (tt, none_in lines h)
+none_in (horizontal_rule ∷ lines) h = (tt, none_in lines h)
+
+zero_by : (n : ℕ) → (n == 0) ≡ true → n ≡ 0
+zero_by n e = grind (arith, nat_tests, e)
+
+-- no line is a row of a table, or the columns of all rows have room
+abbrev HaveRoom : ℕ → List LineContent → Type 0
+HaveRoom room lines = HaveNoRow lines ⊎ (4 * columns_count lines + 1 ≤ room)
+
+stays_with_room : (whole_words : Bool) (room : ℕ) (lines : List LineContent) → are_table lines ≡ true → lacks_room whole_words room lines ≡ false → HaveRoom room lines
+stays_with_room whole_words room lines all has =
+    by_bool (λ z. (length (rows_in lines) == 0) ≡ z → HaveRoom room lines) (length (rows_in lines) == 0)
+    (λ none e. inl (none_in lines (zero_by (length (rows_in lines)) e)))
+    (λ some e. by_bool (λ h. has_room whole_words room lines ≡ h → HaveRoom room lines) (has_room whole_words room lines)
+    (λ on f. inr (has_three whole_words room lines f))
+    (λ off f. absurd (lacks e f))
+    refl)
+    refl
+  where
+    lacks : (length (rows_in lines) == 0) ≡ false → has_room whole_words room lines ≡ false → ⊥
+    lacks e f =
+        let is : lacks_room whole_words room lines ≡ true =
+        ap (λ t. t && not (length (rows_in lines) == 0) && not (has_room whole_words room lines)) all ∙ ap (λ t. not t && not (has_room whole_words room lines)) e ∙ ap (λ t. not t) f in
+        cc
+
+one_of : (rules : LineRules) (ascii : Bool) (width : ℕ) (s : SectionContent) (rows : List RowContent) → EachBecomes (KeepsSection rules ascii width) (s ∷ []) rows → KeepsSection rules ascii width s rows
+one_of rules ascii width s rows (own, others, joins, here, none) =
+    subst (KeepsSection rules ascii width s) (sym (joins ∙ ap (λ (l : List RowContent). own ++ l) none ∙ append-nil own)) here
+
+section_shown : (rules : LineRules) (ascii : Bool) (width : ℕ) (s : SectionContent) (rows : List RowContent) → HaveRoom (room_at ascii width s.gutters) s.lines → KeepsSection rules ascii width s rows
+    → EachBecomes IsShownBy s.lines (lines_of_rows rows)
+section_shown rules ascii width s rows (inl none) kept = nones_shown rules (room_at ascii width s.gutters) (columns_count s.lines) s.lines (lines_of_rows rows) none kept.lines
+section_shown rules ascii width s rows (inr wide) kept = lines_shown rules (room_at ascii width s.gutters) (columns_count s.lines) s.lines (lines_of_rows rows) wide kept.lines
+
+stays_shown : (rules : LineRules) (ascii : Bool) (width : ℕ) (s : SectionContent) (rows : List RowContent) → unfolded rules.whole_words ascii (Some width) s ≡ s ∷ [] → HaveRoom (room_at ascii width s.gutters) s.lines
+    → KeepsShown rules ascii width s rows → ShowSection s rows
+stays_shown rules ascii width s rows stays room kept =
+    inl (section_shown rules ascii width s rows room (one_of rules ascii width s rows (subst (λ (all : List SectionContent). EachBecomes (KeepsSection rules ascii width) all rows) stays kept)))
+
+-- ---- sections
+
+room_by : (whole_words : Bool) (room : ℕ) (s : SectionContent) → IsTableOrNone s → lacks_room whole_words room s.lines ≡ false → HaveRoom room s.lines
+room_by whole_words room s (inl none) has = inl none
+room_by whole_words room s (inr tabled) has = stays_with_room whole_words room s.lines tabled.0 has
+
+no_list : (s : SectionContent) → s.list ≡ None → IsTableOrNone s → HaveNoRow s.lines
+no_list s none (inl h) = h
+no_list s none (inr tabled) = absurd (lost (ap is_some (sym none) ∙ tabled.1))
+  where
+    lost : false ≡ true → ⊥
+    lost e = cc
+
+shown_by : (rules : LineRules) (ascii : Bool) (width : ℕ) (s : SectionContent) (rows : List RowContent) (list : Option (List Gutter)) → s.list ≡ list → IsTableOrNone s → KeepsShown rules ascii width s rows → ShowSection s rows
+shown_by rules ascii width s rows None is h kept =
+    stays_shown rules ascii width s rows (ap (λ (l : Option (List Gutter)). unfolded_in rules.whole_words (Some (room_at ascii width s.gutters)) l s) is) (inl (no_list s is h)) kept
+shown_by rules ascii width s rows (Some gutters) is h kept =
+    let room : ℕ = room_at ascii width s.gutters in
+    by_bool (λ b. lacks_room rules.whole_words room s.lines ≡ b → ShowSection s rows) (lacks_room rules.whole_words room s.lines)
+    (λ on lacks.
+    let all : as_list room gutters s ≡ unfolded rules.whole_words ascii (Some width) s =
+    ap (λ (t : Bool). if t then as_list room gutters s else s ∷ []) (sym lacks) ∙ ap (λ (l : Option (List Gutter)). unfolded_in rules.whole_words (Some room) l s) (sym is) in
+    inr (list_shown rules ascii width s (unfolded rules.whole_words ascii (Some width) s) rows (list_when rules.whole_words ascii width s gutters is lacks) (subst AreTextSections all (listed_texts room gutters s)) kept))
+    (λ off has. stays_shown rules ascii width s rows (stays_when rules.whole_words ascii width s gutters is has) (room_by rules.whole_words room s h has) kept)
+    refl
+
+sections_shown : (rules : LineRules) (ascii : Bool) (width : ℕ) (sections : List SectionContent) (rows : List RowContent) → AllByRecursion IsTableOrNone sections → EachBecomes (KeepsShown rules ascii width) sections rows
+    → EachBecomes ShowSection sections rows
+sections_shown rules ascii width [] rows h kept = kept
+sections_shown rules ascii width (s ∷ sections) rows h (here, there, joins, one, more) =
+    (here, there, joins, shown_by rules ascii width s here s.list refl h.0 one, sections_shown rules ascii width sections there h.1 more)
+
+-- the rows of a text of Markdown show its sections
+pub markdown_is_kept : MarkdownIsKept
+markdown_is_kept source rules ascii width rows wide bound laid =
+    sections_shown rules ascii width (markdown_sections source) rows (tables_may_be_lists source) (pages_keep rules ascii width (markdown_sections source) rows wide bound laid)
