@@ -75,8 +75,7 @@ composite_rows rules width l own bound measured (inl (fits, same)) =
     (with_margins (style_margins rules width l) l ∷ [], same, kept_rows (room_of rules l.kind (inner_columns_at rules width l)) (text_of l) (map flagged_of l.compounds.items) (whole_parts l.compounds.items) inside)
 composite_rows rules width l own bound measured (inr (wide, (wrap, wraps, same))) =
     let margins = style_margins rules width l in
-    let passes : inner_columns_at rules width l < columns_of rules l = omega (arith, wide, measured, margins-le (rules.line_style l.kind) width) in
-    (
+    let passes : inner_columns_at rules width l < columns_of rules l = omega (arith, wide, measured, margins-le (rules.line_style l.kind) width) in (
       map (with_margins margins) wrap,
       same ∙ lines_with margins wrap,
       subst (AreRowsOf (room_of rules l.kind (inner_columns_at rules width l)) (map flagged_of l.compounds.items)) (texts_with margins wrap)
@@ -158,8 +157,7 @@ cells_keep rules (c ∷ cs) [] [] (ls ∷ lines) rows bound read laid tall down 
     (subst AreEmpty (sym none) first.2, cells_keep rules cs [] [] lines (other_columns rows) bound.1 tt laid.1 (omega (arith, tall, count)) (rest_down c cs ls lines rows down))
 cells_keep rules (c ∷ cs) (s ∷ said) (cell ∷ cells) (ls ∷ lines) rows bound read laid tall down =
     let count : length (other_columns rows) ≡ length rows = length-map rows (drop 1) in
-    let first : HasTexts ls rows = first_down c cs ls lines rows down (omega (arith, tall)) in
-    (
+    let first : HasTexts ls rows = first_down c cs ls lines rows down (omega (arith, tall)) in (
       map text_of ls,
       first.0,
       first.1,
@@ -201,8 +199,7 @@ table_line rules width count n ws cs l own fits are few tabled position laid sai
     by_said : (said : LineContent) (l : FmtLine) → columns_in l ≤ n → is_table_line l ≡ true → IsTableLineBy IsCompositeWrap rules cs position l own → IsLineRead rules said l → IsLineKept rules width count said own
     by_said (table_row cells) (TableRow row) few tabled (rows, same, laid) read =
         let inside : 1 + bordered (widths_of cs) ≤ width = subst (λ vs. 1 + bordered vs ≤ width) (sym are) (omega (arith, fits.fit)) in
-        let long = cells_count rules cells row.cells.items read in
-        (
+        let long = cells_count rules cells row.cells.items read in (
           rows,
           same,
           record {
@@ -231,8 +228,7 @@ table_lines : (rules : LineRules) (width count n : ℕ) (ws : List ℕ) (cs : Li
     → AreTableLinesBy IsCompositeWrap rules ws cs first ls own → EachBecomes (KeepsRead rules width count) ls own
 table_lines rules width count n ws cs first [] own fits are few tabled laid = laid
 table_lines rules width count n ws cs first (l ∷ ls) own fits are few tabled (here, there, joins, one, more) =
-    let from = from-widths ws cs l are in
-    (
+    let from = from-widths ws cs l are in (
       here,
       there,
       joins,
@@ -247,8 +243,7 @@ no_items {A} (x ∷ xs) h = absurd (omega (arith, h))
 -- a line of a table without columns
 bare_line : (rules : LineRules) (width count : ℕ) (said : LineContent) (l : FmtLine) → 3 ≤ width → columns_in l ≡ 0 → is_table_line l ≡ true → IsLineRead rules said l → IsLineKept rules width count said (l ∷ [])
 bare_line rules width count (table_row cells) (TableRow row) wide none tabled read =
-    let long = cells_count rules cells row.cells.items read in
-    (
+    let long = cells_count rules cells row.cells.items read in (
       row ∷ [],
       refl,
       record { widths = []; fit = omega (arith, wide); all = λ all. omega (arith, long, none); cells_kept = (no_items row.cells.items none, tt) },

@@ -1,4 +1,5 @@
 pub mod KeptCharacters
 pub mod KeptMarkdown
+pub mod KeptOutput
 pub mod KeptPages
 pub mod TableSections

@@ -2,6 +2,7 @@
 #![tactic(auto)]
 
 ghost use Rattle.markdown_page_laws.specs.KeptMarkdown.{MarkdownIsKept};
+ghost use Rattle.markdown_page_laws.specs.KeptOutput.{AreasShow, DrawingShows, WritingShows};
 ghost use Rattle.markdown_page_laws.specs.KeptPages.{PagesKeep};
 ghost use Rattle.markdown_page_laws.specs.TableSections.{TablesMayBeLists};
 
@@ -18,4 +19,11 @@ pub fn tables_may_be_lists()
 /// The rows of a text of Markdown show each character of what was read that isn't whitespace once, in order, and nothing else but labels of lists.
 pub fn markdown_is_kept()
     ensures { MarkdownIsKept }
+{}
+
+/// So do the rows that are written of it, those that are drawn in an area, and those that a plain terminal shows there.
+pub fn output_is_kept()
+    ensures written { WritingShows }
+    ensures drawn { DrawingShows }
+    ensures shown { AreasShow }
 {}
