@@ -1,5 +1,5 @@
 -- Rows that keep lines show each of their characters once.
-use Rattle.std.proofs.Common.{◌≡◌, ℕ, zero, suc, ◌+◌, ◌*◌, ◌≤◌, Bool, true, false, List, [], ◌∷◌, ◌++◌, map, length, take, drop, chars, if◌then◌else◌, refl, ap, ap₂, sym, ◌∙◌, subst, arith, append_assoc, append-nil}
+use Rattle.std.proofs.Common.{◌≡◌, ℕ, zero, suc, ◌+◌, ◌*◌, ◌≤◌, Bool, List, [], ◌∷◌, ◌++◌, map, length, chars, if◌then◌else◌, refl, ap, ap₂, sym, ◌∙◌, arith, append-nil}
 use Rattle.std.specs.Char.{is_whitespace}
 use Rattle.std.specs.List.{AllByRecursion, flat_map}
 use Rattle.std.proofs.lemmas.List.Concat.{flat_map-append}
@@ -11,16 +11,16 @@ use Rattle.mad_format.specs.Lists.{EachBecomes}
 use Rattle.mad_format.specs.Wraps.{text_of}
 use Rattle.mad_format.specs.declared.composite.FmtComposite.{FmtComposite}
 use Rattle.mad_format.specs.declared.line.FmtLine.{FmtLine}
-use Rattle.mad_format.specs.declared.line.FmtLine.TheVariants.{Normal, TableRow, TableRule, HorizontalRule}
+use Rattle.mad_format.specs.declared.line.FmtLine.TheVariants.{Normal, TableRow}
 use Rattle.mad_format.specs.declared.table.FmtTableRow.{FmtTableRow}
 use Rattle.mad_format.proofs.ListLemmas.{become_by}
 use Rattle.mad_blocks.proofs.LayoutJoins.{by_bool}
 use Rattle.mad_sections.specs.TableTexts.{runs_text, cell_text}
-use Rattle.mad_sections.specs.UnfoldLaws.{line_text, lines_text, IsMadeOfBoth}
+use Rattle.mad_sections.specs.UnfoldLaws.{line_text, lines_text}
 use Rattle.mad_layout.specs.FlaggedLines.{marked_parts}
 use Rattle.mad_layout.specs.FlaggedRows.{whole}
 use Rattle.markdown_page_laws.specs.KeptCharacters.{first_texts, other_columns, AreEmpty, KeepCells, cells_of_rows, IsLineKept}
-use Rattle.markdown_page_laws.specs.KeptMarkdown.{solid, texts_said, texts_in, text_at, IsShownBy, solid_in}
+use Rattle.markdown_page_laws.specs.KeptMarkdown.{solid, texts_in, text_at, IsShownBy, solid_in}
 use Rattle.markdown_page_laws.specs.TableSections.{IsNoRow, HaveNoRow}
 
 -- ---- texts

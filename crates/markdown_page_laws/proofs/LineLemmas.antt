@@ -1,5 +1,5 @@
 -- The rows of a layout keep the characters of its lines.
-use Rattle.std.proofs.Common.{◌≡◌, ℕ, zero, suc, ◌+◌, ◌-◌, ◌*◌, ◌^◌, ◌<◌, ◌≤◌, max, nat_lt, ◌==◌, Bool, true, false, inl, inr, List, [], ◌∷◌, ◌++◌, map, length, take, drop, chars, Option, Some, None, if◌then◌else◌, refl, ap, ap₂, sym, ◌∙◌, subst, arith}
+use Rattle.std.proofs.Common.{◌≡◌, ℕ, suc, ◌+◌, ◌-◌, ◌*◌, ◌^◌, ◌<◌, ◌≤◌, max, nat_lt, ◌==◌, Bool, true, false, inl, inr, List, [], ◌∷◌, ◌++◌, map, length, drop, chars, Option, Some, None, if◌then◌else◌, refl, ap, ap₂, sym, ◌∙◌, subst, arith}
 use Rattle.std.specs.List.{AllByRecursion, flat_map}
 use Rattle.std.proofs.lemmas.Bool.Decides.{nat_tests}
 use Rattle.std.proofs.lemmas.List.{length-map}
@@ -8,14 +8,13 @@ use Rattle.mad_md.specs.Lines.{StyledRuns, LineContent, normal, table_row, table
 use Rattle.mad_style.specs.Kinds.{kind_of}
 use Rattle.mad_style.specs.LineStyles.{width_inside}
 use Rattle.mad_style.specs.declared.kinds.CompositeKind.{CompositeKind}
-use Rattle.mad_measure.specs.TextColumns.{width_of}
 use Rattle.mad_measure.specs.declared.spacing.Spacing.{Spacing}
 use Rattle.mad_format.specs.CompositeWraps.{line_compounds, IsCompositeWrap}
 use Rattle.mad_format.specs.FmtLines.{bordered, is_table_line, IsCompositeRead, AreCompositesRead, IsLineRead}
 use Rattle.mad_format.specs.Indents.{room_of}
 use Rattle.mad_format.specs.LineRules.{LineRules}
-use Rattle.mad_format.specs.Lists.{most, EachBecomes}
-use Rattle.mad_format.specs.WrappedLines.{style_margins, inner_columns_at, line_with, IsLaidOutBy, IsLineLaidOutBy}
+use Rattle.mad_format.specs.Lists.{EachBecomes}
+use Rattle.mad_format.specs.WrappedLines.{style_margins, inner_columns_at, line_with, IsLaidOutBy}
 use Rattle.mad_format.specs.Wraps.{text_of, columns_of, IsMeasured}
 use Rattle.mad_format.specs.declared.composite.FmtComposite.{FmtComposite}
 use Rattle.mad_format.specs.declared.line.FmtLine.{FmtLine}
@@ -23,17 +22,16 @@ use Rattle.mad_format.specs.declared.line.FmtLine.TheVariants.{Normal, TableRow,
 use Rattle.mad_format.specs.declared.table.FmtTableRow.{FmtTableRow}
 use Rattle.mad_format.proofs.ListLemmas.{both_become}
 use Rattle.mad_format.proofs.ReadWraps.{margins-le}
-use Rattle.mad_blocks.specs.LayoutParts.{Part, table, block, single, is_code_kind, with_table, with_code, with_composite, with_line, parts_of, code_room, wrap_width, placed_code, block_width, justified, AreLinesAt, IsPartAt, ArePartsAt}
+use Rattle.mad_blocks.specs.LayoutParts.{Part, table, block, single, is_code_kind, with_table, with_code, with_composite, with_line, parts_of, code_room, wrap_width, placed_code, block_width, AreLinesAt, IsPartAt, ArePartsAt}
 use Rattle.mad_blocks.specs.Layouts.{AreRead, IsLayoutAt}
 use Rattle.mad_blocks.specs.Tables.{centered, IsCellLaidOut, AreCellsLaidOut, below, IsLineAcross, AreDown, tallest, IsRowLaidOutBy, columns_from, columns_count, columns_in, position_at, IsTableLineBy, AreTableLinesBy, IsTableLaidOutBy}
-use Rattle.mad_blocks.proofs.LayoutJoins.{by_bool}
 use Rattle.mad_sections.specs.TableTexts as texts
 use Rattle.mad_layout.specs.FlaggedLines.{marked_parts}
 use Rattle.mad_layout.specs.FlaggedRows.{AreRowsOf}
 use Rattle.mad_layout.proofs.DrawableTables.{widths_of, columns_with-widths, centered-widths, widths_small}
 use Rattle.mad_layout.proofs.RowsAcross.{parts_are}
 use Rattle.mad_layout.proofs.WrapRows.{whole_parts, kept_rows, wrapped_rows}
-use Rattle.markdown_page_laws.specs.KeptCharacters.{first_texts, other_columns, AreEmpty, KeepCells, cells_of_rows, KeepTableRow, IsLineKept}
+use Rattle.markdown_page_laws.specs.KeptCharacters.{first_texts, other_columns, AreEmpty, KeepCells, cells_of_rows, IsLineKept}
 
 -- ---- composites
 

@@ -1,5 +1,5 @@
 -- What goes out of Markdown shows its sections.
-use Rattle.std.proofs.Common.{◌≡◌, inl, inr, ℕ, ◌<◌, ◌≤◌, List, map, Some}
+use Rattle.std.proofs.Common.{inl, inr, map}
 use Rattle.mad_rows.specs.RowStyles.{line_rules}
 use Rattle.mad_page_rows.specs.Faces.{has_ascii_boxes}
 use Rattle.mad_pages.specs.PageRows.{row_content}

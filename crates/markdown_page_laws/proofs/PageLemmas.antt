@@ -1,5 +1,5 @@
 -- The rows of a page keep the characters of its sections.
-use Rattle.std.proofs.Common.{◌≡◌, ℕ, ◌-◌, ◌^◌, ◌<◌, ◌≤◌, Bool, List, Some, arith}
+use Rattle.std.proofs.Common.{ℕ, ◌-◌, ◌^◌, ◌<◌, ◌≤◌, Bool, List, Some, arith}
 use Rattle.mad_format.specs.LineRules.{LineRules}
 use Rattle.mad_format.proofs.ListLemmas.{become_by}
 use Rattle.mad_sections.specs.Gutters.{room_at}

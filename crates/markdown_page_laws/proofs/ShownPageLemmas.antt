@@ -1,5 +1,5 @@
 -- The rows of Markdown show its sections.
-use Rattle.std.proofs.Common.{◌≡◌, ◌⊎◌, inl, inr, ℕ, zero, suc, ◌+◌, ◌-◌, ◌*◌, ◌^◌, ◌<◌, ◌≤◌, ◌==◌, min, nat_le, Bool, true, false, not, ◌&&◌, List, [], ◌∷◌, ◌++◌, length, map, drop, take, sum, Option, Some, None, is_some, if◌then◌else◌, refl, ap, sym, ◌∙◌, subst, arith, append-nil}
+use Rattle.std.proofs.Common.{◌≡◌, ◌⊎◌, inl, inr, ℕ, zero, suc, ◌+◌, ◌*◌, ◌≤◌, ◌==◌, min, nat_le, Bool, true, false, not, ◌&&◌, List, [], ◌∷◌, ◌++◌, length, map, drop, take, sum, Option, Some, None, is_some, if◌then◌else◌, refl, ap, sym, ◌∙◌, subst, arith, append-nil}
 use Rattle.std.specs.Char.{is_whitespace}
 use Rattle.std.specs.List.{AllByRecursion, AllZip, flat_map}
 use Rattle.std.proofs.lemmas.Bool.Decides.{nat_tests}
@@ -8,7 +8,6 @@ use Rattle.mad_md.specs.Flagged.{FlaggedChar, Run}
 use Rattle.mad_md.specs.Lines.{StyledRuns, LineContent, normal, table_row, table_rule, horizontal_rule}
 use Rattle.mad_format.specs.LineRules.{LineRules}
 use Rattle.mad_format.specs.Lists.{EachBecomes}
-use Rattle.mad_format.specs.declared.line.FmtLine.{FmtLine}
 use Rattle.mad_blocks.proofs.LayoutJoins.{by_bool}
 use Rattle.mad_sections.specs.Gutters.{room_at}
 use Rattle.mad_sections.specs.Items.{paragraph, label, cell_lines, row_lines, or_blank, item_lines, says_heads, items_of}
@@ -21,9 +20,9 @@ use Rattle.mad_sections.proofs.KeptLemmas.{list_when, stays_when}
 use Rattle.mad_sections.proofs.TableLemmas.{widths_count}
 use Rattle.mad_pages.specs.PageRows.{RowContent}
 use Rattle.markdown_reader.specs.Markdown.{markdown_sections}
-use Rattle.markdown_page_laws.specs.KeptMarkdown.{solid, solid_in, IsShownBy, ShowItem, ShowList, ShowSection, MarkdownIsKept}
+use Rattle.markdown_page_laws.specs.KeptMarkdown.{solid, IsShownBy, ShowItem, ShowList, ShowSection, MarkdownIsKept}
 use Rattle.markdown_page_laws.specs.KeptPages.{lines_of_rows, KeepsSection, KeepsShown}
-use Rattle.markdown_page_laws.specs.TableSections.{IsNoRow, HaveNoRow, IsTableOrNone}
+use Rattle.markdown_page_laws.specs.TableSections.{HaveNoRow, IsTableOrNone}
 use Rattle.markdown_page_laws.proofs.CharacterLemmas.{AreTexts, texts_have_no_row, texts_solid, nones_shown, lines_shown}
 use Rattle.markdown_page_laws.proofs.PageLemmas.{pages_keep}
 use Rattle.markdown_page_laws.proofs.TableSectionLemmas.{tables_may_be_lists}

@@ -1,5 +1,5 @@
 -- A section of Markdown has no row of a table, or is one that may be shown as a list.
-use Rattle.std.proofs.Common.{◌≡◌, inl, inr, ◌∙◌, ℕ, zero, suc, Bool, true, false, ◌&&◌, ◌==◌, List, [], ◌∷◌, ◌++◌, map, length, drop, Option, Some, None, refl, if◌then◌else◌}
+use Rattle.std.proofs.Common.{◌≡◌, inl, inr, ◌∙◌, ℕ, Bool, true, false, ◌&&◌, ◌==◌, List, [], ◌∷◌, ◌++◌, map, length, drop, Option, Some, None, refl, if◌then◌else◌}
 use Rattle.std.specs.List.{AllByRecursion}
 use Rattle.markdown_marks.specs.Remaining.{Remaining}
 use Rattle.markdown_blocks.specs.declared.containers.Container.{Container}
@@ -9,7 +9,7 @@ use Rattle.markdown_leaves.specs.Parts.{PartContent, begins, ends, block}
 use Rattle.markdown_leaves.specs.Told.{parts_of}
 use Rattle.markdown_leaves.specs.declared.parts.Kind.{Kind}
 use Rattle.markdown_leaves.specs.declared.parts.Kind.TheVariants.{Nothing, Paragraph as ParagraphKind, Heading, Indented, Fenced, Html, Table, Rule, Definitions}
-use Rattle.mad_md.specs.Lines.{StyledRuns, LineContent, normal, table_row, table_rule, horizontal_rule}
+use Rattle.mad_md.specs.Lines.{LineContent, normal, table_row, table_rule, horizontal_rule}
 use Rattle.mad_md.specs.declared.alignment.Alignment.{Alignment}
 use Rattle.mad_md.specs.declared.composite.CompositeStyle.{CompositeStyle}
 use Rattle.mad_md.specs.declared.composite.CompositeStyle.TheVariants.{Paragraph}
@@ -23,7 +23,7 @@ use Rattle.markdown_lines.specs.Glyphs.{leaf_glyphs, trimmed}
 use Rattle.markdown_lines.specs.Leaf.{row_of, rows_from, leaf_rows, html_row, html_lines}
 use Rattle.markdown_lines.specs.Links.{Defined}
 use Rattle.markdown_lines.specs.Restyled.{restyled, empty_line}
-use Rattle.markdown_lines.specs.Steady.{steady_runs, steady_lines}
+use Rattle.markdown_lines.specs.Steady.{steady_lines}
 use Rattle.markdown_lines.specs.Tables as tables
 use Rattle.markdown_lines.specs.Tables.{after_cell, cells, shown_cells, row_said, alignments, body, ruled, table_lines}
 use Rattle.markdown_lines.specs.Texts.{behind_mark}

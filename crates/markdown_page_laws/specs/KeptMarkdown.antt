@@ -3,12 +3,12 @@ use Rattle.std.specs.Prelude.{◌≡◌, ◌≢◌, ◌⊎◌, ℕ, zero, suc, �
 use Rattle.std.specs.Char.{is_whitespace}
 use Rattle.std.specs.List.{flat_map}
 use Rattle.mad_md.specs.Flagged.{FlaggedChar}
-use Rattle.mad_md.specs.Lines.{StyledRuns, LineContent, normal, table_row, table_rule, horizontal_rule}
+use Rattle.mad_md.specs.Lines.{StyledRuns, LineContent, normal, table_row}
 use Rattle.mad_format.specs.LineRules.{LineRules}
 use Rattle.mad_format.specs.Lists.{EachBecomes}
 use Rattle.mad_format.specs.Wraps.{text_of}
 use Rattle.mad_format.specs.declared.line.FmtLine.{FmtLine}
-use Rattle.mad_format.specs.declared.line.FmtLine.TheVariants.{Normal, TableRow, TableRule, HorizontalRule}
+use Rattle.mad_format.specs.declared.line.FmtLine.TheVariants.{Normal, TableRow}
 use Rattle.mad_sections.specs.Sections.{SectionContent}
 use Rattle.mad_sections.specs.TableTexts.{cell_text, rows_in}
 use Rattle.mad_sections.specs.UnfoldLaws.{IsMadeOfBoth, KeepsRow, labels_text, row_text}

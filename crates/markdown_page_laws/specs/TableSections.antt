@@ -1,7 +1,7 @@
 -- Which sections of Markdown have tables.
 use Rattle.std.specs.Prelude.{◌≡◌, ◌⊎◌, ℕ, true, List, is_some}
 use Rattle.std.specs.List.{AllByRecursion}
-use Rattle.mad_md.specs.Lines.{LineContent, normal, table_row, table_rule, horizontal_rule}
+use Rattle.mad_md.specs.Lines.{LineContent, table_row}
 use Rattle.mad_sections.specs.Sections.{SectionContent}
 use Rattle.mad_sections.specs.TableTexts.{are_table}
 use Rattle.markdown_reader.specs.Markdown.{markdown_sections}
