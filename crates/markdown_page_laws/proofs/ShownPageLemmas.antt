@@ -8,6 +8,7 @@ use Rattle.mad_md.specs.Flagged.{FlaggedChar, Run}
 use Rattle.mad_md.specs.Lines.{StyledRuns, LineContent, normal, table_row, table_rule, horizontal_rule}
 use Rattle.mad_format.specs.LineRules.{LineRules}
 use Rattle.mad_format.specs.Lists.{EachBecomes}
+use Rattle.mad_format.proofs.ListLemmas.{become_by}
 use Rattle.mad_blocks.proofs.LayoutJoins.{by_bool}
 use Rattle.mad_sections.specs.Gutters.{room_at}
 use Rattle.mad_sections.specs.Items.{paragraph, label, cell_lines, row_lines, or_blank, item_lines, says_heads, items_of}
@@ -20,7 +21,7 @@ use Rattle.mad_sections.proofs.KeptLemmas.{list_when, stays_when}
 use Rattle.mad_sections.proofs.TableLemmas.{widths_count}
 use Rattle.mad_pages.specs.PageRows.{RowContent}
 use Rattle.markdown_reader.specs.Markdown.{markdown_sections}
-use Rattle.markdown_page_laws.specs.KeptMarkdown.{solid, IsShownBy, ShowItem, ShowList, ShowSection, MarkdownIsKept}
+use Rattle.markdown_page_laws.specs.KeptMarkdown.{solid, IsShownBy, ShowItem, ShowList, ShowSection, PagesShow, MarkdownIsKept}
 use Rattle.markdown_page_laws.specs.KeptPages.{lines_of_rows, KeepsSection, KeepsShown}
 use Rattle.markdown_page_laws.specs.TableSections.{HaveNoRow, IsTableOrNone}
 use Rattle.markdown_page_laws.proofs.CharacterLemmas.{AreTexts, texts_have_no_row, texts_solid, nones_shown, lines_shown}
@@ -195,13 +196,18 @@ shown_by rules ascii width s rows (Some gutters) is h kept =
     (λ off has. stays_shown rules ascii width s rows (stays_when rules.whole_words ascii width s gutters is has) (room_by rules.whole_words room s h has) kept)
     refl
 
-sections_shown : (rules : LineRules) (ascii : Bool) (width : ℕ) (sections : List SectionContent) (rows : List RowContent) → AllByRecursion IsTableOrNone sections → EachBecomes (KeepsShown rules ascii width) sections rows
-    → EachBecomes ShowSection sections rows
-sections_shown rules ascii width [] rows h kept = kept
-sections_shown rules ascii width (s ∷ sections) rows h (here, there, joins, one, more) =
-    (here, there, joins, shown_by rules ascii width s here s.list refl h.0 one, sections_shown rules ascii width sections there h.1 more)
+-- the rows of a page show its sections
+pub pages_show : PagesShow
+pages_show rules ascii width page rows wide bound laid =
+    become_by (KeepsShown rules ascii width) (λ (s : SectionContent) (own : List RowContent). IsTableOrNone s → ShowSection s own) (λ s own kept h. shown_by rules ascii width s own s.list refl h kept) page rows
+    (pages_keep rules ascii width page rows wide bound laid)
+
+all_shown : (sections : List SectionContent) (rows : List RowContent) → AllByRecursion IsTableOrNone sections
+    → EachBecomes (λ (s : SectionContent) (own : List RowContent). IsTableOrNone s → ShowSection s own) sections rows → EachBecomes ShowSection sections rows
+all_shown [] rows h shown = shown
+all_shown (s ∷ sections) rows h (here, there, joins, one, more) = (here, there, joins, one h.0, all_shown sections there h.1 more)
 
 -- the rows of a text of Markdown show its sections
 pub markdown_is_kept : MarkdownIsKept
 markdown_is_kept source rules ascii width rows wide bound laid =
-    sections_shown rules ascii width (markdown_sections source) rows (tables_may_be_lists source) (pages_keep rules ascii width (markdown_sections source) rows wide bound laid)
+    all_shown (markdown_sections source) rows (tables_may_be_lists source) (pages_show rules ascii width (markdown_sections source) rows wide bound laid)

@@ -1,4 +1,4 @@
--- The rows of Markdown show each character of what was read once, in order.
+-- The rows of a page, and of Markdown, show each character of its sections once, in order.
 use Rattle.std.specs.Prelude.{◌≡◌, ◌≢◌, ◌⊎◌, ℕ, zero, suc, ◌-◌, ◌^◌, ◌<◌, ◌≤◌, Bool, List, [], ◌∷◌, map, Some, if◌then◌else◌}
 use Rattle.std.specs.Char.{is_whitespace}
 use Rattle.std.specs.List.{flat_map}
@@ -15,6 +15,7 @@ use Rattle.mad_sections.specs.UnfoldLaws.{IsMadeOfBoth, KeepsRow, labels_text, r
 use Rattle.mad_pages.specs.PageLayouts.{IsPageAt}
 use Rattle.mad_pages.specs.PageRows.{RowContent}
 use Rattle.markdown_page_laws.specs.KeptPages.{lines_of_rows}
+use Rattle.markdown_page_laws.specs.TableSections.{IsTableOrNone}
 use Rattle.markdown_reader.specs.Markdown.{markdown_sections}
 
 -- ---- characters
@@ -72,7 +73,13 @@ pub record ShowList (table : List LineContent) (rows : List RowContent) : Type 0
 abbrev pub ShowSection : SectionContent → List RowContent → Type 0
 ShowSection section rows = EachBecomes IsShownBy section.lines (lines_of_rows rows) ⊎ ShowList section.lines rows
 
--- The rows of each text of Markdown, at each width of three columns or more, fall into those of its sections, one after the other, and show these.
+-- The rows of each page, at each width of three columns or more, fall into those of its sections, one after the other, and show each that has no row of a table, or
+-- is a table that may be shown as a list.
+abbrev pub PagesShow : Type 0
+PagesShow = (rules : LineRules) (ascii : Bool) (width : ℕ) (page : List SectionContent) (rows : List RowContent) → 3 ≤ width → width < 2 ^ 64 - 1
+    → IsPageAt rules ascii (Some width) page rows → EachBecomes (λ (section : SectionContent) (own : List RowContent). IsTableOrNone section → ShowSection section own) page rows
+
+-- So those of each text of Markdown show all of its sections.
 abbrev pub MarkdownIsKept : Type 0
 MarkdownIsKept = (source : List ℕ) (rules : LineRules) (ascii : Bool) (width : ℕ) (rows : List RowContent) → 3 ≤ width → width < 2 ^ 64 - 1
     → IsPageAt rules ascii (Some width) (markdown_sections source) rows → EachBecomes ShowSection (markdown_sections source) rows

@@ -1,7 +1,7 @@
 //! Laws of pages and of Markdown, each the contract of a small function: no character is lost between what is read and the rows that are shown.
 #![tactic(auto)]
 
-ghost use Rattle.markdown_page_laws.specs.KeptMarkdown.{MarkdownIsKept};
+ghost use Rattle.markdown_page_laws.specs.KeptMarkdown.{MarkdownIsKept, PagesShow};
 ghost use Rattle.markdown_page_laws.specs.KeptOutput.{AreasShow, DrawingShows, WritingShows};
 ghost use Rattle.markdown_page_laws.specs.KeptPages.{PagesKeep};
 ghost use Rattle.markdown_page_laws.specs.TableSections.{TablesMayBeLists};
@@ -9,6 +9,11 @@ ghost use Rattle.markdown_page_laws.specs.TableSections.{TablesMayBeLists};
 /// The rows of a page keep the flagged characters of the sections that are shown, line by line and cell by cell, in order and on the fewest rows.
 pub fn pages_keep()
     ensures { PagesKeep }
+{}
+
+/// So they show each character that isn't whitespace once, in order. A table is there with all of its cells, or as the list of them, where its section may be one.
+pub fn pages_show()
+    ensures { PagesShow }
 {}
 
 /// A section of Markdown has no row of a table, or is a table that may be shown as a list.
