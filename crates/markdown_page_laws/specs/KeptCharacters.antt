@@ -53,8 +53,7 @@ pub record KeepTableRow (rules : LineRules) (room count : ℕ) (cells : List Sty
   pub all : 4 * count + 1 ≤ room → length cells ≤ length widths
   pub cells_kept : KeepCells rules widths cells (cells_of_rows rows)
 
--- What keeps a line in a room, where no row of its table has more than so many cells: a composite is kept by its rows; a row of a table by rows of a table; a
--- rule is one row.
+-- What keeps a line in a room, where its table has at most so many columns. A composite and a row of a table are kept by their rows; a rule is one row.
 abbrev pub IsLineKept : LineRules → ℕ → ℕ → LineContent → List FmtLine → Type 0
 IsLineKept rules room count (normal said) own =
     (rows : List FmtComposite) × (own ≡ map Normal rows) × AreRowsOf (room_at_width rules room said) (marked_parts said) (map text_of rows)

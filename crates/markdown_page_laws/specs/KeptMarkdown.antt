@@ -45,8 +45,8 @@ text_at (suc i) (text ∷ texts) = text_at i texts
 
 -- ---- lines
 
--- Rows show a line: of each of its cells each character that isn't whitespace is in the cell of the same number of these rows, once and in order from the top to
--- the bottom, and nothing else is.
+-- Rows show a line: each of its cells is in the cells of the same number of these rows, from the top to the bottom. Each character that isn't whitespace is there
+-- once, in order, with its flags, and no other is.
 abbrev pub IsShownBy : LineContent → List FmtLine → Type 0
 IsShownBy line rows = (i : ℕ) → flat_map (λ (row : FmtLine). solid (text_at i (texts_in row))) rows ≡ solid (text_at i (texts_said line))
 
@@ -54,8 +54,7 @@ IsShownBy line rows = (i : ℕ) → flat_map (λ (row : FmtLine). solid (text_at
 abbrev pub solid_in : List FmtLine → List FlaggedChar
 solid_in rows = flat_map (λ (row : FmtLine). flat_map solid (texts_in row)) rows
 
--- Rows show the item of a table's row below these heads: each of its lines, which are a paragraph for each cell that isn't empty, behind the label of its own
--- head. So their characters are those of the cells and of the labels, each once and in order.
+-- Rows show the item of a table's row below these heads. They show its lines: a paragraph for each cell that isn't empty, behind the label of its own head. So their characters are those of the cells and of the labels, each once and in order.
 pub record ShowItem (heads cells : List StyledRuns) (rows : List RowContent) : Type 0 where
   pub lines : List LineContent
   pub said : KeepsRow heads cells lines
@@ -73,8 +72,8 @@ pub record ShowList (table : List LineContent) (rows : List RowContent) : Type 0
 abbrev pub ShowSection : SectionContent → List RowContent → Type 0
 ShowSection section rows = EachBecomes IsShownBy section.lines (lines_of_rows rows) ⊎ ShowList section.lines rows
 
--- The rows of each page, at each width of three columns or more, fall into those of its sections, one after the other, and show each that has no row of a table, or
--- is a table that may be shown as a list.
+-- The rows of each page, from three columns on and at fewer than 2^64 - 1, fall into those of its sections, one after the other. They show each section without a
+-- row of a table, and each table that may be shown as a list.
 abbrev pub PagesShow : Type 0
 PagesShow = (rules : LineRules) (ascii : Bool) (width : ℕ) (page : List SectionContent) (rows : List RowContent) → 3 ≤ width → width < 2 ^ 64 - 1
     → IsPageAt rules ascii (Some width) page rows → EachBecomes (λ (section : SectionContent) (own : List RowContent). IsTableOrNone section → ShowSection section own) page rows

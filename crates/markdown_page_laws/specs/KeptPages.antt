@@ -26,7 +26,7 @@ pub record KeepsSection (rules : LineRules) (ascii : Bool) (width : ℕ) (sectio
 abbrev pub KeepsShown : LineRules → Bool → ℕ → SectionContent → List RowContent → Type 0
 KeepsShown rules ascii width section rows = EachBecomes (KeepsSection rules ascii width) (unfolded rules.whole_words ascii (Some width) section) rows
 
--- The rows of each page, at each width of three columns or more, fall into those of the sections that are shown, one after the other, and keep these.
+-- The rows of each page, from three columns on and at fewer than 2^64 - 1, fall into those of the sections that are shown, one after the other. They keep these.
 abbrev pub PagesKeep : Type 0
 PagesKeep = (rules : LineRules) (ascii : Bool) (width : ℕ) (page : List SectionContent) (rows : List RowContent) → 3 ≤ width → width < 2 ^ 64 - 1
     → IsPageAt rules ascii (Some width) page rows → EachBecomes (KeepsShown rules ascii width) page rows

@@ -6,7 +6,7 @@ ghost use Rattle.markdown_page_laws.specs.KeptOutput.{AreasShow, DrawingShows, W
 ghost use Rattle.markdown_page_laws.specs.KeptPages.{PagesKeep};
 ghost use Rattle.markdown_page_laws.specs.TableSections.{TablesMayBeLists};
 
-/// The rows of a page keep the flagged characters of the sections that are shown, line by line and cell by cell, in order and on the fewest rows.
+/// The rows of a page keep the flagged characters of the sections that are shown, in order and on the fewest rows.
 pub fn pages_keep()
     ensures { PagesKeep }
 {}
@@ -21,7 +21,7 @@ pub fn tables_may_be_lists()
     ensures { TablesMayBeLists }
 {}
 
-/// The rows of a text of Markdown show each character of what was read that isn't whitespace once, in order, and nothing else but labels of lists.
+/// The rows of a text of Markdown show each character of its sections that isn't whitespace once, in order. Else they show labels of lists alone.
 pub fn markdown_is_kept()
     ensures { MarkdownIsKept }
 {}
