@@ -8,9 +8,9 @@ use Rattle.mad_sections.specs.Sections.{SectionContent, section_content}
 use Rattle.mad_sections.specs.declared.gutters.Gutter.{Gutter}
 use Rattle.mad_sections.specs.declared.gutters.Gutter.TheVariants.{Below, Signs}
 use Rattle.mad_dressing.specs.declared.heading_marks.HeadingMarks.{HeadingMarks}
-use Rattle.mad_dressing.specs.declared.dressing.Dressing.{Dressing}
-use Rattle.mad_dressing.specs.declared.dressing.Dressing.TheVariants as dressing
-use Rattle.mad_dressing.specs.declared.dressed.Dressed.{Dressed}
+use Rattle.mad_dressing.specs.declared.dressings.Dressing.{Dressing}
+use Rattle.mad_dressing.specs.declared.dressings.Dressing.TheVariants as dressing
+use Rattle.mad_dressing.specs.declared.dressed_sections.Dressed.{Dressed}
 
 -- ---- headings
 

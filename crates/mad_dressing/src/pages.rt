@@ -4,8 +4,8 @@ ghost use Rattle.std.specs.Prelude.{◌≡◌, ◌++◌, IfOk, OnOk, map};
 ghost use Rattle.mad_sections.specs.Sections.{page_content, section_content};
 ghost use Rattle.mad_dressing.specs.Dressed.{dressed_by, dressed_by_each, put_of, put_with};
 
-use crate::dressed::dress;
-use crate::dressing::{Dressing, dressing_of};
+use crate::dressed_sections::dress;
+use crate::dressings::{Dressing, dressing_of};
 use crate::heading_marks::HeadingMarks;
 use mad_sections::{Page, Section};
 use std::alloc::{AllocError, Global};

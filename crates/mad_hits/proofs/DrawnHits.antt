@@ -1,6 +1,6 @@
 -- Hits that are drawn in turn.
-use Rattle.std.proofs.Common.{◌≡◌, ℕ, ◌+◌, ◌-◌, ◌^◌, ◌<◌, ◌≤◌, min, List, [], ◌∷◌, ◌++◌, map, take, length, get_or, refl, ap, sym, ◌∙◌, subst, arith, append_assoc}
-use Rattle.std.proofs.lemmas.List.{append-nil, map_more}
+use Rattle.std.proofs.Common.{◌≡◌, ℕ, ◌+◌, ◌-◌, ◌^◌, ◌<◌, ◌≤◌, min, List, [], ◌∷◌, ◌++◌, map, refl, ap, sym, ◌∙◌, subst, arith, append_assoc}
+use Rattle.std.proofs.lemmas.List.{append-nil}
 use Rattle.std.specs.List.{AllByRecursion}
 use Rattle.mad_draw.specs.Pieces.{AreKnown, char_piece}
 use Rattle.mad_style.specs.declared.styled_chars.StyledChar.{StyledChar}
@@ -12,9 +12,8 @@ use Rattle.mad_style.specs.StyledChars.{char_alone, char_style}
 use Rattle.mad_term.specs.Trace.{Trace, TookWith, after}
 use Rattle.mad_wrap.specs.WrapLines.{capped}
 use Rattle.mad_hits.proofs.TookLemmas.{known, took_so}
-use Rattle.mad_hits.specs.Hits.{Marked, marked_of}
+use Rattle.mad_hits.specs.Hits.{Marked}
 use Rattle.mad_hits.specs.Drawn.{AreHitsShown, IsHitShown, hit_area, hit_row, marked_columns}
-use Rattle.mad_hits.specs.declared.hits.Hit.{Hit}
 
 -- the colors of a character are known
 abbrev pub IsKnownChar : StyledChar → Type 0
@@ -55,9 +54,3 @@ hits_more width y (h ∷ hits) hit a b (first, others, are, shown, rest) here = 
   shown,
   hits_more width y hits hit others b rest here,
 )
-
--- the hit of the next index is drawn
-pub hit_more : (width y : ℕ) (hits : List Hit) (i : ℕ) (d : Hit) (a b : List ℕ) → i < length hits → AreHitsShown width y (map marked_of (take i hits)) a → IsHitShown width y (marked_of (get_or hits i d)) b
-    → AreHitsShown width y (map marked_of (take (i + 1) hits)) (a ++ b)
-hit_more width y hits i d a b inside so here =
-    subst (λ (m : List Marked). AreHitsShown width y m (a ++ b)) (sym (map_more marked_of hits i d inside)) (hits_more width y (map marked_of (take i hits)) (marked_of (get_or hits i d)) a b so here)

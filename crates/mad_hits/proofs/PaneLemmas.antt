@@ -1,6 +1,5 @@
 -- Rows of a page that are drawn beside a bar.
-use Rattle.std.proofs.Common.{◌≡◌, ℕ, ◌-◌, List, drop, length, min, Option, refl, ap, ◌∙◌, subst}
-use Rattle.std.specs.List.{range_with_len}
+use Rattle.std.proofs.Common.{◌≡◌, ℕ, List, drop, Option, ap, ◌∙◌, subst}
 use Rattle.mad_term.specs.Trace.{Trace, TookWith, after}
 use Rattle.mad_draw.specs.BarsApart.{AreShownBeside, FillBeside}
 use Rattle.mad_draw.specs.BesideBar.{columns_beside}
@@ -8,11 +7,10 @@ use Rattle.mad_draw.specs.Pieces.{RowPiece}
 use Rattle.mad_draw.specs.declared.scroll_bars.ScrollBar.{ScrollBar}
 use Rattle.mad_format.specs.declared.line.FmtLine.{FmtLine}
 use Rattle.mad_rows.specs.declared.row_skin.RowSkin.{RowSkin}
-use Rattle.mad_hits.proofs.TookLemmas.{known, took_in_turn}
+use Rattle.mad_hits.proofs.TookLemmas.{known}
 use Rattle.mad_pages.specs.declared.fronts.Front.{Front}
-use Rattle.mad_hits.specs.FrontHits.{AreRowsMarked}
 use Rattle.mad_hits.specs.FrontRows.{page_row}
-use Rattle.mad_hits.specs.Panes.{ArePageRowsDrawn, IsPageDrawn, page_rows, whole_area}
+use Rattle.mad_hits.specs.Panes.{ArePageRowsDrawn, page_rows, whole_area}
 
 rows_are : (skin : RowSkin) (bar : Option ScrollBar) (lines : List FmtLine) (fs : List Front) (top width : ℕ) (shown : List FmtLine) (front : List Front) (wide : ℕ) → shown ≡ drop top lines → front ≡ drop top fs → wide ≡ columns_beside bar width
     → page_row skin wide shown front ≡ page_rows skin bar lines fs top width

@@ -1,23 +1,16 @@
 -- The hits of rows, row by row, and where what is sought goes over a break.
-use Rattle.std.proofs.Common.{◌≡◌, ◌≢◌, ℕ, zero, suc, ◌+◌, ◌<◌, ◌≤◌, ◌==◌, Bool, true, false, ◌&&◌, List, [], ◌∷◌, ◌++◌, cond, drop, length, get_or, map, below_more, refl, ap, sym, ◌∙◌, subst, inl, inr, arith, append_assoc}
+use Rattle.std.proofs.Common.{◌≡◌, ◌≢◌, ℕ, zero, suc, ◌+◌, ◌<◌, ◌≤◌, ◌==◌, Bool, true, false, ◌&&◌, List, [], ◌∷◌, ◌++◌, cond, drop, length, get_or, below_more, refl, ap, sym, ◌∙◌, inl, inr, arith}
 use Rattle.std.specs.Prelude.{chars, slice_index}
 use Rattle.std.specs.List.{filter, range_with_len}
 use Rattle.std.proofs.lemmas.Bool.Decides.{nat_tests}
 use Rattle.std.proofs.lemmas.Bool.{cases_lt}
 use Rattle.std.proofs.lemmas.List.{append-nil, get_or_past, map-id}
 use Rattle.std.proofs.lemmas.List.Elements.{filter-append}
-use Rattle.std.proofs.lemmas.List.FromFn.{length-range_with_len, map-range_with_len_more}
-use Rattle.mad_term.specs.Trace.{Trace, TookWith}
+use Rattle.std.proofs.lemmas.List.FromFn.{map-range_with_len_more}
 use Rattle.mad_format.specs.declared.line.FmtLine.{FmtLine}
-use Rattle.mad_rows.specs.declared.row_skin.RowSkin.{RowSkin}
 use Rattle.mad_search.specs.Breaks.{goes_over}
 use Rattle.mad_search.specs.Searches.{text_after}
-use Rattle.mad_hits.specs.Drawn.{AreHitsShown}
-use Rattle.mad_hits.specs.Hits.{Marked, marked_of}
 use Rattle.mad_hits.specs.Overs.{overs, overs_above, overs_below, overs_between}
-use Rattle.mad_hits.specs.Parts.{AreRowHits, AreRowsMarked, IsRowMarked}
-use Rattle.mad_hits.specs.declared.hits.Hit.{Hit}
-use Rattle.mad_hits.proofs.TookLemmas.{took_so}
 
 -- ---- numbers in a row
 
@@ -106,33 +99,3 @@ none_between sought letters above below spelt none =
 pub above_is : (sought : List ℕ) (lines : List FmtLine) (starts : List ℕ) (row before : ℕ) → before + 1 ≡ row → overs_above sought lines starts row ≡ overs_below sought lines starts before
 above_is sought lines starts zero before e = absurd (omega (arith, e))
 above_is sought lines starts (suc r) before e = let same : r ≡ before = omega (arith, e) in ap (overs_below sought lines starts) same
-
--- ---- rows that are marked
-
--- the hits of a row that were drawn in its place mark the row
-pub row_marked : (skin : RowSkin) (width : ℕ) (sought : List ℕ) (lines : List FmtLine) (starts : List ℕ) (y row : ℕ) (hits given : List Hit) (old new : Trace) → given ≡ hits
-    → AreRowHits skin width sought lines starts row (map marked_of hits) → TookWith old new (AreHitsShown width y (map marked_of given)) → TookWith old new (IsRowMarked skin width sought lines starts y row)
-row_marked skin width sought lines starts y row hits given old new same are shown =
-    took_so old new (AreHitsShown width y (map marked_of given)) (IsRowMarked skin width sought lines starts y row)
-    (λ text h. record { hits = map marked_of hits; are = are; shown = subst (λ (l : List Hit). AreHitsShown width y (map marked_of l) text) same h }) shown
-
-rows_more : (skin : RowSkin) (width : ℕ) (sought : List ℕ) (lines : List FmtLine) (starts : List ℕ) (y n : ℕ) (rows : List ℕ) (row : ℕ) (a b : List ℕ) → n ≡ y + length rows
-    → AreRowsMarked skin width sought lines starts y rows a → IsRowMarked skin width sought lines starts n row b → AreRowsMarked skin width sought lines starts y (rows ++ row ∷ []) (a ++ b)
-rows_more skin width sought lines starts y n [] row a b at none here =
-    let same : n ≡ y = omega (arith, at) in
-    (b, [], ap (λ (l : List ℕ). l ++ b) none ∙ sym (append-nil b), subst (λ (k : ℕ). IsRowMarked skin width sought lines starts k row b) same here, refl)
-rows_more skin width sought lines starts y n (r ∷ rows) row a b at (first, others, are, marked, rest) here = (
-  first,
-  others ++ b,
-  ap (λ (s : List ℕ). s ++ b) are ∙ append_assoc first others b,
-  marked,
-  rows_more skin width sought lines starts (y + 1) n rows row others b (omega (arith, at)) rest here,
-)
-
--- a row more
-pub row_more : (skin : RowSkin) (width : ℕ) (sought : List ℕ) (lines : List FmtLine) (starts : List ℕ) (top y row : ℕ) (a b : List ℕ) → row ≡ top + y
-    → AreRowsMarked skin width sought lines starts 0 (range_with_len top y) a → IsRowMarked skin width sought lines starts y row b → AreRowsMarked skin width sought lines starts 0 (range_with_len top (y + 1)) (a ++ b)
-row_more skin width sought lines starts top y row a b at so here =
-    let long : length (range_with_len top y) ≡ y = length-range_with_len top y in
-    subst (λ (rows : List ℕ). AreRowsMarked skin width sought lines starts 0 rows (a ++ b)) (sym (range_more top y (top + y) refl))
-    (rows_more skin width sought lines starts 0 y (range_with_len top y) (top + y) a b (omega (arith, long)) so (subst (λ (r : ℕ). IsRowMarked skin width sought lines starts y r b) at here))

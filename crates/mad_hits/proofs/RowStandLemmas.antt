@@ -1,5 +1,5 @@
 -- All hits of a row stand in it, those of a table's row too.
-use Rattle.std.proofs.Common.{◌≡◌, ℕ, ◌+◌, ◌-◌, ◌^◌, ◌<◌, Bool, true, false, List, [], ◌∷◌, ◌++◌, map, length, Option, Some, None, refl, ap, sym, ◌∙◌, subst, arith, append_assoc}
+use Rattle.std.proofs.Common.{◌≡◌, ℕ, ◌+◌, ◌-◌, ◌^◌, ◌<◌, true, false, List, [], ◌∷◌, ◌++◌, map, length, Option, Some, None, refl, ap, sym, ◌∙◌, subst, arith, append_assoc}
 use Rattle.std.specs.Prelude.{chars, slice_get}
 use Rattle.std.specs.List.{AllByRecursion, flat_map}
 use Rattle.std.proofs.lemmas.List.{append-nil, map-append}
@@ -185,7 +185,7 @@ hits_change_no_character skin width sought lines front starts row hits line is n
     let sides = faces_fill skin front.gutters front.fresh faces_shown counted.typed in
     let same : page_row_pieces skin (Some width) true (row_behind front line) ≡ f ++ (line_pieces inner (Some rest) true line ++ b) = refl in
     let row_shown : AreShownPieces (f ++ (line_pieces inner (Some rest) true line ++ b)) = all_joined IsShownPiece f _ sides.front.shown (all_joined IsShownPiece _ b shown sides.back.shown) in
-    amid_stand inner width rest (fronts skin front.gutters) sought lines starts row hits line f b is narrow sides.front.columns counted.line row_shown h
+    amid_stand inner width rest (fronts skin front.gutters) sought lines starts row hits line f b is narrow sides.front.columns counted.counts row_shown h
 
 pub drawn_hits_stand : DrawnHitsStand
 drawn_hits_stand skin width sought lines fs starts y [] bytes narrow faces_shown marked = tt

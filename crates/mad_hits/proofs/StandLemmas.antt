@@ -1,5 +1,5 @@
 -- Hits stand in their rows: the cells where they are drawn have their characters.
-use Rattle.std.proofs.Common.{◌≡◌, ℕ, zero, suc, ◌+◌, ◌-◌, ◌==◌, ◌^◌, ◌<◌, Bool, true, false, List, [], ◌∷◌, ◌++◌, map, take, drop, length, Option, Some, refl, ap, sym, ◌∙◌, subst, arith, append_assoc, length-append}
+use Rattle.std.proofs.Common.{◌≡◌, ℕ, zero, suc, ◌+◌, ◌==◌, ◌^◌, ◌<◌, Bool, true, false, List, [], ◌∷◌, ◌++◌, map, take, drop, length, Option, Some, refl, ap, sym, ◌∙◌, subst, arith, append_assoc, length-append}
 use Rattle.std.specs.Prelude.{chars, if◌then◌else◌, replicate}
 use Rattle.std.specs.List.{AllByRecursion, flat_map}
 use Rattle.std.proofs.lemmas.Bool.Decides.{nat_tests}
@@ -29,7 +29,7 @@ use Rattle.mad_rows.specs.RowStyles.{compound_style, line_style}
 use Rattle.mad_rows.specs.Rows.{composite_pieces, compound_piece, inner_blanks, outer_blanks, prefix_pieces}
 use Rattle.mad_rows.specs.declared.row_skin.RowSkin.{RowSkin}
 use Rattle.mad_hits.specs.Drawn.{marked_columns}
-use Rattle.mad_hits.specs.HitLaws.{HasIndent, StandsIn, StandsWithin, cell_chars, penned}
+use Rattle.mad_hits.specs.HitLaws.{HasIndent, StandsWithin, cell_chars, penned}
 use Rattle.mad_hits.specs.Hits.{Marked, marked_at, span, text_column, widthless}
 use Rattle.mad_hits.specs.Styled.{reversed, styled_compound, styled_text}
 

@@ -62,7 +62,7 @@ IsCounted skin line = Unit {0}
 -- what the columns of a row behind a front are counted by: its gutters are as their type promises, and so are the columns of its line
 pub record IsCountedRow (skin : RowSkin) (front : FrontContent) (line : FmtLine) : Type 0 where
   pub typed : AllByRecursion IsTypedGutter front.gutters
-  pub line : IsCounted (line_skin skin front.gutters) line
+  pub counts : IsCounted (line_skin skin front.gutters) line
 
 -- these hits of a line stand in its row of `width` columns behind a front
 abbrev pub StandInRow : RowSkin → ℕ → FrontContent → FmtLine → List Marked → Type 0

@@ -21,4 +21,3 @@ item_more said done new whole x xs h e =
 pub items_all : {A : Type 0} (said : ℕ → A → List LineContent) (done : List Line) (whole : List LineContent) (xs : List A)
     → map content_of done ++ items_by said (length done) xs ≡ whole → xs ≡ [] → map content_of done ≡ whole
 items_all {A = A} said done whole xs h none = sym (append-nil (map content_of done)) ∙ (ap (λ (l : List A). map content_of done ++ items_by said (length done) l) (sym none) ∙ h)
-

@@ -36,7 +36,8 @@ use Rattle.mad_page_json.specs.PageWriting.{page_data, with_headings, with_parts
 use Rattle.mad_page_json.specs.Parts.{char_parts, style_parts}
 use Rattle.mad_page_json.specs.declared.named.Named.{Named}
 
-both_true : (a b : Bool) → (a && b) ≡ true → (a ≡ true) × (b ≡ true)
+-- both of two that are true together are true
+pub both_true : (a b : Bool) → (a && b) ≡ true → (a ≡ true) × (b ≡ true)
 both_true true b h = (refl, h)
 both_true false b h = absurd (false≢true h)
 
@@ -53,7 +54,7 @@ found_first : (k : List ℕ) (d : Data) (ms : Members) → get_member k (member 
 found_first k d ms = ap (λ (o : Ordering). match_ordering o (get_member k ms) (Some d) (get_member k ms)) (same_key k)
 
 -- what was put under a key is found there
-get_same : (k : List ℕ) (d : Data) (ms : Members) → get_member k (put k d ms) ≡ Some d
+pub get_same : (k : List ℕ) (d : Data) (ms : Members) → get_member k (put k d ms) ≡ Some d
 get_same k d no_members = found_first k d no_members
 get_same k d (member l e ms) =
     elim (slice_cmp nat_cmp k l) as (λ o. slice_cmp nat_cmp k l ≡ o → get_member k (match_ordering o (member k d (member l e ms)) (member l d ms) (member l e (put k d ms))) ≡ Some d) [

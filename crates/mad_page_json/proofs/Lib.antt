@@ -1,2 +1,3 @@
 pub mod BackLemmas
 pub mod LoopLemmas
+pub mod WholeLemmas

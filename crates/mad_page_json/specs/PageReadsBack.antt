@@ -1,12 +1,13 @@
 -- The skins whose parts of a page read back equal from what they are written as.
-use Rattle.std.specs.Prelude.{◌≡◌, ℕ, ◌<◌, List, Ok}
+use Rattle.std.specs.Prelude.{◌≡◌, ℕ, ◌<◌, List, [], Ok}
 use Rattle.std.specs.List.{AllByRecursion}
 use Rattle.serde_json.specs.Data.{Data}
 use Rattle.mad_style.specs.declared.compound_styles.CompoundStyle.{CompoundStyle}
 use Rattle.mad_style.specs.declared.styled_chars.StyledChar.{StyledChar}
 use Rattle.mad_parse.specs.ReadsBack.{IsReadBackChar, IsReadBackStyle}
 use Rattle.mad_page_skin.specs.declared.page_skin.PageSkin.{PageSkin}
-use Rattle.mad_page_json.specs.PageReading.{page_under}
+use Rattle.mad_json.specs.ReadsBack.{IsReadBackSkin}
+use Rattle.mad_page_json.specs.PageReading.{page_skin_read, page_under}
 use Rattle.mad_page_json.specs.Parts.{char_parts, style_parts}
 
 -- a skin whose styles and characters read back; the number of levels with rules is a byte
@@ -18,3 +19,7 @@ pub record IsReadBackPage (skin : PageSkin) : Type 0 where
 -- such a skin is read of that value, from any skin of the same text
 abbrev pub PageReadsBack : PageSkin → Data → Type 0
 PageReadsBack skin d = IsReadBackPage skin → (old : PageSkin) → old.text ≡ skin.text → page_under old d ≡ Ok skin
+
+-- where its text's skin reads back too, the whole is read of that value, and no key is unknown
+abbrev pub PageSkinReadsBack : PageSkin → Data → Type 0
+PageSkinReadsBack skin d = IsReadBackSkin skin.text → IsReadBackPage skin → page_skin_read d ≡ Ok (skin, [])

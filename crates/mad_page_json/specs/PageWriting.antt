@@ -1,9 +1,9 @@
 -- The value that the parts of a page's skin are written as.
-use Rattle.std.specs.Prelude.{ℕ, List, [], ◌∷◌, codes}
+use Rattle.std.specs.Prelude.{◌≡◌, ℕ, List, [], ◌∷◌, codes}
 use Rattle.serde_json.specs.Data.{Data, Members, boolean, no_members, number, object, put, unsigned}
 use Rattle.mad_dressing.specs.declared.heading_marks.HeadingMarks.{HeadingMarks}
 use Rattle.mad_page_skin.specs.declared.page_skin.PageSkin.{PageSkin}
-use Rattle.mad_json.specs.Written.{char_data, style_data}
+use Rattle.mad_json.specs.Written.{IsDataOf, char_data, style_data}
 use Rattle.mad_page_json.specs.Parts.{char_parts, style_parts}
 
 -- members with parts, each under its key
@@ -18,3 +18,12 @@ with_headings headings members = put (codes "signs") (boolean headings.signs) (p
 -- the object of a skin
 abbrev pub page_data : PageSkin → Data
 page_data skin = object (with_parts style_data (style_parts skin) (with_parts char_data (char_parts skin) (with_headings skin.headings no_members)))
+
+-- an object with that of a page beside its other members
+abbrev pub with_page : Data → Data → Data
+with_page (object members) page = object (put (codes "page") page members)
+with_page d page = d
+
+-- a value is that of a skin: the value of its text's skin, with the object of its page
+abbrev pub IsPageDataOf : PageSkin → Data → Type 0
+IsPageDataOf skin d = (text : Data) × IsDataOf skin.text text × (d ≡ with_page text (page_data skin))

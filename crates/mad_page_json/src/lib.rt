@@ -1,4 +1,4 @@
-//! The skins of pages as JSON values: the object `page` beside the keys of the other Markdown's skin.
+//! The skins of pages as JSON values: the object `page` beside the keys of the smaller grammar's skin.
 //!
 //! In the order of the work:
 //!
@@ -15,4 +15,4 @@ pub mod reading;
 pub mod writing;
 
 pub use reading::{page_from_value, page_skin_from_value};
-pub use writing::page_to_value;
+pub use writing::{page_skin_to_value, page_to_value};

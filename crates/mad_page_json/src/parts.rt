@@ -14,25 +14,25 @@ pub fn style_parts(skin: &PageSkin) -> [Named<CompoundStyle>; 19]
     ensures { map named_said result ≡ style_parts skin.now }
 {
     [
-        named("caution", skin.titles.caution),
-        named("code_comment", skin.code.comment),
-        named("code_deleted", skin.code.deleted),
-        named("code_inserted", skin.code.inserted),
-        named("code_key", skin.code.key),
-        named("code_keyword", skin.code.keyword),
-        named("code_name", skin.code.name),
-        named("code_number", skin.code.number),
-        named("code_string", skin.code.string),
-        named("head", skin.head),
-        named("hit", skin.hit),
-        named("important", skin.titles.important),
-        named("link", skin.link),
-        named("note", skin.titles.note),
-        named("number", skin.number),
-        named("picture", skin.picture),
-        named("status", skin.status),
-        named("tip", skin.titles.tip),
-        named("warning", skin.titles.warning),
+        under_key("caution", skin.titles.caution),
+        under_key("code_comment", skin.code.comment),
+        under_key("code_deleted", skin.code.deleted),
+        under_key("code_inserted", skin.code.inserted),
+        under_key("code_key", skin.code.key),
+        under_key("code_keyword", skin.code.keyword),
+        under_key("code_name", skin.code.name),
+        under_key("code_number", skin.code.number),
+        under_key("code_string", skin.code.string),
+        under_key("head", skin.head),
+        under_key("hit", skin.hit),
+        under_key("important", skin.titles.important),
+        under_key("link", skin.link),
+        under_key("note", skin.titles.note),
+        under_key("number", skin.number),
+        under_key("picture", skin.picture),
+        under_key("status", skin.status),
+        under_key("tip", skin.titles.tip),
+        under_key("warning", skin.titles.warning),
     ]
 }
 
@@ -41,21 +41,21 @@ pub fn char_parts(skin: &PageSkin) -> [Named<StyledChar>; 10]
     ensures { map named_said result ≡ char_parts skin.now }
 {
     [
-        named("below_first", skin.page.below_first),
-        named("below_others", skin.page.below_others),
-        named("caution_bar", skin.page.caution),
-        named("done", skin.page.done),
-        named("important_bar", skin.page.important),
-        named("note_bar", skin.page.note),
-        named("sign", skin.sign),
-        named("task", skin.page.task),
-        named("tip_bar", skin.page.tip),
-        named("warning_bar", skin.page.warning),
+        under_key("below_first", skin.page.below_first),
+        under_key("below_others", skin.page.below_others),
+        under_key("caution_bar", skin.page.caution),
+        under_key("done", skin.page.done),
+        under_key("important_bar", skin.page.important),
+        under_key("note_bar", skin.page.note),
+        under_key("sign", skin.sign),
+        under_key("task", skin.page.task),
+        under_key("tip_bar", skin.page.tip),
+        under_key("warning_bar", skin.page.warning),
     ]
 }
 
 // A part and its key.
-fn named<S>(key: &'static str, part: S) -> Named<S>
+fn under_key<S>(key: &'static str, part: S) -> Named<S>
     ensures { named_said result ≡ (key.now, part) }
 {
     Named { key, part }

@@ -15,10 +15,10 @@ use mad_style::{CompoundStyle, StyledChar};
 use serde_json::{Map, Value};
 use std::alloc::{AllocError, Global};
 
-/// The skin that a value says: the keys of the other Markdown's skin, and an object `page` beside them. The keys that name no part of it come with
+/// The skin that a value says: the keys of the smaller grammar's skin, and an object `page` beside them. The keys that name no part of it come with
 /// it, those of the page last.
 ///
-/// What no key names looks as in the skin of the other Markdown.
+/// What no key names looks as in the skin of the smaller grammar.
 ///
 /// # Errors
 ///

@@ -7,16 +7,46 @@ ghost use Rattle.serde_json.specs.View.{members_view, view};
 ghost use Rattle.mad_json.specs.Written.{text_data};
 ghost use Rattle.mad_parse.specs.Written.{tokens_text};
 ghost use Rattle.mad_page_json.specs.Named.{named_said};
-ghost use Rattle.mad_page_json.specs.PageReadsBack.{PageReadsBack};
-ghost use Rattle.mad_page_json.specs.PageWriting.{page_data, with_headings, with_parts};
+ghost use Rattle.mad_page_json.specs.PageReadsBack.{PageReadsBack, PageSkinReadsBack};
+ghost use Rattle.mad_page_json.specs.PageWriting.{IsPageDataOf, page_data, with_headings, with_page, with_parts};
 
 use crate::named::Named;
 use crate::parts::{char_parts, style_parts};
 use mad_dressing::HeadingMarks;
+use mad_json::skin_to_value;
 use mad_page_skin::PageSkin;
 use mad_parse::PushStyleTokens;
 use serde_json::{Map, Value, put};
 use std::alloc::{AllocError, Global};
+
+/// The object that says a skin: the keys of the smaller grammar's skin, and under `page` the object of the page's parts.
+///
+/// # Errors
+///
+/// Out of memory.
+pub fn page_skin_to_value(alloc: Global, skin: &PageSkin) -> Result<Value, AllocError>
+    ensures value { IfOk result (λ value. IsPageDataOf skin.now (view value)) }
+    ensures reads_back { IfOk result (λ value. PageSkinReadsBack skin.now (view value)) }
+{
+    let text = skin_to_value(alloc, &skin.text)?;
+    let page = page_to_value(alloc, skin)?;
+    let value = with_page(alloc, text, page)?;
+    Ok(value)
+}
+
+// An object with that of a page beside its other members.
+fn with_page(alloc: Global, text: Value, page: Value) -> Result<Value, AllocError>
+    ensures { IfOk result (λ value. view value ≡ with_page (view text) (view page)) }
+{
+    match text {
+        Value::Object(members) => {
+            let mut members = members;
+            put(&mut members, alloc, "page", page)?;
+            Ok(object_of(members))
+        }
+        other => Ok(other),
+    }
+}
 
 /// The object that says the parts of a page's skin, each under its key. The skin of its text has an object of its own.
 ///

@@ -34,7 +34,7 @@ unstyled_code =
 abbrev pub page_row_skin : PageSkin → RowSkin
 page_row_skin skin = record (row_skin skin.text) { link = skin.link; whole_words = true; page = skin.page }
 
--- The skin of a page by that of the other Markdown: links look as there, headings have neither rules nor signs, and what is new has no style. In a
+-- The skin of a page by that of the smaller grammar: links look as there, headings have neither rules nor signs, and what is new has no style. In a
 -- pager numbers of links, hits and the last row are reversed.
 abbrev pub page_skin_of : MadSkin → PageSkin
 page_skin_of text =

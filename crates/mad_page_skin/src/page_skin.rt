@@ -45,7 +45,7 @@ pub struct PageSkin {
 }
 
 impl PageSkin {
-    /// The skin of a page that looks as a skin of the other Markdown does: links are underlined, where a flag of a compound adds anything, and
+    /// The skin of a page that looks as a skin of the smaller grammar does: links are underlined, where a flag of a compound adds anything, and
     /// headings have neither rules nor signs.
     pub fn of(text: &MadSkin) -> PageSkin
         ensures skin { result ≡ page_skin_of text.now }

@@ -3,6 +3,7 @@ use Rattle.std.proofs.Common.{◌≡◌, ◌⊎◌, inl, inr, ℕ, zero, suc, �
 use Rattle.std.specs.Prelude.{cond, count_by, slice_get}
 use Rattle.std.specs.List.{AllByRecursion}
 use Rattle.std.proofs.lemmas.Bool.Decides.{nat_tests}
+use Rattle.std.proofs.lemmas.List.Sums.{sum_by-cons}
 use Rattle.std.proofs.lemmas.Option.{same_Some}
 use Rattle.mad_measure.proofs.AllLemmas.{all_front, all_back}
 use Rattle.mad_draw.specs.BarsApart.{FillBeside}
@@ -68,9 +69,11 @@ begun_drawable skin width drawn end row [] rows ends three wider bound faces h k
 begun_drawable skin width drawn end row (section ∷ page) rows ends three wider bound faces (own, others, more, are, becomes, ends_are, h) keeps y r is above =
     let begun : nat_lt row end ≡ true = grind (arith, nat_tests, above) in
     let n : ℕ = count_by (λ start. nat_lt start end) ends in
+    let count_more : take (count_by (λ start. nat_lt start end) (row ∷ ends)) (section ∷ page) ≡ take (cond (nat_lt row end) 1 0 + n) (section ∷ page) =
+    ap (λ (m : ℕ). take m (section ∷ page)) (sum_by-cons (λ (start : ℕ). cond (nat_lt start end) 1 0) row ends) in
     let one : List SectionContent = unfolded (line_rules skin).whole_words (has_ascii_boxes skin) (Some width) section in
     let kept : AllByRecursion (KeepsRoom skin width) (sections_at skin width (section ∷ take n page)) =
-    subst (λ (p : List SectionContent). AllByRecursion (KeepsRoom skin width) (sections_at skin width p)) (one_begun (nat_lt row end) n section page begun) keeps in
+    subst (λ (p : List SectionContent). AllByRecursion (KeepsRoom skin width) (sections_at skin width p)) (count_more ∙ one_begun (nat_lt row end) n section page begun) keeps in
     let rest : AllByRecursion (KeepsRoom skin width) (sections_at skin width (take n page)) = all_back (KeepsRoom skin width) one (sections_at skin width (take n page)) kept in
     let here : AreDrawableBehind skin drawn own = shown_drawable skin width drawn one own three wider bound faces (all_front (KeepsRoom skin width) one (sections_at skin width (take n page)) kept) becomes in
     let got : slice_get (own ++ others) y ≡ Some r = ap (λ (l : List RowContent). slice_get l y) (sym are) ∙ is in

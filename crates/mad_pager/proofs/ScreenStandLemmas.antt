@@ -66,7 +66,7 @@ stand_from skin s y (suc n) row bytes wide short at fits narrow keeps marked =
     let inner : RowSkin = line_skin dress front.gutters in
     let rest : ℕ = width - columns_of (has_ascii_boxes dress) front.gutters in
     let stand : StandInRow dress width front line hits =
-    hits_change_no_character dress width s.sought lines front s.laid.parts.items row hits line marked.3.are.is narrow keeps.faces (record { typed = drawn.typed; line = counted inner rest line drawn.line }) (any_shown inner rest line drawn.line) marked.3.are in (
+    hits_change_no_character dress width s.sought lines front s.laid.parts.items row hits line marked.3.are.is narrow keeps.faces (record { typed = drawn.typed; counts = counted inner rest line drawn.line }) (any_shown inner rest line drawn.line) marked.3.are in (
       subst (λ (o : Option FmtLine). AllByRecursion (StandsWithin width (row_shown dress width (front_at (drop s.page.top s.laid.fronts.items) y) o)) placed) (sym shown_is)
           (subst (λ (f : FrontContent). AllByRecursion (StandsWithin width (row_shown dress width f (Some line))) placed) (sym front_is) stand),
       stand_from skin s (y + 1) n (row + 1) marked.1 wide short (omega (arith, at)) (omega (arith, fits)) narrow keeps marked.4,

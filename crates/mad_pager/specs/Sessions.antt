@@ -99,8 +99,8 @@ abbrev pub IsLaidFor : MadSkin → List SectionContent → ℕ → PagedPage →
 IsLaidFor skin page columns laid = IsPagedAt (line_rules (paged_skin skin)) (has_ascii_boxes (paged_skin skin)) (Some (layout_width columns)) page laid
 
 -- the start of a text on a screen of this size: its first row is on top, nothing is being typed and nothing is sought; these files are beside it
-pub record IsStart (skin : MadSkin) (page : List SectionContent) (columns rows : ℕ) (files : Files) (s : State) : Type 0 where
-  pub laid : IsLaidFor skin page columns s.laid
+pub record IsStart (skin : MadSkin) (text : List SectionContent) (columns rows : ℕ) (files : Files) (s : State) : Type 0 where
+  pub laid : IsLaidFor skin text columns s.laid
   pub page : s.page ≡ record { columns = columns; rows = rows; height = length s.laid.lines.items; top = 0; count = 0; holds_bar = false; has_colon = false; files = files }
   pub field : s.field ≡ new_field (field_row columns rows)
   pub is_typing : s.is_typing ≡ false
@@ -187,8 +187,8 @@ abbrev pub kept_row : ℕ → ℕ → List ℕ → List ℕ → ℕ → ℕ
 kept_row old_columns new_columns old new row = if new_columns == old_columns then row else row_in_parts old new row
 
 -- The screen has another size: the text is laid out for it, and what was on top stays there.
-pub record IsResized (skin : MadSkin) (page : List SectionContent) (columns rows : ℕ) (old new : State) : Type 0 where
-  pub laid : IsLaidFor skin page columns new.laid
+pub record IsResized (skin : MadSkin) (text : List SectionContent) (columns rows : ℕ) (old new : State) : Type 0 where
+  pub laid : IsLaidFor skin text columns new.laid
   pub page : new.page ≡ record old.page { columns = columns; rows = rows; height = length new.laid.lines.items; top = kept_row old.page.columns columns old.laid.starts.items new.laid.starts.items old.page.top }
   pub field : IsMovedTo (field_row columns rows) old.field new.field
   pub is_typing : new.is_typing ≡ old.is_typing
@@ -199,12 +199,12 @@ pub record IsResized (skin : MadSkin) (page : List SectionContent) (columns rows
 
 -- the text is laid out for the size that was told, if one was
 abbrev pub IsLaidAnew : Option ScreenSize → MadSkin → List SectionContent → State → State → Type 0
-IsLaidAnew None skin page s new = new ≡ s
-IsLaidAnew (Some size) skin page s new = IsResized skin page size.columns size.rows s new
+IsLaidAnew None skin text s new = new ≡ s
+IsLaidAnew (Some size) skin text s new = IsResized skin text size.columns size.rows s new
 
 -- a session is laid out for the size that it was told, if it was told one
 abbrev pub IsSettled : MadSkin → List SectionContent → State → State → Type 0
-IsSettled skin page s new = IsLaidAnew s.told skin page s new
+IsSettled skin text s new = IsLaidAnew s.told skin text s new
 
 -- a size that the terminal tells is remembered; one of more than a million cells isn't believed
 abbrev pub hears_size : ℕ → ℕ → State → State
@@ -222,10 +222,10 @@ pub record IsAnyKeyStep (key : KeyEvent) (s new : State) : Type 0 where
 
 -- what an event does
 abbrev pub IsEventStep : MadSkin → List SectionContent → Event → State → State → Type 0
-IsEventStep skin page (Key key) s new = IsAnyKeyStep key s new
-IsEventStep skin page (Mouse mouse) s new = new ≡ record s { page = after_mouse mouse s.page }
-IsEventStep skin page (Resize columns rows) s new = new ≡ hears_size columns rows s
-IsEventStep skin page event s new = new ≡ s
+IsEventStep skin text (Key key) s new = IsAnyKeyStep key s new
+IsEventStep skin text (Mouse mouse) s new = new ≡ record s { page = after_mouse mouse s.page }
+IsEventStep skin text (Resize columns rows) s new = new ≡ hears_size columns rows s
+IsEventStep skin text event s new = new ≡ s
 
 -- how the session goes on after what is asked for
 abbrev pub turn_asked : Ask → Turn

@@ -110,7 +110,12 @@ impl Session<'_> {
         ensures { result ≡ bar_of self.now.skin.now (state_of self.now) }
     {
         let area = text_area(self.page.columns, self.page.rows);
-        ScrollBar::beside(&area, self.page.top, height_of(&self.laid), self.skin.scrollbar)
+        ScrollBar::beside(
+            &area,
+            self.page.top,
+            height_of(&self.laid),
+            self.skin.scrollbar,
+        )
     }
 
     // Draws the text from its top row on, with links that one sees, and its bar by moves of its own.

@@ -201,11 +201,7 @@ impl<'s> Session<'s> {
         match over {
             Source::Contents(text, chosen) => {
                 let numbers = header_numbers(alloc, text)?;
-                Ok(row_at(
-                    numbers.as_slice(),
-                    self.laid.starts.as_slice(),
-                    chosen,
-                ))
+                Ok(row_at(numbers.as_slice(), self.laid.starts.as_slice(), chosen))
             }
             _ => Ok(None),
         }

@@ -1,5 +1,5 @@
 -- What an area shows of a page.
-use Rattle.std.proofs.Common.{◌≡◌, ℕ, zero, suc, ◌-◌, ◌^◌, ◌<◌, ◌≤◌, List, [], ◌∷◌, map, Result, Ok, Err, OnOk, sym, subst, arith}
+use Rattle.std.proofs.Common.{◌≡◌, ℕ, zero, suc, ◌-◌, ◌^◌, ◌<◌, ◌≤◌, List, [], ◌∷◌, map, Result, Ok, Err, OnOk, sym, subst}
 use Rattle.std.specs.List.{AllByRecursion}
 use Rattle.mad_term.specs.Trace.{Trace, TookWith}
 use Rattle.mad_measure.specs.declared.area.Area.{Area}

@@ -1,5 +1,5 @@
 -- Steady and printed sections keep what drawing asks of texts.
-use Rattle.std.proofs.Common.{◌≡◌, ◌⊎◌, ℕ, zero, suc, ◌-◌, ◌<◌, ◌≤◌, min, nat_lt, nat_le, not, ◌&&◌, ◌==◌, Bool, true, false, cond, if◌then◌else◌, List, [], ◌∷◌, ◌++◌, map, drop, length, Option, Some, None, ⊎_elim, refl, sym, subst, arith, append-nil}
+use Rattle.std.proofs.Common.{◌≡◌, ◌⊎◌, ℕ, ◌<◌, ◌≤◌, min, nat_lt, nat_le, not, ◌&&◌, ◌==◌, Bool, true, false, cond, if◌then◌else◌, List, [], ◌∷◌, ◌++◌, map, drop, length, Option, Some, None, ⊎_elim, refl, sym, subst, arith, append-nil}
 use Rattle.std.specs.Char.{is_control, is_whitespace}
 use Rattle.std.specs.List.{AllByRecursion, list_all}
 use Rattle.std.specs.Str.{IsUtf8, NonePass, NoCharPasses}
@@ -30,7 +30,7 @@ use Rattle.mad_blocks.specs.TextParts.{LineInPart, lines_in_parts}
 use Rattle.mad_layout.proofs.ColumnChars.{ascii_column}
 use Rattle.mad_measure.proofs.AllLemmas.{all_joined}
 use Rattle.mad_sections.specs.Gutters.{room_at}
-use Rattle.mad_sections.specs.Items.{paragraph, colon, label, cell_lines, row_lines, or_blank, item_lines, are_short, says_heads, items_of}
+use Rattle.mad_sections.specs.Items.{paragraph, colon, label, cell_lines, row_lines, or_blank, item_lines, says_heads, items_of}
 use Rattle.mad_sections.specs.Sections.{SectionContent}
 use Rattle.mad_sections.specs.TableTexts.{rows_in}
 use Rattle.mad_sections.specs.Unfolded.{lacks_room, list_sections, as_list, unfolded_in, unfolded}

@@ -1,6 +1,6 @@
 -- Each column that a table keeps has three columns of the terminal at least.
-use Rattle.std.proofs.Common.{◌≡◌, ℕ, zero, suc, ◌+◌, ◌-◌, ◌*◌, ◌/◌, ◌<◌, ◌≤◌, nat_le, max, Bool, true, false, ◌==◌, All, List, [], ◌∷◌, length, map, take, drop, replicate, get_or, sum, refl, sym, ap, ◌∙◌, subst, arith, if◌then◌else◌}
-use Rattle.std.specs.List.{AllByRecursion, flat_map}
+use Rattle.std.proofs.Common.{◌≡◌, ℕ, zero, suc, ◌+◌, ◌-◌, ◌*◌, ◌/◌, ◌<◌, ◌≤◌, nat_le, max, Bool, true, false, ◌==◌, List, [], ◌∷◌, length, map, drop, replicate, sum, refl, sym, ap, ◌∙◌, subst, arith, if◌then◌else◌}
+use Rattle.std.specs.List.{AllByRecursion}
 use Rattle.std.proofs.lemmas.Bool.Decides.{nat_tests}
 use Rattle.std.proofs.lemmas.List.{length-map}
 use Rattle.std.proofs.lemmas.List.Elements.{All-from_recursion}
@@ -9,7 +9,7 @@ use Rattle.mad_widths.specs.ColumnWidths.{Needs, needs_of, natural_widths, narro
 use Rattle.mad_widths.specs.Turns.{grants}
 use Rattle.mad_widths.specs.WordWidths.{least_of, raised, word_widths, AreRaised}
 use Rattle.mad_widths.proofs.EachLemmas.{length-each_with}
-use Rattle.mad_widths.proofs.ShareLemmas.{AreWide, LeaveThree, grants_fit, length-narrowed, get_or-narrowed, length-naturals, get_or-naturals, first_leave, second_leave}
+use Rattle.mad_widths.proofs.ShareLemmas.{AreWide, LeaveThree, grants_fit, length-narrowed, get_or-narrowed, length-naturals, first_leave, second_leave}
 use Rattle.mad_widths.proofs.WordLemmas.{least_are, raised_are, word_leave, word_requests}
 use Rattle.mad_blocks.specs.Tables.{first_columns, widths_by}
 use Rattle.mad_blocks.specs.TextParts.{columns_among}

@@ -1,5 +1,5 @@
 -- The rows of a page, section by section.
-use Rattle.std.proofs.Common.{◌≡◌, ℕ, ◌<◌, List, [], ◌∷◌, ◌++◌, length, Option, Some, None, slice_get, drop, refl, subst, ap, sym, ◌∙◌, append_assoc, append-nil, arith}
+use Rattle.std.proofs.Common.{◌≡◌, ℕ, ◌<◌, List, [], ◌∷◌, ◌++◌, length, Option, Some, None, Result, Ok, Err, OnOk, slice_get, drop, refl, subst, ap, sym, ◌∙◌, append_assoc, append-nil, arith}
 use Rattle.mad_rows.specs.RowStyles.{line_rules}
 use Rattle.mad_rows.specs.declared.row_skin.RowSkin.{RowSkin}
 use Rattle.mad_sections.specs.Sections.{SectionContent}
@@ -46,15 +46,24 @@ one_shown skin width shown s own is h =
     subst (λ (ss : List SectionContent). IsPageAt (line_rules skin) (has_ascii_boxes skin) width ss own) is (own, [], sym (append-nil own), h, refl)
 
 -- a section that is shown with a rule below it
-pub two_shown : (skin : RowSkin) (width : Option ℕ) (shown : List SectionContent) (s rule : SectionContent) (own below : List RowContent) → s ∷ rule ∷ [] ≡ shown → BecomesAt (line_rules skin) (has_ascii_boxes skin) width s own
+two_shown : (skin : RowSkin) (width : Option ℕ) (shown : List SectionContent) (s rule : SectionContent) (own below : List RowContent) → s ∷ rule ∷ [] ≡ shown → BecomesAt (line_rules skin) (has_ascii_boxes skin) width s own
     → BecomesAt (line_rules skin) (has_ascii_boxes skin) width rule below → IsPageAt (line_rules skin) (has_ascii_boxes skin) width shown (own ++ below)
 two_shown skin width shown s rule own below is h k =
     subst (λ (ss : List SectionContent). IsPageAt (line_rules skin) (has_ascii_boxes skin) width ss (own ++ below)) is (own, below, refl, h, below, [], sym (append-nil below), k, refl)
 
 -- the bytes of both
-pub two_written : (skin : RowSkin) (width : Option ℕ) (own below : List RowContent) (before mid now : List ℕ) → mid ≡ before ++ rows_bytes skin width own → now ≡ mid ++ rows_bytes skin width below → now ≡ before ++ rows_bytes skin width (own ++ below)
+two_written : (skin : RowSkin) (width : Option ℕ) (own below : List RowContent) (before mid now : List ℕ) → mid ≡ before ++ rows_bytes skin width own → now ≡ mid ++ rows_bytes skin width below → now ≡ before ++ rows_bytes skin width (own ++ below)
 two_written skin width own below before mid now first next =
     next ∙ ap (λ (b : List ℕ). b ++ rows_bytes skin width below) first ∙ append_assoc before (rows_bytes skin width own) (rows_bytes skin width below) ∙ ap (λ (b : List ℕ). before ++ b) (sym (rows_join skin width own below))
+
+-- so it is with a section, and then with its rule
+pub rule_laid : {T E : Type 0} (r : Result T E) (skin : RowSkin) (width : Option ℕ) (shown : List SectionContent) (s rule : SectionContent) (before mid now : List ℕ) → s ∷ rule ∷ [] ≡ shown
+    → (own : List RowContent) × BecomesAt (line_rules skin) (has_ascii_boxes skin) width s own × (mid ≡ before ++ rows_bytes skin width own)
+    → OnOk r ((own : List RowContent) × BecomesAt (line_rules skin) (has_ascii_boxes skin) width rule own × (now ≡ mid ++ rows_bytes skin width own))
+    → OnOk r ((own : List RowContent) × IsPageAt (line_rules skin) (has_ascii_boxes skin) width shown own × (now ≡ before ++ rows_bytes skin width own))
+rule_laid {T} {E} (Ok x) skin width shown s rule before mid now is (own, laid, first) (below, ruled, next) =
+    (own ++ below, two_shown skin width shown s rule own below is laid ruled, two_written skin width own below before mid now first next)
+rule_laid {T} {E} (Err x) skin width shown s rule before mid now is h k = tt
 
 -- the rows of what is shown of one more section of a text are put behind the others
 pub dressed_on : (skin : RowSkin) (marks : HeadingMarks) (width : Option ℕ) (all left after : List SectionContent) (s : SectionContent) (start before now : List ℕ) (own : List RowContent)

@@ -1,5 +1,5 @@
 -- How often the faces of items are shown where tables are lists.
-use Rattle.std.specs.Prelude.{◌≡◌, ◌⊎◌, ℕ, ◌+◌, Bool, List, [], ◌∷◌, ◌++◌, length, Option, Some}
+use Rattle.std.specs.Prelude.{◌≡◌, ◌⊎◌, ℕ, ◌+◌, Bool, List, [], ◌∷◌, ◌++◌, length, Option}
 use Rattle.std.specs.List.{AllByRecursion}
 use Rattle.markdown_leaves.specs.Parts.{PartContent}
 use Rattle.mad_sections.specs.Sections.{SectionContent}

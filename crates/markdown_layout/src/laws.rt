@@ -39,7 +39,7 @@ pub fn made_marks_are_shown()
     ensures plain { AreMarksShown (page_row_skin plain_skin) }
 {}
 
-/// The same of the skins of the other Markdown that are made: of the default one, of those for a dark and a light background, of the one without
+/// The same of the skins of the smaller grammar that are made: of the default one, of those for a dark and a light background, of the one without
 /// style, and of that one on an ASCII terminal.
 pub fn other_marks_are_shown()
     ensures by_default { AreMarksShown (page_row_skin (page_skin_of default_skin)) }

@@ -50,19 +50,6 @@ starts s fresh none rows = record {
   };
 }
 
--- what came so far is there
-pub begun_some : (old : MarkdownStream) (s : SectionStream) → old.sections ≡ Some s → Begins old s
-begun_some old s is read sections links h = subst (λ (o : Option SectionStream). HasBegun read sections links o) is h
-
--- nothing came so far
-pub begun_new : (old : MarkdownStream) (s : SectionStream) → old.sections ≡ None → HasCome [] [] [] s → sections_there s ≡ [] → Begins old s
-begun_new old s is come empty read sections links h =
-    let n : HasBegun read sections links None = subst (λ (o : Option SectionStream). HasBegun read sections links o) is h in (
-      subst (λ (r : List ℕ). HasCome r sections links s) (sym n.0)
-          (subst (λ (ss : List SectionContent). HasCome [] ss links s) (sym n.1) (subst (λ (ls : List LinkSaid). HasCome [] [] ls s) (sym n.2) come)),
-      empty,
-    )
-
 -- ---- rows
 
 -- the pages of two groups of sections, one after the other, are that of both
@@ -82,16 +69,6 @@ more_laid skin width first next rows own sent before now page written page2 now_
       flat_map-append (page_row_bytes row_skin width) rows own ∙ ap (λ (b : List ℕ). b ++ dressed_bytes skin width own) written
           ∙ append_assoc sent before (dressed_bytes skin width own) ∙ ap (λ (b : List ℕ). sent ++ b) (sym now_is),
     )
-
--- the rows of a page of what is there are kept
-pub lays_rows : (old new : MarkdownStream) (there shown : List SectionContent) (before rows : List ℕ) → shown ≡ steady_sections there → before ≡ []
-    → (own : List RowContent) × IsDressedAt old.skin old.width shown own × (rows ≡ before ++ dressed_bytes old.skin old.width own)
-    → new.rows.items ≡ old.rows.items ++ rows → LaysRows there old new
-lays_rows old new there shown before rows is none h rows_are = record {
-  own = h.0;
-  page = subst (λ (ss : List SectionContent). IsDressedAt old.skin old.width ss h.0) is h.1;
-  rows = rows_are ∙ ap (λ (b : List ℕ). old.rows.items ++ b) (h.2 ∙ ap (λ (b : List ℕ). b ++ dressed_bytes old.skin old.width h.0) none);
-}
 
 -- ---- a piece
 

@@ -25,7 +25,7 @@ pub enum Command {
     AsMarkdown(u16),
     /// `stream W`: the text, laid out at that width, in columns, as it comes.
     AsItComes(u16),
-    /// `markdown-stream W`: the text, read as people write Markdown and laid out at that width, in columns, as it comes: each part by itself.
+    /// `markdown-stream W`: the text, read as people write Markdown and laid out at that width, in columns, as it comes.
     MarkdownAsItComes(u16),
     /// `live W H`: the text on a terminal that scrolls, laid out at that width, in columns, on a screen that has so many rows. It is shown
     /// as it comes, and what may change is redrawn in place.

@@ -1,4 +1,4 @@
-use Rattle.std.proofs.Common.{◌≡◌, ◌∙◌, sym, chars, length}
+use Rattle.std.proofs.Common.{◌∙◌, sym, chars, length}
 use Rattle.mad_search.specs.Breaks.{rows_after, rows_up_to}
 use Rattle.mad_hits.proofs.RowHitLemmas.{none_between}
 use Rattle.mad_hits.proofs.overs.overs_below.Goals as goal

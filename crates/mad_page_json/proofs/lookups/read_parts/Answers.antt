@@ -1,4 +1,4 @@
-use Rattle.std.proofs.Common.{◌≡◌, [], map, ◌∙◌, arith, rules}
+use Rattle.std.proofs.Common.{[], map, ◌∙◌, arith, rules}
 use Rattle.serde_json.specs.View.{view}
 use Rattle.mad_json.specs.Faults.{TellsSkin}
 use Rattle.mad_page_json.specs.Lookups.{parts_under}

@@ -1,4 +1,4 @@
-use Rattle.std.proofs.Common.{◌≡◌, ℕ, Bool, List, Some, OnOk, inl, map, subst, arith}
+use Rattle.std.proofs.Common.{ℕ, Bool, List, Some, OnOk, inl, map, subst, arith}
 use Rattle.mad_term.specs.Draws.{Draws}
 use Rattle.mad_term.specs.Trace.{TookWith}
 use Rattle.mad_draw.specs.DrawnRows.{rows_bytes, AreRowsShown, FillArea}

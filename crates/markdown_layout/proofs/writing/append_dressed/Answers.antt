@@ -1,20 +1,25 @@
-use Rattle.std.proofs.Common.{rules, ◌≡◌, ◌++◌, List, IfOk, IsErrOf, OnOk, string_bytes, ℕ, ◌+◌, ◌-◌, ◌*◌, ◌<◌, ◌≤◌, length, ◌/◌, ◌%◌, Bool, true, false, nat_eq, nat_lt, [], ◌∷◌, slice_index_or, slice_set, bit_and, bit_or, Fits, w8, w32, w64, Bor, MutBor}
-use Rattle.mad_rows.specs.RowStyles.{line_rules}
-use Rattle.mad_sections.specs.Sections.{page_content, section_content}
-use Rattle.mad_pages.specs.PageLayouts.{IsPageAt}
-use Rattle.mad_pages.specs.PageRows.{RowContent}
-use Rattle.mad_page_rows.specs.Faces.{has_ascii_boxes}
-use Rattle.mad_term.specs.declared.errors.Error.TheVariants.{Memory}
-use Rattle.markdown_reader.specs.Markdown.{markdown_sections}
-use Rattle.markdown_reader.specs.SectionsLeft.{sections_left}
-use Rattle.mad_dressing.specs.Dressed.{dressed}
-use Rattle.markdown_layout.specs.WrittenPages.{dressed_bytes, rows_bytes, IsDressedAt, WritesDressed, WritesPage}
+use Rattle.std.proofs.Common.{◌≡◌, ◌∷◌, [], List, Option, string_bytes, option_map, ap, sym, ◌∙◌}
+use Rattle.mad_dressing.specs.Dressed.{Put, dressed, dressed_by, maybe_section}
+use Rattle.mad_sections.specs.Sections.{SectionContent, section_content}
+use Rattle.mad_sections.specs.declared.sections.Section.{Section}
+use Rattle.markdown_layout.proofs.WrittenLemmas.{one_shown, rule_laid}
 use Rattle.markdown_layout.proofs.writing.append_dressed.Goals as goal
 
--- src/writing.rt:123:1
 pub returns-in-Some : goal.returns-in-Some
-returns-in-Some c = ?
+returns-in-Some c =
+    let section : SectionContent = section_content c.args.section in
+    let one : SectionContent = section_content c.in_ok-dressed.dressed.section in
+    let rule : SectionContent = section_content c.in-Some.rule in
+    let shown : one ∷ rule ∷ [] ≡ dressed c.args.marks section =
+    sym (ap (λ (o : Option Section). one ∷ maybe_section (option_map section_content o)) c.in-Some.is) ∙ c.in_ok-dressed.ensures ∙ ap (λ (put : Put). dressed_by put section) c.in_ok-dressing.ensures in
+    rule_laid c.append_section-in-Some.result c.args.skin.now c.args.width (dressed c.args.marks section) one rule (string_bytes c.args.rows.now) (string_bytes c.append_section.new.rows) (string_bytes c.append_section-in-Some.new.rows) shown
+    c.in_ok-append_section.ensures c.append_section-in-Some.ensures
 
--- src/writing.rt:113:1
 pub returns : goal.returns
-returns c = ?
+returns c =
+    let section : SectionContent = section_content c.args.section in
+    let one : SectionContent = section_content c.in_ok-dressed.dressed.section in
+    let shown : one ∷ [] ≡ dressed c.args.marks section =
+    sym (ap (λ (o : Option Section). one ∷ maybe_section (option_map section_content o)) c.in-None.is) ∙ c.in_ok-dressed.ensures ∙ ap (λ (put : Put). dressed_by put section) c.in_ok-dressing.ensures in
+    let done = c.in_ok-append_section.ensures in
+    (done.0, one_shown c.args.skin.now c.args.width (dressed c.args.marks section) one done.0 shown done.1, done.2)

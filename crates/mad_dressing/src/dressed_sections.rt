@@ -5,7 +5,7 @@ ghost use Rattle.mad_md.specs.Lines.{contents, horizontal_rule};
 ghost use Rattle.mad_sections.specs.Sections.{section_content};
 ghost use Rattle.mad_dressing.specs.Dressed.{dressed_by, put_of, rule_behind, sections_dressed, signed};
 
-use crate::dressing::Dressing;
+use crate::dressings::Dressing;
 use mad_md::{Line, Text};
 use mad_sections::{Gutter, Section};
 use std::alloc::{AllocError, Global};
