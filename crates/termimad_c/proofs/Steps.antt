@@ -16,6 +16,8 @@ use Rattle.termimad.specs.declared.Error.{Error}
 use Rattle.termimad.specs.declared.FmtComposite.{FmtComposite}
 use Rattle.termimad.specs.declared.FmtLine.{FmtLine}
 use Rattle.termimad.specs.declared.MadSkin.{MadSkin}
+use Rattle.mad_page_skin.specs.PageSkins.{page_skin_of}
+use Rattle.mad_page_skin.specs.declared.page_skin.PageSkin.{PageSkin}
 use Rattle.termimad_run.specs.GivenSkins.{skin_given, RefusesSkin as RefusesWord}
 use Rattle.termimad_run.specs.ProgramRuns.{WritesCall, ShowsCall}
 use Rattle.termimad_run.specs.declared.call.Command.{Command}
@@ -71,15 +73,15 @@ pub skin_read : (word text : List ℕ) (given : Option (List ℕ)) (skin : MadSk
 skin_read word text given skin unknown utf8 p q h = (utf8, unknown, ap skin_given (ap word_given (sym p) ∙ sym q) ∙ h)
 
 -- all that a call wrote on a device that had taken nothing
-pub all_written : (text word src : List ℕ) (command : Command) (skin : MadSkin) (old last : Trace) (whole : List ℕ) → IsUtf8 text → src ≡ text → IsSkinOf word skin → old ≡ untouched
-    → WritesCall skin command src old (Ok (tt {0})) last → ShowsCall skin command src old last → last.bytes ≡ Some whole → IsWritten text word command whole
-all_written text word src command skin old last whole utf8 p given q writes shown taken = record {
+pub all_written : (text word src : List ℕ) (command : Command) (skin : MadSkin) (page_skin : PageSkin) (old last : Trace) (whole : List ℕ) → IsUtf8 text → src ≡ text → IsSkinOf word skin → page_skin ≡ page_skin_of skin → old ≡ untouched
+    → WritesCall page_skin command src old (Ok (tt {0})) last → ShowsCall page_skin command src old last → last.bytes ≡ Some whole → IsWritten text word command whole
+all_written text word src command skin page_skin old last whole utf8 p given same q writes shown taken = record {
   utf8 = utf8;
   skin = skin;
   given = given;
   last = last;
-  writes = subst (λ (t : List ℕ). WritesCall skin command t untouched (Ok (tt {0})) last) p (subst (λ (o : Trace). WritesCall skin command src o (Ok (tt {0})) last) q writes);
-  shown = subst (λ (t : List ℕ). ShowsCall skin command t untouched last) p (subst (λ (o : Trace). ShowsCall skin command src o last) q shown);
+  writes = subst (λ (k : PageSkin). WritesCall k command text untouched (Ok (tt {0})) last) same (subst (λ (t : List ℕ). WritesCall page_skin command t untouched (Ok (tt {0})) last) p (subst (λ (o : Trace). WritesCall page_skin command src o (Ok (tt {0})) last) q writes));
+  shown = subst (λ (k : PageSkin). ShowsCall k command text untouched last) same (subst (λ (t : List ℕ). ShowsCall page_skin command t untouched last) p (subst (λ (o : Trace). ShowsCall page_skin command src o last) q shown));
   whole_is = taken;
 }
 

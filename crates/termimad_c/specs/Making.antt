@@ -15,6 +15,7 @@ use Rattle.termimad.specs.declared.Area.{Area}
 use Rattle.termimad.specs.declared.FmtComposite.{FmtComposite}
 use Rattle.termimad.specs.declared.FmtLine.{FmtLine}
 use Rattle.termimad.specs.declared.MadSkin.{MadSkin}
+use Rattle.mad_page_skin.specs.PageSkins.{page_skin_of}
 use Rattle.termimad_run.specs.ProgramRuns.{WritesCall, ShowsCall}
 use Rattle.termimad_run.specs.declared.call.Command.{Command}
 use Rattle.termimad_run.specs.declared.call.Command.TheVariants.{InArea, AtWidth, AsMarkdown}
@@ -28,8 +29,8 @@ pub record IsWritten (text word : List ℕ) (command : Command) (whole : List �
   pub skin : MadSkin
   pub given : IsSkinOf word skin
   pub last : Trace
-  pub writes : WritesCall skin command text untouched (Ok (tt {0})) last
-  pub shown : ShowsCall skin command text untouched last
+  pub writes : WritesCall (page_skin_of skin) command text untouched (Ok (tt {0})) last
+  pub shown : ShowsCall (page_skin_of skin) command text untouched last
   pub whole_is : last.bytes ≡ Some whole
 
 -- so it writes the text in the area of these numbers

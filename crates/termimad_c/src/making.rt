@@ -9,6 +9,7 @@ ghost use Rattle.termimad_c.specs.Making.{IsWritten, IsAreaWritten, IsTextWritte
 
 use crate::answer::{Parts, Refusal};
 use crate::inputs::{align_of, aligns_of, area_of, number_of, skin_of_word, text_of, text_so_far};
+use mad_page_skin::PageSkin;
 use mad_tables::table_of_cells;
 use std::alloc::Global;
 use termimad::{FmtText, Gathered, printable, write_front_on};
@@ -72,8 +73,9 @@ fn written(alloc: Global, text: &[u8], skin: &[u8], command: &Command) -> Result
 {
     let skin = skin_of_word(alloc, skin)?;
     let text = text_of(text)?;
+    let page_skin = PageSkin::of(&skin);
     let mut out = Gathered::new(alloc);
-    write_call(alloc, &mut out, &skin, command, text)?;
+    write_call(alloc, &mut out, &page_skin, command, text)?;
     Ok(out.bytes)
 }
 

@@ -2,6 +2,7 @@
 
 use mad_frames::Gathered;
 use mad_layout::MadSkin;
+use mad_page_skin::PageSkin;
 use mad_term::Color;
 use markdown_layout::write_markdown_on;
 use std::alloc::{AllocError, Global};
@@ -10,7 +11,7 @@ use std::alloc::{AllocError, Global};
 fn rows_in(alloc: Global, skin: &MadSkin, width: &str, text: &str) -> Result<String, AllocError> {
     let width = width.parse::<usize>().ok();
     let mut out = Gathered::new(alloc);
-    if write_markdown_on(alloc, &mut out, skin, text, width).is_err() {
+    if write_markdown_on(alloc, &mut out, &PageSkin::of(skin), text, width).is_err() {
         return Err(AllocError);
     }
     let rows = str::from_utf8(&out.bytes).unwrap_or("no text");
