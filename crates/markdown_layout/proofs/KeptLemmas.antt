@@ -220,9 +220,9 @@ all_parted P [] ys h = (tt, h)
 all_parted P (x ∷ xs) ys h = let rest = all_parted P xs ys h.1 in ((h.0, rest.0), rest.1)
 
 put_fine : (put : Put) (s : SectionContent) → AllByRecursion IsTypedSection (dressed_by put s) → ArePrinted s.lines → AreSteadyLines s.lines → ArePlainLines s.lines → AllByRecursion IsFineSection (dressed_by put s)
-put_fine nothing s t p steady plain = (fine_section s t.0 p steady plain, tt)
-put_fine (rule_below gutters) s t p steady plain = (fine_section s t.0 p steady plain, record { gutters = t.1.0.gutters; list = tt; lines = (tt, tt) }, tt)
-put_fine (signs_before gutters) s t p steady plain = (record { gutters = t.0.gutters; list = t.0.list; lines = all_fine s.lines t.0.lines p steady plain }, tt)
+put_fine nothing s t p steady own = (fine_section s t.0 p steady own, tt)
+put_fine (rule_below gutters) s t p steady own = (fine_section s t.0 p steady own, (record { gutters = t.1.0.gutters; list = tt; lines = (tt, tt) }, tt))
+put_fine (signs_before gutters) s t p steady own = (record { gutters = t.0.gutters; list = t.0.list; lines = all_fine s.lines t.0.lines p steady own }, tt)
 
 fine_sections : (marks : HeadingMarks) (page : List SectionContent) → AllByRecursion IsTypedSection (dressed_page marks page) → ArePrintedSections page → AreSteadySections page → ArePlainSections page → AllByRecursion IsFineSection (dressed_page marks page)
 unfolding ArePrintedSections AreSteadySections

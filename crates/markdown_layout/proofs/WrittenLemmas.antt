@@ -49,7 +49,7 @@ one_shown skin width shown s own is h =
 two_shown : (skin : RowSkin) (width : Option ℕ) (shown : List SectionContent) (s rule : SectionContent) (own below : List RowContent) → s ∷ rule ∷ [] ≡ shown → BecomesAt (line_rules skin) (has_ascii_boxes skin) width s own
     → BecomesAt (line_rules skin) (has_ascii_boxes skin) width rule below → IsPageAt (line_rules skin) (has_ascii_boxes skin) width shown (own ++ below)
 two_shown skin width shown s rule own below is h k =
-    subst (λ (ss : List SectionContent). IsPageAt (line_rules skin) (has_ascii_boxes skin) width ss (own ++ below)) is (own, below, refl, h, below, [], sym (append-nil below), k, refl)
+    subst (λ (ss : List SectionContent). IsPageAt (line_rules skin) (has_ascii_boxes skin) width ss (own ++ below)) is (own, below, refl, h, (below, [], sym (append-nil below), k, refl))
 
 -- the bytes of both
 two_written : (skin : RowSkin) (width : Option ℕ) (own below : List RowContent) (before mid now : List ℕ) → mid ≡ before ++ rows_bytes skin width own → now ≡ mid ++ rows_bytes skin width below → now ≡ before ++ rows_bytes skin width (own ++ below)

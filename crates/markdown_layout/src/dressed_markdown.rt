@@ -26,7 +26,7 @@ impl DressedMarkdown {
     ///
     /// Out of memory is the only error.
     pub fn new(alloc: Global, markdown: Markdown, marks: HeadingMarks) -> Result<Self, AllocError>
-        ensures { IfOk result (λ dressed. dressed_says dressed ≡ dressed_page marks (markdown_says markdown.entry)) }
+        ensures { IfOk result (λ dressed. dressed_says dressed ≡ dressed_page marks (markdown_says markdown)) }
     {
         let dressings = dressings_for(alloc, &markdown, marks)?;
         Ok(DressedMarkdown {

@@ -13,7 +13,7 @@ returns-in-Some c =
     let shown : one ∷ rule ∷ [] ≡ dressed c.args.marks section =
     sym (ap (λ (o : Option Section). one ∷ maybe_section (option_map section_content o)) c.in-Some.is) ∙ c.in_ok-dressed.ensures ∙ ap (λ (put : Put). dressed_by put section) c.in_ok-dressing.ensures in
     rule_laid c.append_section-in-Some.result c.args.skin.now c.args.width (dressed c.args.marks section) one rule (string_bytes c.args.rows.now) (string_bytes c.append_section.new.rows) (string_bytes c.append_section-in-Some.new.rows) shown
-    c.in_ok-append_section.ensures c.append_section-in-Some.ensures
+    c.in_ok-append_section.ensures (rw c.in-Some.rule-is at c.append_section-in-Some.ensures)
 
 pub returns : goal.returns
 returns c =

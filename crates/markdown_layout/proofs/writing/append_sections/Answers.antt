@@ -1,4 +1,4 @@
-use Rattle.std.proofs.Common.{◌≡◌, ◌++◌, ◌×◌, List, [], string_bytes, ap, subst}
+use Rattle.std.proofs.Common.{◌≡◌, ◌++◌, List, string_bytes, subst}
 use Rattle.mad_dressing.specs.Dressed.{dressed, dressed_page}
 use Rattle.mad_page_rows.specs.Faces.{has_ascii_boxes}
 use Rattle.mad_page_skin.specs.PageSkins.{page_row_skin}
@@ -23,7 +23,7 @@ sections-preserved c =
     let before = string_bytes c.sections.rows in
     let now = string_bytes c.append_dressed.new.rows in
     let done =
-    subst (λ (k : RowSkin). (own : List RowContent) × IsPageAt (line_rules k) (has_ascii_boxes k) c.args.width (dressed marks s) own × (now ≡ before ++ rows_bytes k c.args.width own)) c.row_skin.ensures c.in_ok-append_dressed.ensures in
+    subst (λ (k : RowSkin). (own : List RowContent) × IsPageAt (line_rules k) (has_ascii_boxes k) c.args.width (dressed marks s) own × (now ≡ before ++ rows_bytes k c.args.width own)) c.row_skin-row_skin.ensures c.in_ok-append_dressed.ensures in
     dressed_on skin marks c.args.width (sections_left c.args.sections) left after s (string_bytes c.args.rows.now) before now done.0 c.sections.invariant (first_left left after s got c.in_ok-section.ensures.rest) done.1 done.2
 
 pub sections-smaller : goal.sections-smaller
