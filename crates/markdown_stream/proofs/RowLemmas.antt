@@ -7,6 +7,7 @@ use Rattle.mad_format.proofs.ListLemmas.{both_become}
 use Rattle.mad_pages.specs.PageLayouts.{BecomesAt, IsPageAt}
 use Rattle.mad_pages.specs.PageRows.{RowContent}
 use Rattle.mad_sections.specs.Sections.{SectionContent}
+use Rattle.markdown_layout.specs.WrittenPages.{IsDressedAt}
 use Rattle.markdown_lines.specs.Texts.{behind_mark}
 use Rattle.std.proofs.lemmas.List.{map-append}
 use Rattle.markdown_reader.specs.Steady.{steady_section, steady_sections}
