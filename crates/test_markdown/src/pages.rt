@@ -7,11 +7,21 @@ use mad_term::Color;
 use markdown_layout::write_markdown_on;
 use std::alloc::{AllocError, Global};
 
-// The rows of a text in a skin, at a width, or without one where it is no number.
+// The rows of a text in a skin of the smaller grammar.
 fn rows_in(alloc: Global, skin: &MadSkin, width: &str, text: &str) -> Result<String, AllocError> {
+    rows_of_page(alloc, &PageSkin::of(skin), width, text)
+}
+
+// The rows of a text in a skin, at a width, or without one where it is no number.
+fn rows_of_page(
+    alloc: Global,
+    skin: &PageSkin,
+    width: &str,
+    text: &str,
+) -> Result<String, AllocError> {
     let width = width.parse::<usize>().ok();
     let mut out = Gathered::new(alloc);
-    if write_markdown_on(alloc, &mut out, &PageSkin::of(skin), text, width).is_err() {
+    if write_markdown_on(alloc, &mut out, skin, text, width).is_err() {
         return Err(AllocError);
     }
     let rows = str::from_utf8(&out.bytes).unwrap_or("no text");
@@ -23,6 +33,11 @@ pub(crate) fn draw_ascii(alloc: Global, width: &str, text: &str) -> Result<Strin
     let mut skin = MadSkin::no_style();
     skin.bullet.set_char('*');
     rows_in(alloc, &skin, width, text)
+}
+
+/// The rows of a text in the skin of a page without styles.
+pub(crate) fn draw_plain(alloc: Global, width: &str, text: &str) -> Result<String, AllocError> {
+    rows_of_page(alloc, &PageSkin::plain(), width, text)
 }
 
 /// The rows of a text in a skin without styles.

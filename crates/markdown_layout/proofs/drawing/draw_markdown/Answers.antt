@@ -1,6 +1,5 @@
 use Rattle.std.proofs.Common.{◌≡◌, ◌≤◌, List, OnOk, ap, ◌∙◌, subst}
 use Rattle.mad_dressing.specs.Dressed.{dressed_page}
-use Rattle.mad_page_skin.specs.PageSkins.{page_row_skin}
 use Rattle.mad_rows.specs.declared.row_skin.RowSkin.{RowSkin}
 use Rattle.mad_sections.specs.Sections.{SectionContent, page_content}
 use Rattle.markdown_reader.specs.Markdown.{markdown_sections}

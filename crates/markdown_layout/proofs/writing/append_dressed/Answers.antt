@@ -1,4 +1,4 @@
-use Rattle.std.proofs.Common.{◌≡◌, ◌∷◌, [], List, Option, string_bytes, option_map, ap, sym, ◌∙◌}
+use Rattle.std.proofs.Common.{◌≡◌, ◌∷◌, [], Option, string_bytes, option_map, ap, sym, ◌∙◌}
 use Rattle.mad_dressing.specs.Dressed.{Put, dressed, dressed_by, maybe_section}
 use Rattle.mad_sections.specs.Sections.{SectionContent, section_content}
 use Rattle.mad_sections.specs.declared.sections.Section.{Section}

@@ -1,5 +1,5 @@
 use Rattle.std.proofs.Common.{◌≡◌, ◌++◌, List, string_bytes, subst}
-use Rattle.mad_dressing.specs.Dressed.{dressed, dressed_page}
+use Rattle.mad_dressing.specs.Dressed.{dressed}
 use Rattle.mad_page_rows.specs.Faces.{has_ascii_boxes}
 use Rattle.mad_page_skin.specs.PageSkins.{page_row_skin}
 use Rattle.mad_pages.specs.PageLayouts.{IsPageAt}
@@ -9,7 +9,7 @@ use Rattle.mad_rows.specs.declared.row_skin.RowSkin.{RowSkin}
 use Rattle.mad_sections.specs.Sections.{section_content}
 use Rattle.markdown_reader.specs.SectionsLeft.{sections_left}
 use Rattle.markdown_layout.specs.WrittenPages.{rows_bytes}
-use Rattle.markdown_layout.proofs.WrittenLemmas.{dressed_on, first_left, none_left, shorter_left, written_none, written_whole}
+use Rattle.markdown_layout.proofs.WrittenLemmas.{dressed_on, first_left, shorter_left}
 use Rattle.markdown_layout.proofs.writing.append_sections.Goals as goal
 
 pub sections-preserved : goal.sections-preserved

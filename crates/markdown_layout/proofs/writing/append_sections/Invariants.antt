@@ -1,4 +1,4 @@
-use Rattle.std.proofs.Common.{◌≡◌, length, string_bytes}
+use Rattle.std.proofs.Common.{length, string_bytes}
 use Rattle.mad_dressing.specs.Dressed.{dressed_page}
 use Rattle.mad_page_skin.specs.PageSkins.{page_row_skin}
 use Rattle.markdown_reader.specs.SectionsLeft.{sections_left}
