@@ -254,6 +254,15 @@ group_becomes rules ascii width (section ∷ group) rows h =
     let two = parts_become (IsSectionAt rules ascii width) (unfolded rules.whole_words ascii width section) (flat_map (unfolded rules.whole_words ascii width) group) rows h in
     (two.0, two.1, two.2, two.3, group_becomes rules ascii width group two.1 two.4)
 
+-- a section, and one below it
+pub two_added : (rules : LineRules) (ascii : Bool) (width : Option ℕ) (section below : SectionContent) (group : List SectionContent) (old mid new : PagedPage) → group ≡ section ∷ below ∷ [] → AreAdded rules ascii width (unfolded rules.whole_words ascii width section) old mid
+    → AreAdded rules ascii width (unfolded rules.whole_words ascii width below) mid new → AreAdded rules ascii width (flat_map (unfolded rules.whole_words ascii width) group) old new
+two_added rules ascii width section below group old mid new is h k =
+    let one : List SectionContent = unfolded rules.whole_words ascii width section in
+    let other : List SectionContent = unfolded rules.whole_words ascii width below in
+    subst (λ (s : List SectionContent). AreAdded rules ascii width s old new) (ap (λ (s : List SectionContent). one ++ s) (sym (append-nil other)) ∙ ap (flat_map (unfolded rules.whole_words ascii width)) (sym is))
+    (added_join rules ascii width one other old mid new h k)
+
 -- the parts of what is shown of a group are those of the group
 pub group_parts : (whole_words ascii : Bool) (width : Option ℕ) (group : List SectionContent) → parts_shown ascii width (flat_map (unfolded whole_words ascii width) group) ≡ page_parts whole_words ascii width group
 group_parts whole_words ascii width [] = refl

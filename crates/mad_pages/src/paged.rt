@@ -88,7 +88,10 @@ impl<'s> PagedPage<'s> {
     {
         self.push_section(alloc, dressed.section, width, ascii, skin)?;
         match dressed.rule {
-            Some(rule) => self.push_section(alloc, rule, width, ascii, skin),
+            Some(rule) => {
+                self.push_section(alloc, rule, width, ascii, skin)?;
+                Ok(())
+            }
             None => Ok(()),
         }
     }
