@@ -1,7 +1,7 @@
 //! The skin that a text is shown in.
 
 ghost use Rattle.std.specs.Prelude.{◌≡◌, Some, MatchResult, option_map};
-ghost use Rattle.termimad_page.specs.Skins.{lines_skin, page_skin_worded, skin_for, skin_worded, RefusesPageWord, RefusesSkinFor, RefusesWord};
+ghost use Rattle.termimad_page.specs.Skins.{lines_skin, page_skin_worded, skin_for, skin_worded, word_or_default, RefusesPageWord, RefusesSkinFor, RefusesWord};
 
 use mad_layout::MadSkin;
 use mad_page_skin::PageSkin;
@@ -37,9 +37,19 @@ fn page_skin(alloc: Global, word: Option<&str>) -> Result<PageSkin, Failure>
         (λ skin. page_skin_worded (option_map (λ word. word.now) word.entry) ≡ Some skin)
         (λ failure. RefusesPageWord (option_map (λ word. word.now) word.entry) failure) }
 {
-    let (mut skin, _) = page_skin_of_word(alloc, Some(word.unwrap_or(DEFAULT)))?;
+    let (mut skin, _) = page_skin_of_word(alloc, Some(word_or_default(word)))?;
     skin.text.whole_words = true;
     Ok(skin)
+}
+
+// That word, or the default one without it.
+fn word_or_default(word: Option<&str>) -> &str
+    ensures { result.now ≡ word_or_default (option_map (λ word. word.now) word.entry) }
+{
+    match word {
+        Some(word) => word,
+        None => DEFAULT,
+    }
 }
 
 // The skin of lines for that word, as that of a page.
