@@ -125,6 +125,6 @@ view_settled_order old new h k = record { text = settled_leaf_order old.text new
 -- they are so from the start on
 pub opened_order : (skin : PageSkin) (name : List ℕ) (text : TextSaid) (columns rows : ℕ) (files : Files) (v : View) → IsOpened skin name text columns rows files v → IsOrderlyView v
 opened_order skin name text columns rows files v h = record {
-  text = order_at skin (a_text text) v.text h.dress h.content (start_order skin text.page columns rows files v.text.state h.start);
+  text = order_at skin (a_text text) v.text h.dress h.content (start_order skin text.shown columns rows files v.text.state h.start);
   over = subst IsOrderlyOver (sym h.over) tt;
 }

@@ -72,7 +72,7 @@ pub record IsOpened (skin : PageSkin) (name : List ℕ) (text : TextSaid) (colum
   pub dress : v.text.skin ≡ skin
   pub named : v.text.name ≡ name
   pub content : v.text.content ≡ a_text text
-  pub start : IsStart skin text.page columns rows files v.text.state
+  pub start : IsStart skin text.shown columns rows files v.text.state
   pub over : v.over ≡ None
 
 -- ---- what events do on a text
