@@ -58,6 +58,7 @@ pub struct Sheet<'s> {
 /// # Errors
 ///
 /// The first fault of a device, or out of memory. What went out by then is whole pictures, unless the output failed.
+#[tactic(auto, using(crate::proofs::RunLemmas::lines_said, crate::proofs::RunLemmas::markdown_said))]
 pub fn run<I: Source, O: Out>(
     alloc: Global,
     sheet: &Sheet,
