@@ -5,6 +5,7 @@ use crate::failing::Refusal;
 use crate::skins::skin_for;
 use mad_layout::MadSkin;
 use mad_measure::printable;
+use mad_page_skin::PageSkin;
 use mad_steady::steady;
 use mad_term::{Error, Out, Stream};
 use markdown_layout::write_markdown_on;
@@ -75,7 +76,8 @@ fn write_whole(
             skin.write_parts_on(rt.alloc(), &mut out, &text, Some(columns))?;
         }
         Grammar::Markdown => {
-            write_markdown_on(rt.alloc(), &mut out, skin, text, Some(columns))?;
+            let skin = PageSkin::of(skin);
+            write_markdown_on(rt.alloc(), &mut out, &skin, text, Some(columns))?;
         }
     }
     out.flush()?;
