@@ -3,7 +3,6 @@
 use crate::call::{Place, parse_call};
 use crate::failing::Refusal;
 use crate::skins::skin_for;
-use mad_layout::MadSkin;
 use mad_measure::printable;
 use mad_page_skin::PageSkin;
 use mad_steady::steady;
@@ -64,7 +63,7 @@ fn write_whole(
     rt: &HostRuntime,
     text: &str,
     grammar: Grammar,
-    skin: &MadSkin,
+    skin: &PageSkin,
     columns: usize,
 ) -> Result<(), Error> {
     let writer = BufWriter::new(rt.alloc(), io::writer(rt))?;
@@ -73,7 +72,8 @@ fn write_whole(
         Grammar::Lines => {
             let printed = printable(rt.alloc(), text)?;
             let text = steady(rt.alloc(), &printed)?;
-            skin.write_parts_on(rt.alloc(), &mut out, &text, Some(columns))?;
+            skin.text
+                .write_parts_on(rt.alloc(), &mut out, &text, Some(columns))?;
         }
         Grammar::Markdown => {
             let skin = PageSkin::of(skin);
