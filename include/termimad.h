@@ -4,6 +4,7 @@
  *   of length 0   no style
  *   default, dark, light   the made skins
  *   any other     JSON text as {"bold":"red"}, which changes the default skin; keys that name no part of a skin are passed over
+ * For termimad_markdown it is the skin of a page: sixteen and none too, and in JSON text the key page.
  *
  * Each call answers a status and a count: how many bytes the whole result has, whatever the buffer holds. Ask with a buffer that is
  * likely large enough. Where the status is TERMIMAD_SHORT, take one of `count` bytes and ask again:

@@ -12,12 +12,16 @@ from pathlib import Path
 
 from . import dump
 from .leaf_rows import Cells, Row, columns, fits_as_table, layout, placed, table_of
-from .lines import EMPTY, Align, Compound, Line, paragraph
+from .lines import EMPTY, Align, Compound, HorizontalRule, Line, Normal, TableRule, paragraph
 from .sections import BULLET, CODE_SIDES, DONE, OPEN, Gutter, Section, hanging, sections_of
 
 PageRow = tuple[str, Row]
-LOOKS = ("page", "boxes", "ascii")
+LOOKS = ("page", "boxes", "ascii", "plain")
 ASCII = {gutter: hanging(gutter.name, gutter.term, sign) for gutter, sign in ((BULLET, "*"), (OPEN, "[ ]"), (DONE, "[x]"))}
+
+
+BELOW = {1: Gutter("below 1", "Below 0", "", ""), 2: Gutter("below 2", "Below 1", "", "")}
+ROUND = str.maketrans("┌┐└┘", "╭╮╰╯")
 
 
 def gutters_shown(width: int | None, gutters: list[Gutter]) -> list[Gutter]:
@@ -77,15 +81,44 @@ def boxed_rows(width: int | None, section: Section) -> list[PageRow]:
     return [(front[:-1], placed(row, columns_left or 0, Align.LEFT) + [Compound(" ")]) for front, row in rows]
 
 
+def dressed(section: Section) -> list[Section]:
+    """What a page without styles shows in the place of a section: below a heading of the first two levels a rule, and the signs in front of another."""
+    first = section.lines[0]
+    level = first.composite.style.level if isinstance(first, Normal) else 0
+    if level in BELOW:
+        return [section, Section(section.gutters + [BELOW[level]], 0, [HorizontalRule()])]
+    if level:
+        signs = hanging("#" * level, f"Signs {level - 1}", "#" * level)
+        return [replace(section, gutters=section.gutters + [signs], fresh=min(section.fresh, len(section.gutters)) + 1)]
+    return [section]
+
+
+def plain_rows(width: int | None, section: Section) -> list[PageRow]:
+    """The rows of a section with the characters of a page without styles."""
+    return [(front.replace("▐", "▌"), plain_row(section, row)) for front, row in section_rows(width, section)]
+
+
+def plain_row(section: Section, row: Row) -> Row:
+    first = section.lines[0]
+    if isinstance(first, HorizontalRule):
+        sign = "═" if section.gutters[-1:] == [BELOW[1]] else "─"
+        return [replace(c, src=sign * len(c.src)) for c in row]
+    if isinstance(first, TableRule) and len(row) == 1:
+        return [replace(c, src=c.src.translate(ROUND)) for c in row]
+    return row
+
+
 def shown_sections(width: int | None, sections: list[Section]) -> list[Section]:
     return [u for s in sections for u in unfolded(width, s)]
 
 
 def texts(width: int | None, sections: list[Section], look: str = "page") -> list[str]:
-    """The rows of a page, as texts. In the look `boxes` code has a background, in `ascii` bullets are ASCII."""
-    rows_of = boxed_rows if look == "boxes" else section_rows
+    """The rows of a page, as texts. In the look `boxes` code has a background, in `ascii` bullets are ASCII, and `plain` is that of a page without styles."""
+    rows_of = {"boxes": boxed_rows, "plain": plain_rows}.get(look, section_rows)
     if look == "ascii":
         sections = list(map(in_ascii, sections))
+    if look == "plain":
+        sections = [d for s in sections for d in dressed(s)]
     return [front + "".join(c.src for c in row) for s in shown_sections(width, sections) for front, row in rows_of(width, s)]
 
 

@@ -11,15 +11,16 @@ use crate::panel;
 use crate::reader::documents::read_all;
 use crate::reader::reader::Reader;
 use std::io::Read;
-use termimad::{Error, MadSkin};
+use termimad::{Error, MadSkin, PageSkin};
 
 const COLUMNS: u16 = 44;
 
 const ROWS: u16 = 10;
 
 pub fn run<R: Read + Drop>(rt: &HostRuntime, input: R) -> Result<(), Error> {
-    let documents = read_all(rt, "texts.txt")?;
     let skin = MadSkin::no_style();
-    let mut reader = Reader::new(rt.alloc(), &skin, &documents)?;
+    let page_skin = PageSkin::of(&skin);
+    let documents = read_all(rt, "texts.txt", page_skin.headings)?;
+    let mut reader = Reader::new(rt.alloc(), &skin, &page_skin, &documents)?;
     panel::run(rt, input, &mut reader, COLUMNS, ROWS)
 }

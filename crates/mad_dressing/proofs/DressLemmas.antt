@@ -1,13 +1,14 @@
 -- What is put into a page leaves its text as it is.
-use Rattle.std.proofs.Common.{◌≡◌, ◌⊎◌, inl, inr, ℕ, Bool, false, if◌then◌else◌, List, [], ◌∷◌, ◌++◌, Option, Some, None, refl, ap, ◌∙◌, arith, append-nil}
+use Rattle.std.proofs.Common.{◌≡◌, ◌⊎◌, inl, inr, ℕ, Bool, false, if◌then◌else◌, List, [], ◌∷◌, ◌++◌, map, Option, Some, None, refl, ap, ◌∙◌, arith, append-nil}
 use Rattle.std.specs.Prelude.{nat_lt}
 use Rattle.std.proofs.lemmas.Bool.Decides.{nat_tests}
+use Rattle.std.proofs.lemmas.Grind.{flat_map-append}
 use Rattle.mad_sections.specs.Sections.{SectionContent}
 use Rattle.mad_sections.specs.UnfoldLaws.{lines_text}
 use Rattle.mad_sections.specs.declared.gutters.Gutter.{Gutter}
 use Rattle.mad_sections.specs.declared.gutters.Gutter.TheVariants.{Below, Signs}
 use Rattle.mad_sections.proofs.Choices.{by_bool}
-use Rattle.mad_dressing.specs.Dressed.{Put, nothing, rule_below, signs_before, dressed_by, heading_level, put_at, put_with}
+use Rattle.mad_dressing.specs.Dressed.{Put, nothing, rule_below, signs_before, dressed, dressed_by, dressed_by_each, dressed_page, heading_level, put_at, put_with}
 use Rattle.mad_dressing.specs.DressLaws.{AddsMarksAlone, IsRuled, IsSigned, OthersStay, TextStays, sections_text}
 use Rattle.mad_dressing.specs.declared.heading_marks.HeadingMarks.{HeadingMarks}
 
@@ -54,3 +55,18 @@ others_stay = record {
   text = λ marks section none. ap (λ (level : Option ℕ). dressed_by (put_at marks section.gutters level) section) none;
   unmarked = λ marks section none unsigned. unmarked_at marks section (heading_level section.lines) none unsigned;
 }
+
+-- ---- whole pages
+
+-- with what is put there with each section, a page is dressed
+pub each_dressed : (marks : HeadingMarks) (page : List SectionContent) → dressed_by_each (map (put_with marks) page) page ≡ dressed_page marks page
+each_dressed marks [] = refl
+each_dressed marks (section ∷ page) = ap (λ (rest : List SectionContent). dressed_by (put_with marks section) section ++ rest) (each_dressed marks page)
+
+-- so is one by what says the same
+pub page_dressed : (marks : HeadingMarks) (puts : List Put) (page : List SectionContent) → puts ≡ map (put_with marks) page → dressed_by_each puts page ≡ dressed_page marks page
+page_dressed marks puts page is = ap (λ (ps : List Put). dressed_by_each ps page) is ∙ each_dressed marks page
+
+-- the sections that are shown of two pages, one after the other, are those of both
+pub pages_dressed : (marks : HeadingMarks) (page more : List SectionContent) → dressed_page marks (page ++ more) ≡ dressed_page marks page ++ dressed_page marks more
+pages_dressed marks page more = flat_map-append (dressed marks) page more

@@ -1,5 +1,6 @@
 -- What stands in rows and isn't the text's own, put into the sections of a page.
 use Rattle.std.specs.Prelude.{ℕ, zero, suc, ◌+◌, min, nat_lt, if◌then◌else◌, List, [], ◌∷◌, ◌++◌, length, Option, Some, None, option_map}
+use Rattle.std.specs.List.{flat_map}
 use Rattle.mad_md.specs.Lines.{LineContent, normal, horizontal_rule}
 use Rattle.mad_md.specs.declared.composite.CompositeStyle.{CompositeStyle}
 use Rattle.mad_md.specs.declared.composite.CompositeStyle.TheVariants.{Header}
@@ -66,6 +67,16 @@ dressed_by (signs_before gutters) section = signed gutters section ∷ []
 -- the sections that are shown in the place of one: a heading with the rule below it or the signs in front of it, all else as it is
 abbrev pub dressed : HeadingMarks → SectionContent → List SectionContent
 dressed marks section = dressed_by (put_with marks section) section
+
+-- the sections that are shown of a page
+abbrev pub dressed_page : HeadingMarks → List SectionContent → List SectionContent
+dressed_page marks page = flat_map (dressed marks) page
+
+-- those with what is put there with each, in order; those past the last one stay
+abbrev pub dressed_by_each : List Put → List SectionContent → List SectionContent
+dressed_by_each puts [] = []
+dressed_by_each [] (section ∷ page) = section ∷ dressed_by_each [] page
+dressed_by_each (put ∷ puts) (section ∷ page) = dressed_by put section ++ dressed_by_each puts page
 
 -- ---- what values say
 

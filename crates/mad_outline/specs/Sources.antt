@@ -7,7 +7,7 @@ use Rattle.mad_md.specs.Reading.{unread_text}
 use Rattle.mad_md.specs.Scan.{lines_of}
 use Rattle.mad_md.specs.declared.composite.CompositeStyle.{CompositeStyle}
 use Rattle.mad_md.specs.declared.composite.CompositeStyle.TheVariants.{Paragraph, Header, ListItem, ListItemFollowUp, OrderedListItem}
-use Rattle.mad_search.specs.PagedTexts.{paged_sections, plain_sections}
+use Rattle.mad_search.specs.PagedTexts.{grouped, paged_groups, paged_sections, plain_sections}
 use Rattle.mad_sections.specs.Sections.{SectionContent}
 use Rattle.mad_search.specs.declared.paged.PagedText.{PagedText}
 use Rattle.mad_search.specs.declared.paged.PagedText.TheVariants.{Lines, Markdown}
@@ -98,15 +98,27 @@ headers_listed page chosen = or_said (codes "There are no headers.") (items_by (
 
 -- ---- what is shown
 
--- what a text says: its sections, and its links, if it can have some
+-- sections as groups, each alone
+abbrev pub alone_each : List SectionContent → List (List SectionContent)
+alone_each page = grouped [] page
+
+-- what a text says: its sections, those that are shown in groups, as one with the rule below it, and its links, if it can have some
 pub record TextSaid : Type 0 where
   pub page : List SectionContent
+  pub shown : List (List SectionContent)
   pub links : Option (List LinkSaid)
+
+-- what a text says whose lines stand for themselves
+abbrev pub plain_said : List ℕ → TextSaid
+plain_said text =
+    let page = plain_sections (lines_of (unread_text false text)) in
+    record { page = page; shown = alone_each page; links = None }
 
 -- what a text says that is paged
 abbrev pub text_said : PagedText → TextSaid
-text_said (Lines source) = record { page = paged_sections (Lines source); links = None }
-text_said (Markdown markdown) = record { page = paged_sections (Markdown markdown); links = Some (links_said markdown.now) }
+text_said (Lines source) = plain_said source.now
+text_said (Markdown markdown dressings) =
+    record { page = paged_sections (Markdown markdown dressings); shown = paged_groups (Markdown markdown dressings); links = Some (links_said markdown.now) }
 
 -- a text, the addresses of links, or the headers of a page, one of which is chosen, by its index
 pub data Content : Type 0 where
@@ -114,11 +126,11 @@ pub data Content : Type 0 where
   addresses : LinksIn → Content
   headers : List SectionContent → ℕ → Content
 
--- the sections of what is shown
-abbrev pub content_page : Content → List SectionContent
-content_page (a_text text) = text.page
-content_page (addresses links) = plain_sections (links_listed links)
-content_page (headers page chosen) = plain_sections (headers_listed page chosen)
+-- the sections of what is shown, in groups
+abbrev pub content_page : Content → List (List SectionContent)
+content_page (a_text text) = text.shown
+content_page (addresses links) = alone_each (plain_sections (links_listed links))
+content_page (headers page chosen) = alone_each (plain_sections (headers_listed page chosen))
 
 -- what a session shows, whatever its address
 abbrev pub content_of : Source → Content
@@ -126,14 +138,14 @@ content_of (Text text) = a_text (text_said text)
 content_of (Links markdown from to) = addresses (record { links = links_said markdown.now; from = from; to = to })
 content_of (Contents text chosen) = headers (paged_sections text) chosen
 
--- the sections of what a session shows
-abbrev pub source_page : Source → List SectionContent
+-- the sections of what a session shows, in groups
+abbrev pub source_page : Source → List (List SectionContent)
 source_page source = content_page (content_of source)
 
 -- the text that is shown; where none is, an empty one
 abbrev pub said_of : Content → TextSaid
 said_of (a_text text) = text
-said_of content = record { page = plain_sections (lines_of (unread_text false [])); links = None }
+said_of content = plain_said []
 
 -- ---- numbers of sections
 

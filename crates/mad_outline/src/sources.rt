@@ -1,18 +1,20 @@
 //! What a session shows, and how it is laid out.
 
-ghost use Rattle.std.specs.Prelude.{◌≡◌, IfOk, Some};
+ghost use Rattle.std.specs.Prelude.{◌≡◌, IfOk, Some, map};
+ghost use Rattle.mad_dressing.specs.Dressed.{sections_dressed};
 ghost use Rattle.mad_md.specs.Lines.{content_of};
 ghost use Rattle.mad_pages.specs.PagedPages.{IsPagedAt};
-ghost use Rattle.mad_sections.specs.Sections.{page_content};
-ghost use Rattle.mad_outline.specs.Sources.{raw_line, source_page};
+ghost use Rattle.mad_md.specs.Lines.{contents};
+ghost use Rattle.mad_outline.specs.Sources.{alone_each, raw_line, source_page};
+ghost use Rattle.mad_search.specs.PagedTexts.{plain_sections};
 
 use crate::contents::contents_text;
 use crate::links::links_text;
+use mad_dressing::Dressed;
 use mad_format::LineSkin;
-use mad_md::{Composite, CompositeStyle, Compound, Line};
+use mad_md::{Composite, CompositeStyle, Compound, Line, Text};
 use mad_pages::{PagedPage, lay_beside};
-use mad_search::{PagedText, plain_page};
-use mad_sections::Page;
+use mad_search::{PagedText, dress_each, plain_page};
 use markdown_reader::Markdown;
 use std::alloc::{AllocError, Global};
 
@@ -28,24 +30,24 @@ pub enum Source<'s> {
 }
 
 impl<'s> Source<'s> {
-    // The sections of what is shown.
-    fn page(self, alloc: Global) -> Result<Page<'s>, AllocError>
-        ensures { IfOk result (λ page. page_content page ≡ source_page self.entry) }
+    // The sections of what is shown, each with what is put into the page with it.
+    fn dressed(self, alloc: Global) -> Result<Vec<Dressed<'s>>, AllocError>
+        ensures { IfOk result (λ dressed. map sections_dressed dressed.items ≡ source_page self.entry) }
     {
         match self {
             Source::Text(text) => {
-                let page = text.page(alloc)?;
-                Ok(page)
+                let dressed = text.dressed(alloc)?;
+                Ok(dressed)
             }
             Source::Links(markdown, from, to) => {
                 let text = links_text(alloc, markdown.links(), from, to)?;
-                let page = plain_page(alloc, text)?;
-                Ok(page)
+                let dressed = undressed(alloc, text)?;
+                Ok(dressed)
             }
             Source::Contents(text, chosen) => {
                 let text = contents_text(alloc, text, chosen)?;
-                let page = plain_page(alloc, text)?;
-                Ok(page)
+                let dressed = undressed(alloc, text)?;
+                Ok(dressed)
             }
         }
     }
@@ -64,10 +66,19 @@ impl<'s> Source<'s> {
     ) -> Result<PagedPage<'s>, AllocError>
         ensures { IfOk result (λ laid. IsPagedAt (S.rules skin.now) ascii (Some width) (source_page self.entry) laid) }
     {
-        let page = self.page(alloc)?;
+        let page = self.dressed(alloc)?;
         let laid = lay_beside(alloc, skin, page, Some(width), ascii)?;
         Ok(laid)
     }
+}
+
+// Lines as sections without gutters. Nothing is put into their page.
+fn undressed<'s>(alloc: Global, text: Text<'s>) -> Result<Vec<Dressed<'s>>, AllocError>
+    ensures { IfOk result (λ dressed. map sections_dressed dressed.items ≡ alone_each (plain_sections (contents text.entry))) }
+{
+    let page = plain_page(alloc, text)?;
+    let dressed = dress_each(alloc, page, &[])?;
+    Ok(dressed)
 }
 
 /// A line of this kind that has a text without flags.

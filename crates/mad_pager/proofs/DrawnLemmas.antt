@@ -32,6 +32,7 @@ use Rattle.mad_format.specs.declared.line.FmtLine.{FmtLine}
 use Rattle.mad_layout.specs.Drawable.{AreDrawable}
 use Rattle.mad_layout.specs.Shown.{area_row}
 use Rattle.mad_layout.specs.declared.skin.MadSkin.{MadSkin}
+use Rattle.mad_page_skin.specs.declared.page_skin.PageSkin.{PageSkin}
 use Rattle.mad_rows.specs.declared.row_skin.RowSkin.{RowSkin}
 use Rattle.mad_hits.specs.FrontHits.{AreRowsMarked}
 use Rattle.mad_hits.specs.Panes.{ArePageRowsDrawn}
@@ -39,7 +40,7 @@ use Rattle.mad_pages.specs.declared.fronts.Front.{Front}
 use Rattle.mad_pager.proofs.PageFills.{text_fills}
 use Rattle.std.proofs.lemmas.Bool.{ltb-false}
 use Rattle.std.proofs.lemmas.Bool.Decides.{nat_tests}
-use Rattle.mad_pager.specs.Screens.{reversed_skin, is_small, area_of, bar_of, text_pane, field_pane, prompt_pane, prompt_row, status_pane, status_words, AreHitsDrawn, ArePanesDrawn, IsFieldShown, IsLineIn, IsStatusLine, AreLinesShown, IsFieldRow, IsLastRow, IsStatus, IsDrawing, IsPicture, IsTypingShown, IsStatusShown, IsFieldInRow, IsShowing, IsShown, IsUnshown, question}
+use Rattle.mad_pager.specs.Screens.{status_skin, is_small, area_of, bar_of, text_pane, field_pane, prompt_pane, prompt_row, status_pane, status_words, AreHitsDrawn, ArePanesDrawn, IsFieldShown, IsLineIn, IsStatusLine, AreLinesShown, IsFieldRow, IsLastRow, IsStatus, IsDrawing, IsPicture, IsTypingShown, IsStatusShown, IsFieldInRow, IsShowing, IsShown, IsUnshown, question}
 use Rattle.mad_pager.specs.Sessions.{State, paged_skin, field_row, last_row, prompt_cell, text_area}
 
 -- ---- what is shown
@@ -112,7 +113,7 @@ showable s some h = record {
   takes = λ plain. all_each (λ (c : ℕ). 0 < char_columns c) (λ (c : ℕ). is_newline c ≡ false → 0 < char_columns c) (λ c takes inside. takes) s.field.content.text h.typed;
 }
 
-typing_shown : (skin : MadSkin) (s : State) (a b : List ℕ) → 1 < s.page.columns → AreLinesShown skin s a → IsFieldRow s b → IsTypingShown skin s (a ++ b)
+typing_shown : (skin : PageSkin) (s : State) (a b : List ℕ) → 1 < s.page.columns → AreLinesShown skin s a → IsFieldRow s b → IsTypingShown skin s (a ++ b)
 typing_shown skin s a b wide lines row keeps field =
     let columns = s.page.columns in
     let rows = s.page.rows in
@@ -120,7 +121,7 @@ typing_shown skin s a b wide lines row keeps field =
     let slash_field = subst (λ (x : Area). AreApart (prompt_cell rows) x) (sym field.area) (prompt_field_apart columns rows) in
     panes_shown (text_pane skin s ∷ prompt_pane s ∷ field_pane s ∷ []) (a ++ b) ((prompt_apart columns rows, (text_field, tt)), ((slash_field, tt), (tt, tt))) (a, b, refl, (lines keeps).whole, row wide field)
 
-status_shown : (skin : MadSkin) (name : List ℕ) (s : State) (a b : List ℕ) → AreLinesShown skin s a → IsStatus name s b → IsStatusShown skin name s (a ++ b)
+status_shown : (skin : PageSkin) (name : List ℕ) (s : State) (a b : List ℕ) → AreLinesShown skin s a → IsStatus skin name s b → IsStatusShown skin name s (a ++ b)
 status_shown skin name s a b lines row = record {
   dress = row.dress;
   dressed = row.dressed;
@@ -130,7 +131,7 @@ status_shown skin name s a b lines row = record {
 }
 
 -- the text and the last row, drawn in turn
-pub screen_shown : (skin : MadSkin) (name : List ℕ) (s : State) → is_small s ≡ false → (a b : List ℕ) → AreLinesShown skin s a → IsLastRow name s b → ArePanesDrawn skin name s (a ++ b)
+pub screen_shown : (skin : PageSkin) (name : List ℕ) (s : State) → is_small s ≡ false → (a b : List ℕ) → AreLinesShown skin s a → IsLastRow skin name s b → ArePanesDrawn skin name s (a ++ b)
 screen_shown skin name s large a b lines row =
     let wide = not_small s large in
     let some : 1 < s.page.columns = omega (arith, wide) in
@@ -144,7 +145,7 @@ screen_shown skin name s large a b lines row =
     }
 
 -- and then the hits
-pub marks_shown : (skin : MadSkin) (name : List ℕ) (s : State) (a b : List ℕ) → ArePanesDrawn skin name s a → AreHitsDrawn skin s b → IsDrawing skin name s (a ++ b)
+pub marks_shown : (skin : PageSkin) (name : List ℕ) (s : State) (a b : List ℕ) → ArePanesDrawn skin name s a → AreHitsDrawn skin s b → IsDrawing skin name s (a ++ b)
 marks_shown skin name s a b panes hits = record { panes = a; hits = b; are = refl; drawn = panes; marked = hits }
 
 -- a line that was drawn in an area of one row
@@ -156,45 +157,45 @@ line_drawn dress line items area bytes old new are one took shown =
     (λ drawable. here tt (subst (λ (n : ℕ). AreDrawable (row_skin dress) area.width (take n (line ∷ []))) (sym one) drawable))
 
 -- a status that was drawn in the last row
-pub status_drawn : (name words : List ℕ) (s : State) (dress : MadSkin) (line : FmtLine) (area : Area) (old new : Trace)
-    → dress ≡ reversed_skin → words ≡ status_words name s → IsStatusLine dress words s.page.columns line → area ≡ last_row s.page.columns s.page.rows → TookWith old new (IsLineIn (row_skin dress) line area) → TookWith old new (IsStatus name s)
-status_drawn name words s dress line area old new dressed said is at drawn =
-    took_so old new (IsLineIn (row_skin dress) line (last_row s.page.columns s.page.rows)) (IsStatus name s)
+pub status_drawn : (skin : PageSkin) (name words : List ℕ) (s : State) (dress : MadSkin) (line : FmtLine) (area : Area) (old new : Trace)
+    → dress ≡ status_skin skin.status → words ≡ status_words name s → IsStatusLine dress words s.page.columns line → area ≡ last_row s.page.columns s.page.rows → TookWith old new (IsLineIn (row_skin dress) line area) → TookWith old new (IsStatus skin name s)
+status_drawn skin name words s dress line area old new dressed said is at drawn =
+    took_so old new (IsLineIn (row_skin dress) line (last_row s.page.columns s.page.rows)) (IsStatus skin name s)
     (λ text shown. record { dress = dress; dressed = dressed; line = line; is = subst (λ (w : List ℕ). IsStatusLine dress w s.page.columns line) said is; shown = shown })
     (subst (λ (a : Area). TookWith old new (IsLineIn (row_skin dress) line a)) at drawn)
 
 -- ---- what goes out
 
 -- the question and the picture
-showing : (skin : MadSkin) (name : List ℕ) (asks : Bool) (s : State) (bytes : List ℕ) → IsPicture skin name s bytes → IsShowing skin name asks s (question asks ++ bytes)
+showing : (skin : PageSkin) (name : List ℕ) (asks : Bool) (s : State) (bytes : List ℕ) → IsPicture skin name s bytes → IsShowing skin name asks s (question asks ++ bytes)
 showing skin name asks s bytes h = record { picture = bytes; is = refl; shows = h }
 
 -- the question and the picture went out and were flushed
-pub shown_whole : (skin : MadSkin) (name : List ℕ) (asks : Bool) (s : State) (bytes : List ℕ) (old mid new done : Trace)
+pub shown_whole : (skin : PageSkin) (name : List ℕ) (asks : Bool) (s : State) (bytes : List ℕ) (old mid new done : Trace)
     → IsPicture skin name s bytes → mid ≡ after old (question asks) → new ≡ after mid bytes → done ≡ flushed new → IsShown skin name asks s old done
 shown_whole skin name asks s bytes old mid new done h a b c =
     (question asks ++ bytes, showing skin name asks s bytes h, c ∙ ap flushed (took_both old mid new (question asks) bytes a b))
 
 -- a fault in the question
-pub unshown_in_question : (skin : MadSkin) (name : List ℕ) (asks : Bool) (s : State) (bytes : List ℕ) (old new : Trace) (e : io.Error)
+pub unshown_in_question : (skin : PageSkin) (name : List ℕ) (asks : Bool) (s : State) (bytes : List ℕ) (old new : Trace) (e : io.Error)
     → IsPicture skin name s bytes → CutShort old (question asks) new → IsUnshown skin name asks s old (IO e) new
 unshown_in_question skin name asks s bytes old new e h cut =
     (question asks ++ bytes, showing skin name asks s bytes h, cut_in_first old new (question asks) bytes cut)
 
 -- or in the picture
-pub unshown_in_picture : (skin : MadSkin) (name : List ℕ) (asks : Bool) (s : State) (bytes : List ℕ) (old mid new : Trace) (e : io.Error)
+pub unshown_in_picture : (skin : PageSkin) (name : List ℕ) (asks : Bool) (s : State) (bytes : List ℕ) (old mid new : Trace) (e : io.Error)
     → IsPicture skin name s bytes → mid ≡ after old (question asks) → CutShort mid bytes new → IsUnshown skin name asks s old (IO e) new
 unshown_in_picture skin name asks s bytes old mid new e h a cut =
     (question asks ++ bytes, showing skin name asks s bytes h, cut_in_second old mid new (question asks) bytes a cut)
 
 -- or at the flush
-pub unshown_at_flush : (skin : MadSkin) (name : List ℕ) (asks : Bool) (s : State) (bytes : List ℕ) (old mid written new : Trace) (e : io.Error)
+pub unshown_at_flush : (skin : PageSkin) (name : List ℕ) (asks : Bool) (s : State) (bytes : List ℕ) (old mid written new : Trace) (e : io.Error)
     → IsPicture skin name s bytes → mid ≡ after old (question asks) → written ≡ after mid bytes → new ≡ failed written → IsUnshown skin name asks s old (IO e) new
 unshown_at_flush skin name asks s bytes old mid written new e h a b fault =
     (question asks ++ bytes, showing skin name asks s bytes h, flush_failed old written new (question asks ++ bytes) (took_both old mid written (question asks) bytes a b) fault)
 
 -- what a `?` hands on that made this error
-pub unshown_exit : (skin : MadSkin) (name : List ℕ) (asks : Bool) (s : State) (old new : Trace) (r : Result Unit Error) (e : Error)
+pub unshown_exit : (skin : PageSkin) (name : List ℕ) (asks : Bool) (s : State) (old new : Trace) (r : Result Unit Error) (e : Error)
     → IsErrAnd r (λ d. d ≡ e) → IsUnshown skin name asks s old e new → MatchResult r (λ _. IsShown skin name asks s old new) (λ d. IsUnshown skin name asks s old d new)
 unshown_exit skin name asks s old new r e is h =
     let p = err_from_is_err_and r is in
@@ -214,7 +215,7 @@ hits_along skin dress width columns height rows top text sought shown lines fron
     (subst (λ (fs : List Front). of dress width height text shown fs starts) g (subst (λ (ts : List ℕ). of dress width height text shown front ts) i h))))))
 
 -- the rows of the text beside its bar, along what is equal
-pub lines_along : (skin : MadSkin) (s : State) (dress : RowSkin) (bar : Option ScrollBar) (shown : List FmtLine) (front : List Front) (height : ℕ) (old new : Trace) → is_small s ≡ false → s.page.columns < 2 ^ 16 → dress ≡ paged_skin skin → bar ≡ bar_of skin s
+pub lines_along : (skin : PageSkin) (s : State) (dress : RowSkin) (bar : Option ScrollBar) (shown : List FmtLine) (front : List Front) (height : ℕ) (old new : Trace) → is_small s ≡ false → s.page.columns < 2 ^ 16 → dress ≡ paged_skin skin → bar ≡ bar_of skin s
     → shown ≡ s.laid.lines.items → front ≡ s.laid.fronts.items → height ≡ s.page.rows - 1 → TookWith old new (ArePageRowsDrawn dress bar shown front s.page.top s.page.columns height) → TookWith old new (AreLinesShown skin s)
 lines_along skin s dress bar shown front height old new large narrow a b d e f h =
     let of : RowSkin → Option ScrollBar → List FmtLine → List Front → ℕ → Type 0 = λ k bar ls fs n. TookWith old new (ArePageRowsDrawn k bar ls fs s.page.top s.page.columns n) in

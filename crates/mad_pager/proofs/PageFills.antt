@@ -5,7 +5,8 @@ use Rattle.std.specs.List.{AllByRecursion}
 use Rattle.std.proofs.lemmas.Bool.Decides.{nat_tests}
 use Rattle.std.proofs.lemmas.List.Sums.{sum_by-cons}
 use Rattle.std.proofs.lemmas.Option.{same_Some}
-use Rattle.mad_measure.proofs.AllLemmas.{all_front, all_back}
+use Rattle.std.proofs.lemmas.Grind.{flat_map-append}
+use Rattle.mad_measure.proofs.AllLemmas.{all_front, all_back, all_joined}
 use Rattle.mad_draw.specs.BarsApart.{FillBeside}
 use Rattle.mad_draw.specs.BesideBar.{columns_beside}
 use Rattle.mad_draw.specs.Pieces.{FillsRow, RowPiece}
@@ -13,15 +14,15 @@ use Rattle.mad_draw.specs.declared.scroll_bars.ScrollBar.{ScrollBar}
 use Rattle.mad_draw.proofs.PieceLemmas.{shown_spaces, spaces_columns}
 use Rattle.mad_format.specs.declared.line.FmtLine.{FmtLine}
 use Rattle.mad_hits.specs.FrontRows.{row_shown}
-use Rattle.mad_layout.specs.declared.skin.MadSkin.{MadSkin}
+use Rattle.mad_page_skin.specs.declared.page_skin.PageSkin.{PageSkin}
 use Rattle.mad_rows.specs.RowStyles.{line_rules}
 use Rattle.mad_rows.specs.declared.row_skin.RowSkin.{RowSkin}
 use Rattle.mad_sections.specs.Sections.{SectionContent}
 use Rattle.mad_sections.specs.Unfolded.{unfolded}
-use Rattle.mad_pages.specs.PageLayouts.{BecomesAt}
+use Rattle.mad_pages.specs.PageLayouts.{IsPageAt}
 use Rattle.mad_pages.specs.PageRows.{RowContent}
 use Rattle.mad_pages.specs.Fronts.{FrontContent, front_at, front_or_none, row_behind}
-use Rattle.mad_pages.specs.PagedPages.{EndIn}
+use Rattle.mad_pages.specs.PagedPages.{EndIn, sections_in}
 use Rattle.mad_pages.specs.declared.fronts.Front.{Front}
 use Rattle.mad_pages.proofs.BesideLemmas.{rows_are}
 use Rattle.mad_page_rows.specs.FaceLaws.{AreFacesShown}
@@ -54,34 +55,51 @@ all_got P [] y x h is = absurd (cc)
 all_got P (a ∷ xs) zero x h is = subst P (same_Some _ _ is) h.0
 all_got P (a ∷ xs) (suc y) x h is = all_got P xs y x h.1 is
 
--- ---- sections that begin above a row
+-- ---- groups of sections that begin above a row
 
-one_begun : (b : Bool) (n : ℕ) (section : SectionContent) (page : List SectionContent) → b ≡ true → take (cond b 1 0 + n) (section ∷ page) ≡ section ∷ take n page
-one_begun b n section page is =
-    ap (λ (c : Bool). take (cond c 1 0 + n) (section ∷ page)) is ∙ ap (λ (m : ℕ). take m (section ∷ page)) (let same : 1 + n ≡ suc n = omega arith in same)
+one_begun : (b : Bool) (n : ℕ) (group : List SectionContent) (page : List (List SectionContent)) → b ≡ true → take (cond b 1 0 + n) (group ∷ page) ≡ group ∷ take n page
+one_begun b n group page is =
+    ap (λ (c : Bool). take (cond c 1 0 + n) (group ∷ page)) is ∙ ap (λ (m : ℕ). take m (group ∷ page)) (let same : 1 + n ≡ suc n = omega arith in same)
 
--- the rows above this one are drawn exactly, where the sections that begin above it keep the premises
-begun_drawable : (skin : RowSkin) (width drawn end row : ℕ) (page : List SectionContent) (rows : List RowContent) (ends : List ℕ) → 3 ≤ width → width ≤ drawn → drawn < 2 ^ 64 - 1 → AreFacesShown skin
-    → EndIn (BecomesAt (line_rules skin) (has_ascii_boxes skin) (Some width)) page row rows ends → AllByRecursion (KeepsRoom skin width) (sections_at skin width (take (count_by (λ start. nat_lt start end) (row ∷ ends)) page))
+-- the sections that are shown of two pages
+sections_shown : (skin : RowSkin) (width : ℕ) (page more : List SectionContent) → sections_at skin width (page ++ more) ≡ sections_at skin width page ++ sections_at skin width more
+sections_shown skin width page more = flat_map-append (unfolded (line_rules skin).whole_words (has_ascii_boxes skin) (Some width)) page more
+
+-- the rows of a group are drawn exactly, where what is shown of it keeps the premises
+group_drawable : (skin : RowSkin) (width drawn : ℕ) (group : List SectionContent) (rows : List RowContent) → 3 ≤ width → width ≤ drawn → drawn < 2 ^ 64 - 1 → AreFacesShown skin
+    → AllByRecursion (KeepsRoom skin width) (sections_at skin width group) → IsPageAt (line_rules skin) (has_ascii_boxes skin) (Some width) group rows → AreDrawableBehind skin drawn rows
+group_drawable skin width drawn [] rows three wider bound faces keeps none = subst (AreDrawableBehind skin drawn) (sym none) tt
+group_drawable skin width drawn (section ∷ group) rows three wider bound faces keeps (own, others, are, becomes, h) =
+    let one : List SectionContent = unfolded (line_rules skin).whole_words (has_ascii_boxes skin) (Some width) section in
+    let more : List SectionContent = sections_at skin width group in
+    subst (AreDrawableBehind skin drawn) (sym are)
+    (all_joined (IsDrawableBehind skin drawn) own others (shown_drawable skin width drawn one own three wider bound faces (all_front (KeepsRoom skin width) one more keeps) becomes)
+    (group_drawable skin width drawn group others three wider bound faces (all_back (KeepsRoom skin width) one more keeps) h))
+
+-- the rows above this one are drawn exactly, where the groups that begin above it keep the premises
+begun_drawable : (skin : RowSkin) (width drawn end row : ℕ) (page : List (List SectionContent)) (rows : List RowContent) (ends : List ℕ) → 3 ≤ width → width ≤ drawn → drawn < 2 ^ 64 - 1 → AreFacesShown skin
+    → EndIn (IsPageAt (line_rules skin) (has_ascii_boxes skin) (Some width)) page row rows ends → AllByRecursion (KeepsRoom skin width) (sections_at skin width (sections_in (take (count_by (λ start. nat_lt start end) (row ∷ ends)) page)))
     → (y : ℕ) (r : RowContent) → slice_get rows y ≡ Some r → row + y < end → IsDrawableBehind skin drawn r
 begun_drawable skin width drawn end row [] rows ends three wider bound faces h keeps y r is above =
     let none : slice_get [] y ≡ Some r = ap (λ (l : List RowContent). slice_get l y) (sym h.0) ∙ is in absurd (cc)
-begun_drawable skin width drawn end row (section ∷ page) rows ends three wider bound faces (own, others, more, are, becomes, ends_are, h) keeps y r is above =
+begun_drawable skin width drawn end row (group ∷ page) rows ends three wider bound faces (own, others, more, are, becomes, ends_are, h) keeps y r is above =
     let begun : nat_lt row end ≡ true = grind (arith, nat_tests, above) in
     let n : ℕ = count_by (λ start. nat_lt start end) ends in
-    let count_more : take (count_by (λ start. nat_lt start end) (row ∷ ends)) (section ∷ page) ≡ take (cond (nat_lt row end) 1 0 + n) (section ∷ page) =
-    ap (λ (m : ℕ). take m (section ∷ page)) (sum_by-cons (λ (start : ℕ). cond (nat_lt start end) 1 0) row ends) in
-    let one : List SectionContent = unfolded (line_rules skin).whole_words (has_ascii_boxes skin) (Some width) section in
-    let kept : AllByRecursion (KeepsRoom skin width) (sections_at skin width (section ∷ take n page)) =
-    subst (λ (p : List SectionContent). AllByRecursion (KeepsRoom skin width) (sections_at skin width p)) (count_more ∙ one_begun (nat_lt row end) n section page begun) keeps in
-    let rest : AllByRecursion (KeepsRoom skin width) (sections_at skin width (take n page)) = all_back (KeepsRoom skin width) one (sections_at skin width (take n page)) kept in
-    let here : AreDrawableBehind skin drawn own = shown_drawable skin width drawn one own three wider bound faces (all_front (KeepsRoom skin width) one (sections_at skin width (take n page)) kept) becomes in
+    let count_more : take (count_by (λ start. nat_lt start end) (row ∷ ends)) (group ∷ page) ≡ take (cond (nat_lt row end) 1 0 + n) (group ∷ page) =
+    ap (λ (m : ℕ). take m (group ∷ page)) (sum_by-cons (λ (start : ℕ). cond (nat_lt start end) 1 0) row ends) in
+    let one : List SectionContent = sections_at skin width group in
+    let more_shown : List SectionContent = sections_at skin width (sections_in (take n page)) in
+    let begun_all : AllByRecursion (KeepsRoom skin width) (sections_at skin width (sections_in (group ∷ take n page))) =
+    subst (λ (p : List (List SectionContent)). AllByRecursion (KeepsRoom skin width) (sections_at skin width (sections_in p))) (count_more ∙ one_begun (nat_lt row end) n group page begun) keeps in
+    let kept : AllByRecursion (KeepsRoom skin width) (one ++ more_shown) = subst (AllByRecursion (KeepsRoom skin width)) (sections_shown skin width group (sections_in (take n page))) begun_all in
+    let rest : AllByRecursion (KeepsRoom skin width) more_shown = all_back (KeepsRoom skin width) one more_shown kept in
+    let here : AreDrawableBehind skin drawn own = group_drawable skin width drawn group own three wider bound faces (all_front (KeepsRoom skin width) one more_shown kept) becomes in
     let got : slice_get (own ++ others) y ≡ Some r = ap (λ (l : List RowContent). slice_get l y) (sym are) ∙ is in
     elim (nat_cases y (length own)) [
       | inl inside ↦ all_got (IsDrawableBehind skin drawn) own y r here (sym (got_own own others y inside) ∙ got)
       | inr past ↦
           begun_drawable skin width drawn end (row + length own) page others more three wider bound faces h
-          (subst (λ (l : List ℕ). AllByRecursion (KeepsRoom skin width) (sections_at skin width (take (count_by (λ start. nat_lt start end) l) page))) ends_are rest) (y - length own) r (sym (got_other own others y past) ∙ got) (omega (arith, above, past))
+          (subst (λ (l : List ℕ). AllByRecursion (KeepsRoom skin width) (sections_at skin width (sections_in (take (count_by (λ start. nat_lt start end) l) page)))) ends_are rest) (y - length own) r (sym (got_other own others y past) ∙ got) (omega (arith, above, past))
     ]
   where
     nat_cases : (a b : ℕ) → (a < b) ⊎ (b ≤ a)
@@ -108,20 +126,20 @@ blanks_fill : (skin : RowSkin) (width : ℕ) → FillsRow width (blanks skin wid
 blanks_fill skin width = record { shown = shown_spaces skin.paragraph.compound_style width; columns = spaces_columns skin.paragraph.compound_style width }
 
 -- a line on the screen is drawn exactly behind its front
-pub drawable_on_screen : (skin : MadSkin) (s : State) (y : ℕ) (line : FmtLine) → 5 ≤ s.page.columns → s.page.columns < 2 ^ 16 → KeepsTextPremises skin s → y < (area_of s).height → slice_get s.laid.lines.items (s.page.top + y) ≡ Some line
+pub drawable_on_screen : (skin : PageSkin) (s : State) (y : ℕ) (line : FmtLine) → 5 ≤ s.page.columns → s.page.columns < 2 ^ 16 → KeepsTextPremises skin s → y < (area_of s).height → slice_get s.laid.lines.items (s.page.top + y) ≡ Some line
     → IsDrawableBehind (paged_skin skin) (text_columns skin s) (row_behind (front_at s.laid.fronts.items (s.page.top + y)) line)
 drawable_on_screen skin s y line wide narrow keeps inside is =
     let dress : RowSkin = paged_skin skin in
     let width : ℕ = layout_width s.page.columns in
     let end : ℕ = s.page.top + (area_of s).height in
     let row : ℕ = s.page.top + y in
-    let sections = keeps.laid.sections in
-    begun_drawable dress width (text_columns skin s) end 0 keeps.page keeps.laid.rows sections.0 (omega (arith, wide)) (wide_enough (bar_of skin s) s.page.columns) (narrow_enough (bar_of skin s) s.page.columns narrow) keeps.faces sections.2
-    (subst (λ (l : List ℕ). AllByRecursion (KeepsRoom dress width) (sections_at dress width (take (count_by (λ start. nat_lt start end) l) keeps.page))) sections.1 keeps.keeps) row
+    let groups = keeps.laid.groups_begin in
+    begun_drawable dress width (text_columns skin s) end 0 keeps.page keeps.laid.rows groups.0 (omega (arith, wide)) (wide_enough (bar_of skin s) s.page.columns) (narrow_enough (bar_of skin s) s.page.columns narrow) keeps.faces groups.2
+    (subst (λ (l : List ℕ). AllByRecursion (KeepsRoom dress width) (sections_at dress width (sections_in (take (count_by (λ start. nat_lt start end) l) keeps.page)))) groups.1 keeps.keeps) row
     (row_behind (front_at s.laid.fronts.items row) line) (rows_are (line_rules dress) (has_ascii_boxes dress) (Some width) keeps.page s.laid keeps.laid row line is) (omega (arith, inside))
 
 -- each row of the screen fills the columns that the bar leaves
-pub text_fills : (skin : MadSkin) (s : State) → 5 ≤ s.page.columns → s.page.columns < 2 ^ 16 → KeepsTextPremises skin s → FillBeside (bar_of skin s) (text_rows skin s) (area_of s)
+pub text_fills : (skin : PageSkin) (s : State) → 5 ≤ s.page.columns → s.page.columns < 2 ^ 16 → KeepsTextPremises skin s → FillBeside (bar_of skin s) (text_rows skin s) (area_of s)
 text_fills skin s wide narrow keeps = record { column = keeps.bar; rows = λ y inside. row_full y inside (slice_get (drop s.page.top s.laid.lines.items) y) refl }
   where
     row_full : (y : ℕ) → y < (area_of s).height → (o : Option FmtLine) → slice_get (drop s.page.top s.laid.lines.items) y ≡ o → FillsRow (columns_beside (bar_of skin s) (area_of s).width) (text_rows skin s y)

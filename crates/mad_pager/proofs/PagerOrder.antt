@@ -2,7 +2,7 @@
 use Rattle.std.proofs.Common.{◌≡◌, ℕ, List, Option, Some, None, ap, refl, sym, subst}
 use Rattle.std.specs.Prelude.{slice_index}
 use Rattle.mad_sections.specs.Sections.{SectionContent}
-use Rattle.mad_layout.specs.declared.skin.MadSkin.{MadSkin}
+use Rattle.mad_page_skin.specs.declared.page_skin.PageSkin.{PageSkin}
 use Rattle.mad_term.specs.declared.events.Event.{Event}
 use Rattle.mad_term.specs.declared.events.Event.TheVariants.{Key, Mouse, Resize, FocusGained, FocusLost}
 use Rattle.mad_term.specs.declared.keys.KeyEvent.{KeyEvent}
@@ -46,9 +46,9 @@ covered_not opened below over is none = subst (λ (o : Option Overlay). IsCovere
 
 -- ---- order
 
-order_at : (skin : MadSkin) (content : Content) (new : Leaf) → new.skin ≡ skin → new.content ≡ content → IsOrderly skin (content_page content) new.state → IsOrderlyLeaf new
+order_at : (skin : PageSkin) (content : Content) (new : Leaf) → new.skin ≡ skin → new.content ≡ content → IsOrderly skin (content_page content) new.state → IsOrderlyLeaf new
 order_at skin content new same is h =
-    subst (λ (d : MadSkin). IsOrderly d (leaf_page new) new.state) (sym same) (subst (λ (c : Content). IsOrderly skin (content_page c) new.state) (sym is) h)
+    subst (λ (d : PageSkin). IsOrderly d (leaf_page new) new.state) (sym same) (subst (λ (c : Content). IsOrderly skin (content_page c) new.state) (sym is) h)
 
 -- an event leaves a session orderly
 leaf_order : (event : Event) (old new : Leaf) → IsLeafStep event old new → IsOrderlyLeaf old → IsOrderlyLeaf new
@@ -108,7 +108,7 @@ step_order event old new step h = step_in_order old.over event old.text new step
 settled_leaf_order : (old new : Leaf) → IsLeafSettled old new → IsOrderlyLeaf old → IsOrderlyLeaf new
 settled_leaf_order old new h k = order_at old.skin old.content new h.same.skin h.same.content (settled_order old.skin (leaf_page old) old.state new.state h.settled k)
 
-sighted_order : (skin : MadSkin) (text : List SectionContent) (content : Content) (s : State) → IsOrderly skin text s → IsOrderly skin text (sighted content s)
+sighted_order : (skin : PageSkin) (text : List (List SectionContent)) (content : Content) (s : State) → IsOrderly skin text s → IsOrderly skin text (sighted content s)
 sighted_order skin text (headers of chosen) s h = sight_order skin text (slice_index s.laid.starts.items chosen) s h
 sighted_order skin text (a_text said) s h = h
 sighted_order skin text (addresses links) s h = h
@@ -123,8 +123,8 @@ pub view_settled_order : (old new : View) → IsViewSettled old new → IsOrderl
 view_settled_order old new h k = record { text = settled_leaf_order old.text new.text h.text k.text; over = settled_over_order old.over new.over h.over k.over }
 
 -- they are so from the start on
-pub opened_order : (skin : MadSkin) (name : List ℕ) (text : TextSaid) (columns rows : ℕ) (files : Files) (v : View) → IsOpened skin name text columns rows files v → IsOrderlyView v
+pub opened_order : (skin : PageSkin) (name : List ℕ) (text : TextSaid) (columns rows : ℕ) (files : Files) (v : View) → IsOpened skin name text columns rows files v → IsOrderlyView v
 opened_order skin name text columns rows files v h = record {
-  text = order_at skin (a_text text) v.text h.dress h.content (start_order skin text.page columns rows files v.text.state h.start);
+  text = order_at skin (a_text text) v.text h.dress h.content (start_order skin text.shown columns rows files v.text.state h.start);
   over = subst IsOrderlyOver (sym h.over) tt;
 }

@@ -1,7 +1,7 @@
 -- What events do to a pager, along what is equal.
 use Rattle.std.proofs.Common.{◌≡◌, ℕ, Bool, false, List, Option, Some, None, option_map, refl, sym, ap, subst, ◌∙◌, if◌then◌else◌}
 use Rattle.mad_sections.specs.Sections.{SectionContent}
-use Rattle.mad_layout.specs.declared.skin.MadSkin.{MadSkin}
+use Rattle.mad_page_skin.specs.declared.page_skin.PageSkin.{PageSkin}
 use Rattle.mad_term.specs.declared.events.Event.{Event}
 use Rattle.mad_term.specs.declared.keys.KeyEvent.{KeyEvent}
 use Rattle.mad_page.specs.PageKeys as page
@@ -83,7 +83,7 @@ chosen key old mid new size skin name content state is same laid = record {
   name = same.name ∙ name;
   content = ap content_of same.source ∙ content;
   laid =
-      subst (λ (d : MadSkin). IsResized d (content_page (content_chosen key (state_of old) (content_of old.source))) (size_to_lay (state_of old)).columns (size_to_lay (state_of old)).rows (uncounted_state (state_of old)) (state_of new)) skin
+      subst (λ (d : PageSkin). IsResized d (content_page (content_chosen key (state_of old) (content_of old.source))) (size_to_lay (state_of old)).columns (size_to_lay (state_of old)).rows (uncounted_state (state_of old)) (state_of new)) skin
       (subst (λ (c : Content). IsResized mid.skin.now (content_page c) (size_to_lay (state_of old)).columns (size_to_lay (state_of old)).rows (uncounted_state (state_of old)) (state_of new)) content
       (subst (λ (z : ScreenSize). IsResized mid.skin.now (source_page mid.source) z.columns z.rows (uncounted_state (state_of old)) (state_of new)) is
       (subst (λ (s : State). IsResized mid.skin.now (source_page mid.source) size.columns size.rows s (state_of new)) state laid)));

@@ -11,7 +11,7 @@ use Rattle.mad_format.specs.declared.line.FmtLine.{FmtLine}
 use Rattle.mad_format.specs.declared.line.FmtLine.TheVariants.{Normal, TableRow, TableRule, HorizontalRule}
 use Rattle.mad_rows.specs.declared.row_skin.RowSkin.{RowSkin}
 use Rattle.mad_layout.specs.Drawable.{FillsItsPlace, IsDrawableLine}
-use Rattle.mad_layout.specs.declared.skin.MadSkin.{MadSkin}
+use Rattle.mad_page_skin.specs.declared.page_skin.PageSkin.{PageSkin}
 use Rattle.mad_layout.proofs.RowLemmas.{cell_columns}
 use Rattle.mad_layout.proofs.RunLemmas.{any_shown}
 use Rattle.mad_sections.specs.Gutters.{columns_of}
@@ -47,7 +47,7 @@ counted skin width HorizontalRule h = tt
 -- ---- the rows of a screen
 
 -- each row from one on, as many as are left of so many
-stand_from : (skin : MadSkin) (s : State) (y n row : ℕ) (bytes : List ℕ) → 5 ≤ s.page.columns → s.page.columns < 2 ^ 16 → row ≡ s.page.top + y → y + n ≤ (area_of s).height → text_columns skin s < 2 ^ 16 → KeepsTextPremises skin s
+stand_from : (skin : PageSkin) (s : State) (y n row : ℕ) (bytes : List ℕ) → 5 ≤ s.page.columns → s.page.columns < 2 ^ 16 → row ≡ s.page.top + y → y + n ≤ (area_of s).height → text_columns skin s < 2 ^ 16 → KeepsTextPremises skin s
     → (marked : AreRowsMarked (paged_skin skin) (text_columns skin s) s.sought s.laid.lines.items s.laid.fronts.items s.laid.parts.items y (range_with_len row n) bytes) → StandOnScreen skin s y (range_with_len row n) bytes marked
 stand_from skin s y zero row bytes wide short at fits narrow keeps marked = tt
 stand_from skin s y (suc n) row bytes wide short at fits narrow keeps marked =

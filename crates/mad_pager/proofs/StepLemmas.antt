@@ -16,7 +16,7 @@ use Rattle.mad_pages.specs.declared.paged.PagedPage.{PagedPage}
 use Rattle.mad_field.specs.Fields.{Field}
 use Rattle.mad_field.specs.Scrolls.{rescrolled}
 use Rattle.mad_rows.specs.declared.row_skin.RowSkin.{RowSkin}
-use Rattle.mad_layout.specs.declared.skin.MadSkin.{MadSkin}
+use Rattle.mad_page_skin.specs.declared.page_skin.PageSkin.{PageSkin}
 use Rattle.mad_rows.specs.RowStyles.{line_rules}
 use Rattle.mad_page.specs.PageKeys.{after_key}
 use Rattle.mad_page.specs.declared.commands.Ask.{Ask}
@@ -47,18 +47,18 @@ same_previous a b l m t u end to row e k i f h =
     subst (λ (n : ℕ). IsPreviousRowIn b m u n row) f (subst (λ (y : List ℕ). IsPreviousRowIn b m y end row) i (subst (λ (x : List FmtLine). IsPreviousRowIn b x t end row) k (subst (λ (x : List ℕ). IsPreviousRowIn x l t end row) e h)))
 
 -- a text laid out at the width of a screen is so for the screen
-pub laid_at : (skin : MadSkin) (page : List SectionContent) (columns width : ℕ) (dress : RowSkin) (ascii : Bool) (laid : PagedPage) → dress ≡ paged_skin skin → ascii ≡ has_ascii_boxes dress → width ≡ columns - 1 → IsPagedAt (line_rules dress) ascii (Some width) page laid
+pub laid_at : (skin : PageSkin) (page : List (List SectionContent)) (columns width : ℕ) (dress : RowSkin) (ascii : Bool) (laid : PagedPage) → dress ≡ paged_skin skin → ascii ≡ has_ascii_boxes dress → width ≡ columns - 1 → IsPagedAt (line_rules dress) ascii (Some width) page laid
     → IsLaidFor skin page columns laid
 laid_at skin page columns width dress ascii laid dressed boxes e h =
     subst (λ (n : ℕ). IsPagedAt (line_rules (paged_skin skin)) (has_ascii_boxes (paged_skin skin)) (Some n) page laid) e
     (subst (λ (d : RowSkin). IsPagedAt (line_rules d) (has_ascii_boxes d) (Some width) page laid) dressed (subst (λ (b : Bool). IsPagedAt (line_rules dress) b (Some width) page laid) boxes h))
 
 -- a text that is laid out anew for the size that was told
-pub settled_some : (skin : MadSkin) (text : List SectionContent) (told : Option ScreenSize) (size : ScreenSize) (s new : State) → told ≡ Some size → IsResized skin text size.columns size.rows s new → IsLaidAnew told skin text s new
+pub settled_some : (skin : PageSkin) (text : List (List SectionContent)) (told : Option ScreenSize) (size : ScreenSize) (s new : State) → told ≡ Some size → IsResized skin text size.columns size.rows s new → IsLaidAnew told skin text s new
 settled_some skin text told size s new is h = subst (λ (o : Option ScreenSize). IsLaidAnew o skin text s new) (sym is) h
 
 -- without such a size it stays
-pub settled_none : (skin : MadSkin) (text : List SectionContent) (told : Option ScreenSize) (s : State) → told ≡ None → IsLaidAnew told skin text s s
+pub settled_none : (skin : PageSkin) (text : List (List SectionContent)) (told : Option ScreenSize) (s : State) → told ≡ None → IsLaidAnew told skin text s s
 settled_none skin text told s is = subst (λ (o : Option ScreenSize). IsLaidAnew o skin text s s) (sym is) refl
 
 -- a field that was given this area

@@ -2,10 +2,7 @@
 use Rattle.std.specs.Prelude.{◌≡◌, ℕ, ◌+◌, ◌-◌, ◌^◌, ◌==◌, ◌&&◌, ◌||◌, min, Bool, true, false, List, [], ◌∷◌, ◌++◌, codes, length, Option, Some, None, option_map, slice_get, slice_index, if◌then◌else◌}
 use Rattle.std.specs.List.{flat_map}
 use Rattle.mad_sections.specs.Sections.{SectionContent}
-use Rattle.mad_search.specs.PagedTexts.{plain_sections}
-use Rattle.mad_md.specs.Reading.{unread_text}
-use Rattle.mad_md.specs.Scan.{lines_of}
-use Rattle.mad_layout.specs.declared.skin.MadSkin.{MadSkin}
+use Rattle.mad_page_skin.specs.declared.page_skin.PageSkin.{PageSkin}
 use Rattle.mad_page.specs.PageKeys.{after_key, command_of, is_break, uncounted}
 use Rattle.mad_page.specs.Pages.{body_rows, in_sight}
 use Rattle.mad_page.specs.declared.commands.Ask.TheVariants.{Forget, Help, Links, Contents, Quit}
@@ -24,7 +21,7 @@ use Rattle.mad_term.specs.declared.keys.KeyEvent.{KeyEvent}
 use Rattle.markdown_reader.specs.MarkdownSays.{LinkSaid}
 use Rattle.mad_pager.specs.Screens.{IsOrderly, IsShown, IsUnshown}
 use Rattle.mad_pager.specs.Sessions.{State, IsEventStep, IsResized, IsSettled, IsStart, at_header, hears, opens, state_of, turn_of}
-use Rattle.mad_outline.specs.Sources.{Content, LinksIn, TextSaid, a_text, addresses, headers, content_page, content_of, count_below, header_numbers, next, said_of}
+use Rattle.mad_outline.specs.Sources.{Content, LinksIn, TextSaid, a_text, addresses, headers, content_page, content_of, count_below, header_numbers, next, plain_said, said_of}
 use Rattle.mad_pager.specs.declared.over.Answer.{Answer}
 use Rattle.mad_pager.specs.declared.over.Answer.TheVariants.{Closes, Takes, Chooses, Passes}
 use Rattle.mad_pager.specs.declared.pager.Pager.{Pager}
@@ -39,7 +36,7 @@ use Rattle.mad_pager.specs.declared.sizes.ScreenSize.{ScreenSize}
 
 -- What is shown: its skin, its name, what it is made of, and the state of its session.
 pub record Leaf : Type 0 where
-  pub skin : MadSkin
+  pub skin : PageSkin
   pub name : List ℕ
   pub content : Content
   pub state : State
@@ -48,8 +45,8 @@ pub record Leaf : Type 0 where
 abbrev pub leaf_of : Session → Leaf
 leaf_of s = record { skin = s.skin.now; name = s.name.now; content = content_of s.source; state = state_of s }
 
--- the sections of what is shown
-abbrev pub leaf_page : Leaf → List SectionContent
+-- the sections of what is shown, in groups
+abbrev pub leaf_page : Leaf → List (List SectionContent)
 leaf_page l = content_page l.content
 
 -- What a pager has: a text, and the page over it, while one is open.
@@ -71,11 +68,11 @@ abbrev pub shown : View → Leaf
 shown v = leaf_or v.text v.over
 
 -- the start of a text on a screen of this size, with these files beside it; no page is over it
-pub record IsOpened (skin : MadSkin) (name : List ℕ) (text : TextSaid) (columns rows : ℕ) (files : Files) (v : View) : Type 0 where
+pub record IsOpened (skin : PageSkin) (name : List ℕ) (text : TextSaid) (columns rows : ℕ) (files : Files) (v : View) : Type 0 where
   pub dress : v.text.skin ≡ skin
   pub named : v.text.name ≡ name
   pub content : v.text.content ≡ a_text text
-  pub start : IsStart skin text.page columns rows files v.text.state
+  pub start : IsStart skin text.shown columns rows files v.text.state
   pub over : v.over ≡ None
 
 -- ---- what events do on a text
@@ -155,7 +152,7 @@ help_text = flat_map (λ line. line ++ 10 ∷ []) help_lines
 
 -- the page of help is a text, which has no links
 abbrev pub help_page : Content
-help_page = a_text (record { page = plain_sections (lines_of (unread_text false help_text)); links = None })
+help_page = a_text (plain_said help_text)
 
 -- the row of a text that is in the last row which the screen has for it
 abbrev pub last_row_of : Page → ℕ
@@ -171,7 +168,7 @@ never_links = codes "With --lines there are no links."
 
 -- what the page of links is made of, over a text that has these links, if it can have some
 abbrev pub links_page_of : Option (List LinkSaid) → State → Content
-links_page_of None s = a_text (record { page = plain_sections (lines_of (unread_text false never_links)); links = None })
+links_page_of None s = a_text (plain_said never_links)
 links_page_of (Some links) s = addresses (links_in links s)
 
 -- the page of links over a text: those on the screen, or that the text can't have some

@@ -6,8 +6,9 @@ use Rattle.mad_md.specs.Flagged.{flagged, flagged_of, unflagged}
 use Rattle.mad_sections.specs.Sections.{SectionContent}
 use Rattle.mad_md.specs.declared.alignment.Alignment.TheVariants.{Left}
 use Rattle.mad_measure.specs.TextColumns.{width_of}
-use Rattle.mad_style.specs.CompoundStyles.{attribute_added, unstyled}
+use Rattle.mad_style.specs.CompoundStyles.{unstyled}
 use Rattle.mad_style.specs.StyledChars.{styled_char}
+use Rattle.mad_style.specs.declared.compound_styles.CompoundStyle.{CompoundStyle}
 use Rattle.mad_style.specs.declared.kinds.CompositeKind.TheVariants.{Paragraph}
 use Rattle.mad_format.specs.Fitting.{IsCompositeFitted}
 use Rattle.mad_format.specs.Wraps.{IsMeasured}
@@ -18,11 +19,11 @@ use Rattle.mad_hits.specs.FrontHits.{AreRowsMarked}
 use Rattle.mad_hits.specs.Panes.{page_rows}
 use Rattle.mad_page_rows.specs.FaceLaws.{AreFacesShown}
 use Rattle.mad_page_rows.specs.PageFits.{KeepsRoom, sections_at}
+use Rattle.mad_pages.specs.PagedPages.{sections_in}
 use Rattle.mad_rows.specs.RowStyles.{line_rules}
 use Rattle.mad_page.specs.Pages.{percent}
 use Rattle.mad_search.specs.Searches.{composite_text}
 use Rattle.mad_term.specs.Trace.{Trace, after, flushed, CutShort}
-use Rattle.mad_term.specs.declared.attribute.Attribute.TheVariants.{Reverse}
 use Rattle.mad_term.specs.declared.errors.Error.{Error}
 use Rattle.mad_term.specs.declared.errors.Error.TheVariants.{IO, InsufficientWidth, Memory}
 use Rattle.mad_measure.specs.declared.area.Area.{Area}
@@ -39,6 +40,7 @@ use Rattle.mad_layout.specs.RowSkins.{row_skin}
 use Rattle.mad_layout.specs.Skins.{no_style_skin}
 use Rattle.mad_layout.specs.Shown.{area_row}
 use Rattle.mad_layout.specs.declared.skin.MadSkin.{MadSkin}
+use Rattle.mad_page_skin.specs.declared.page_skin.PageSkin.{PageSkin}
 use Rattle.mad_rows.specs.declared.row_skin.RowSkin.{RowSkin}
 use Rattle.std.specs.List.{AllByRecursion}
 use Rattle.mad_characters.specs.Columns.{char_columns}
@@ -53,19 +55,19 @@ abbrev pub area_of : State → Area
 area_of s = text_area s.page.columns s.page.rows
 
 -- the bar beside the text, if not all its rows fit
-abbrev pub bar_of : MadSkin → State → Option ScrollBar
-bar_of skin s = bar_beside (area_of s) s.page.top (length s.laid.lines.items) skin.scrollbar
+abbrev pub bar_of : PageSkin → State → Option ScrollBar
+bar_of skin s = bar_beside (area_of s) s.page.top (length s.laid.lines.items) skin.text.scrollbar
 
 -- the columns that the bar leaves to the text, if there is a bar
-abbrev pub text_columns : MadSkin → State → ℕ
+abbrev pub text_columns : PageSkin → State → ℕ
 text_columns skin s = columns_beside (bar_of skin s) (area_of s).width
 
 -- the text's rows from the top one on, in these columns
-abbrev pub text_rows : MadSkin → State → ℕ → List RowPiece
+abbrev pub text_rows : PageSkin → State → ℕ → List RowPiece
 text_rows skin s = page_rows (paged_skin skin) (bar_of skin s) s.laid.lines.items s.laid.fronts.items s.page.top s.page.columns
 
 -- the text's rows beside the bar
-abbrev pub text_pane : MadSkin → State → Pane
+abbrev pub text_pane : PageSkin → State → Pane
 text_pane skin s = record { area = area_of s; row = beside_bar (bar_of skin s) (text_rows skin s) }
 
 -- one line in the last row
@@ -97,10 +99,9 @@ status_words name s =
     if s.page.has_colon then codes ":"
     else decimal (percent s.page) ++ codes "%  " ++ name ++ sought_words s.is_missing s.sought
 
--- the skin of the status: no style, but that its characters are reversed
-abbrev pub reversed_skin : MadSkin
-reversed_skin =
-    record no_style_skin { paragraph = record no_style_skin.paragraph { compound_style = attribute_added no_style_skin.paragraph.compound_style Reverse } }
+-- the skin of the status: no style but this one, which its characters have
+abbrev pub status_skin : CompoundStyle → MadSkin
+status_skin style = record no_style_skin { paragraph = record no_style_skin.paragraph { compound_style = style } }
 
 -- The line is a paragraph of these words without flags, fitted to a place of these columns.
 pub record IsStatusLine (skin : MadSkin) (words : List ℕ) (columns : ℕ) (line : FmtLine) : Type 0 where
@@ -121,9 +122,9 @@ abbrev pub IsLineIn : RowSkin → FmtLine → Area → List ℕ → Type 0
 IsLineIn skin line area bytes = AreDrawable skin area.width (line ∷ []) → AreRowsShown (area_row skin None (line ∷ []) area 0) area bytes
 
 -- These bytes are a status: its line in the last row, which shows it where the words of the line are shown.
-pub record IsStatus (name : List ℕ) (s : State) (bytes : List ℕ) : Type 0 where
+pub record IsStatus (skin : PageSkin) (name : List ℕ) (s : State) (bytes : List ℕ) : Type 0 where
   pub dress : MadSkin
-  pub dressed : dress ≡ reversed_skin
+  pub dressed : dress ≡ status_skin skin.status
   pub line : FmtLine
   pub is : IsStatusLine dress (status_words name s) s.page.columns line
   pub shown : IsLineIn (row_skin dress) line (last_row s.page.columns s.page.rows) bytes
@@ -140,28 +141,28 @@ pub record IsFieldInRow (s : State) : Type 0 where
   pub typed : TakeColumns s.field.content.text
 
 -- What a session keeps from its start on: the text is laid out for its screen, and its field is in the last row.
-pub record IsOrderly (skin : MadSkin) (page : List SectionContent) (s : State) : Type 0 where
+pub record IsOrderly (skin : PageSkin) (page : List (List SectionContent)) (s : State) : Type 0 where
   pub laid : IsLaidFor skin page s.page.columns s.laid
   pub field : IsFieldInRow s
 
 -- ---- what is shown
 
--- the count of the sections that begin above the end of the screen
+-- the count of the groups of sections that begin above the end of the screen
 abbrev pub count_begun : State → ℕ
 count_begun s = count_by (λ start. nat_lt start (s.page.top + (area_of s).height)) s.laid.starts.items
 
 -- What the text has to keep: what is laid out is a page each of whose sections, as far as the screen reaches, keeps the premises. The characters that the
 -- skin shows beside text, and those of the bar, if there is one, take one column each.
-pub record KeepsTextPremises (skin : MadSkin) (s : State) : Type 0 where
-  pub page : List SectionContent
+pub record KeepsTextPremises (skin : PageSkin) (s : State) : Type 0 where
+  pub page : List (List SectionContent)
   pub laid : IsLaidFor skin page s.page.columns s.laid
-  pub keeps : AllByRecursion (KeepsRoom (paged_skin skin) (layout_width s.page.columns)) (sections_at (paged_skin skin) (layout_width s.page.columns) (take (count_begun s) page))
+  pub keeps : AllByRecursion (KeepsRoom (paged_skin skin) (layout_width s.page.columns)) (sections_at (paged_skin skin) (layout_width s.page.columns) (sections_in (take (count_begun s) page)))
   pub faces : AreFacesShown (paged_skin skin)
   pub bar : IfSome (bar_of skin s) (IsBarShown s.page.columns)
 
 -- These bytes show the text from its top row on, beside its bar. The bar has bytes of its own, which show it in the last column whatever was read
 -- before them.
-abbrev pub AreLinesShown : MadSkin → State → List ℕ → Type 0
+abbrev pub AreLinesShown : PageSkin → State → List ℕ → Type 0
 AreLinesShown skin s bytes = KeepsTextPremises skin s → AreShownBeside (bar_of skin s) (text_rows skin s) (area_of s) bytes
 
 -- these bytes show what is being typed
@@ -173,25 +174,25 @@ abbrev pub IsFieldRow : State → List ℕ → Type 0
 IsFieldRow s bytes = 1 < s.page.columns → IsFieldInRow s → ShowsEach (prompt_pane s ∷ field_pane s ∷ []) bytes
 
 -- these bytes are what the last row has: what is being typed, or else the status
-pub record IsLastRow (name : List ℕ) (s : State) (bytes : List ℕ) : Type 0 where
+pub record IsLastRow (skin : PageSkin) (name : List ℕ) (s : State) (bytes : List ℕ) : Type 0 where
   pub typing : s.is_typing ≡ true → IsFieldRow s bytes
-  pub status : s.is_typing ≡ false → IsStatus name s bytes
+  pub status : s.is_typing ≡ false → IsStatus skin name s bytes
 
 -- These bytes show a session while something is being typed: the text from its top row on, its bar, and in the last row a slash and the field. Every
 -- other cell is as before.
-abbrev pub IsTypingShown : MadSkin → State → List ℕ → Type 0
+abbrev pub IsTypingShown : PageSkin → State → List ℕ → Type 0
 IsTypingShown skin s bytes = KeepsTextPremises skin s → IsFieldInRow s → ArePanesShown (text_pane skin s ∷ prompt_pane s ∷ field_pane s ∷ []) bytes
 
 -- These bytes show it while nothing is being typed: in the last row is the status, where its words are shown.
-pub record IsStatusShown (skin : MadSkin) (name : List ℕ) (s : State) (bytes : List ℕ) : Type 0 where
+pub record IsStatusShown (skin : PageSkin) (name : List ℕ) (s : State) (bytes : List ℕ) : Type 0 where
   pub dress : MadSkin
-  pub dressed : dress ≡ reversed_skin
+  pub dressed : dress ≡ status_skin skin.status
   pub line : FmtLine
   pub status : IsStatusLine dress (status_words name s) s.page.columns line
   pub shown : KeepsTextPremises skin s → AreDrawable (row_skin dress) s.page.columns (line ∷ []) → ArePanesShown (text_pane skin s ∷ status_pane (row_skin dress) line s ∷ []) bytes
 
 -- These bytes show the text and the last row of a session: one of these two. The text comes first, with its bar by moves of its own.
-pub record ArePanesDrawn (skin : MadSkin) (name : List ℕ) (s : State) (bytes : List ℕ) : Type 0 where
+pub record ArePanesDrawn (skin : PageSkin) (name : List ℕ) (s : State) (bytes : List ℕ) : Type 0 where
   pub lines : List ℕ
   pub last : List ℕ
   pub are : bytes ≡ lines ++ last
@@ -204,12 +205,12 @@ abbrev pub rows_shown : State → List ℕ
 rows_shown s = range_with_len s.page.top (min (area_of s).height (length s.laid.lines.items - s.page.top))
 
 -- these bytes mark what is sought in these rows, which have the columns that the text is drawn in
-abbrev pub AreHitsDrawn : MadSkin → State → List ℕ → Type 0
+abbrev pub AreHitsDrawn : PageSkin → State → List ℕ → Type 0
 AreHitsDrawn skin s bytes = AreRowsMarked (paged_skin skin) (text_columns skin s) s.sought s.laid.lines.items s.laid.fronts.items s.laid.parts.items 0 (rows_shown s) bytes
 
 -- These bytes show a session: first the text and the last row, and then, over the text, what is sought. Each byte of a hit is written in the cells of
 -- the hit alone.
-pub record IsDrawing (skin : MadSkin) (name : List ℕ) (s : State) (bytes : List ℕ) : Type 0 where
+pub record IsDrawing (skin : PageSkin) (name : List ℕ) (s : State) (bytes : List ℕ) : Type 0 where
   pub panes : List ℕ
   pub hits : List ℕ
   pub are : bytes ≡ panes ++ hits
@@ -217,7 +218,7 @@ pub record IsDrawing (skin : MadSkin) (name : List ℕ) (s : State) (bytes : Lis
   pub marked : AreHitsDrawn skin s hits
 
 -- the picture of a session; on a screen that shows nothing it has no byte
-pub record IsPicture (skin : MadSkin) (name : List ℕ) (s : State) (bytes : List ℕ) : Type 0 where
+pub record IsPicture (skin : PageSkin) (name : List ℕ) (s : State) (bytes : List ℕ) : Type 0 where
   pub small : is_small s ≡ true → bytes ≡ []
   pub shown : is_small s ≡ false → IsDrawing skin name s bytes
 
@@ -228,17 +229,17 @@ abbrev pub question : Bool → List ℕ
 question asks = if asks then 27 ∷ (codes "[999;999H" ++ 27 ∷ codes "[6n") else []
 
 -- these bytes are the question for the size, if it is asked, and the picture of a session
-pub record IsShowing (skin : MadSkin) (name : List ℕ) (asks : Bool) (s : State) (bytes : List ℕ) : Type 0 where
+pub record IsShowing (skin : PageSkin) (name : List ℕ) (asks : Bool) (s : State) (bytes : List ℕ) : Type 0 where
   pub picture : List ℕ
   pub is : bytes ≡ question asks ++ picture
   pub shows : IsPicture skin name s picture
 
 -- the device took such bytes whole, and was flushed then
-abbrev pub IsShown : MadSkin → List ℕ → Bool → State → Trace → Trace → Type 0
+abbrev pub IsShown : PageSkin → List ℕ → Bool → State → Trace → Trace → Type 0
 IsShown skin name asks s old new = (bytes : List ℕ) × IsShowing skin name asks s bytes × (new ≡ flushed (after old bytes))
 
 -- It failed within such bytes, or at the flush. Out of memory nothing went out. It refuses by nothing else.
-abbrev pub IsUnshown : MadSkin → List ℕ → Bool → State → Trace → Error → Trace → Type 0
+abbrev pub IsUnshown : PageSkin → List ℕ → Bool → State → Trace → Error → Trace → Type 0
 IsUnshown skin name asks s old (IO e) new = (bytes : List ℕ) × IsShowing skin name asks s bytes × CutShort old bytes new
 IsUnshown skin name asks s old (InsufficientWidth e) new = ⊥
 IsUnshown skin name asks s old Memory new = new ≡ old

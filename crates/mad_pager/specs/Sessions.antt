@@ -15,9 +15,9 @@ use Rattle.mad_pages.specs.declared.paged.PagedPage.{PagedPage}
 use Rattle.mad_field.specs.Fields.{Field, new_field}
 use Rattle.mad_field.specs.Keys.{key_outcome}
 use Rattle.mad_field.specs.Scrolls.{rescrolled}
-use Rattle.mad_layout.specs.RowSkins.{row_skin}
-use Rattle.mad_layout.specs.declared.skin.MadSkin.{MadSkin}
-use Rattle.mad_rows.specs.RowStyles.{line_rules, with_links}
+use Rattle.mad_page_skin.specs.PageSkins.{page_row_skin}
+use Rattle.mad_page_skin.specs.declared.page_skin.PageSkin.{PageSkin}
+use Rattle.mad_rows.specs.RowStyles.{line_rules}
 use Rattle.mad_rows.specs.declared.row_skin.RowSkin.{RowSkin}
 use Rattle.mad_page.specs.PageKeys.{after_key, after_mouse, is_break}
 use Rattle.mad_page.specs.Pages.{in_sight, shows_row}
@@ -90,16 +90,16 @@ field_row columns rows = record { left = 1; top = rows - 1; width = columns - 1;
 abbrev pub layout_width : ℕ → ℕ
 layout_width columns = columns - 1
 
--- what rows show of the skin, with links that one sees
-abbrev pub paged_skin : MadSkin → RowSkin
-paged_skin skin = with_links (row_skin skin)
+-- what rows show of the skin; words stay whole where those of its text do
+abbrev pub paged_skin : PageSkin → RowSkin
+paged_skin skin = record (page_row_skin skin) { whole_words = skin.text.whole_words }
 
--- sections are laid out for a screen of these columns
-abbrev pub IsLaidFor : MadSkin → List SectionContent → ℕ → PagedPage → Type 0
+-- sections are laid out in groups for a screen of these columns
+abbrev pub IsLaidFor : PageSkin → List (List SectionContent) → ℕ → PagedPage → Type 0
 IsLaidFor skin page columns laid = IsPagedAt (line_rules (paged_skin skin)) (has_ascii_boxes (paged_skin skin)) (Some (layout_width columns)) page laid
 
 -- the start of a text on a screen of this size: its first row is on top, nothing is being typed and nothing is sought; these files are beside it
-pub record IsStart (skin : MadSkin) (text : List SectionContent) (columns rows : ℕ) (files : Files) (s : State) : Type 0 where
+pub record IsStart (skin : PageSkin) (text : List (List SectionContent)) (columns rows : ℕ) (files : Files) (s : State) : Type 0 where
   pub laid : IsLaidFor skin text columns s.laid
   pub page : s.page ≡ record { columns = columns; rows = rows; height = length s.laid.lines.items; top = 0; count = 0; holds_bar = false; has_colon = false; files = files }
   pub field : s.field ≡ new_field (field_row columns rows)
@@ -187,7 +187,7 @@ abbrev pub kept_row : ℕ → ℕ → List ℕ → List ℕ → ℕ → ℕ
 kept_row old_columns new_columns old new row = if new_columns == old_columns then row else row_in_parts old new row
 
 -- The screen has another size: the text is laid out for it, and what was on top stays there.
-pub record IsResized (skin : MadSkin) (text : List SectionContent) (columns rows : ℕ) (old new : State) : Type 0 where
+pub record IsResized (skin : PageSkin) (text : List (List SectionContent)) (columns rows : ℕ) (old new : State) : Type 0 where
   pub laid : IsLaidFor skin text columns new.laid
   pub page : new.page ≡ record old.page { columns = columns; rows = rows; height = length new.laid.lines.items; top = kept_row old.page.columns columns old.laid.starts.items new.laid.starts.items old.page.top }
   pub field : IsMovedTo (field_row columns rows) old.field new.field
@@ -198,12 +198,12 @@ pub record IsResized (skin : MadSkin) (text : List SectionContent) (columns rows
   pub told : new.told ≡ None
 
 -- the text is laid out for the size that was told, if one was
-abbrev pub IsLaidAnew : Option ScreenSize → MadSkin → List SectionContent → State → State → Type 0
+abbrev pub IsLaidAnew : Option ScreenSize → PageSkin → List (List SectionContent) → State → State → Type 0
 IsLaidAnew None skin text s new = new ≡ s
 IsLaidAnew (Some size) skin text s new = IsResized skin text size.columns size.rows s new
 
 -- a session is laid out for the size that it was told, if it was told one
-abbrev pub IsSettled : MadSkin → List SectionContent → State → State → Type 0
+abbrev pub IsSettled : PageSkin → List (List SectionContent) → State → State → Type 0
 IsSettled skin text s new = IsLaidAnew s.told skin text s new
 
 -- a size that the terminal tells is remembered; one of more than a million cells isn't believed
@@ -221,7 +221,7 @@ pub record IsAnyKeyStep (key : KeyEvent) (s new : State) : Type 0 where
   pub other : s.is_typing ≡ false → IsKeyStep key s new
 
 -- what an event does
-abbrev pub IsEventStep : MadSkin → List SectionContent → Event → State → State → Type 0
+abbrev pub IsEventStep : PageSkin → List (List SectionContent) → Event → State → State → Type 0
 IsEventStep skin text (Key key) s new = IsAnyKeyStep key s new
 IsEventStep skin text (Mouse mouse) s new = new ≡ record s { page = after_mouse mouse s.page }
 IsEventStep skin text (Resize columns rows) s new = new ≡ hears_size columns rows s

@@ -114,7 +114,7 @@ impl Session<'_> {
             &area,
             self.page.top,
             height_of(&self.laid),
-            self.skin.scrollbar,
+            self.skin.text.scrollbar,
         )
     }
 
@@ -139,7 +139,7 @@ impl Session<'_> {
 
     // Draws what is typed, or else the status.
     fn draw_last_row<O: Out>(&self, alloc: Global, out: &mut O) -> Result<(), Error>
-        ensures { OnOk result (TookWith (O.seen out.old) (O.seen out.new) (IsLastRow self.now.name.now (state_of self.now))) }
+        ensures { OnOk result (TookWith (O.seen out.old) (O.seen out.new) (IsLastRow self.now.skin.now self.now.name.now (state_of self.now))) }
     {
         let is_typing = self.is_typing;
         if is_typing {

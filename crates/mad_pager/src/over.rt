@@ -156,7 +156,7 @@ impl<'s> Session<'s> {
     {
         match self.paged() {
             PagedText::Lines(_) => Source::Text(PagedText::Lines(NEVER_LINKS)),
-            PagedText::Markdown(markdown) => {
+            PagedText::Markdown(markdown, _) => {
                 let starts = self.laid.starts.as_slice();
                 let first = section_at(starts, self.page.top);
                 let last = section_at(starts, self.last_row());

@@ -8,9 +8,9 @@ ghost use Rattle.mad_outline.specs.Sources.{content_of, text_said};
 use crate::help::{HELP, HELP_NAME};
 use crate::over::Answer;
 use crate::session::{Overlay, Session, Turn};
-use mad_layout::MadSkin;
 use mad_outline::{CONTENTS_NAME, LINKS_NAME, Source};
 use mad_page::Files;
+use mad_page_skin::PageSkin;
 use mad_search::PagedText;
 use mad_term::{Error, Event, Out};
 use std::alloc::{AllocError, Global};
@@ -34,7 +34,7 @@ impl<'s> Pager<'s> {
         alloc: Global,
         name: &'s str,
         text: PagedText<'s>,
-        skin: &'s MadSkin,
+        skin: &'s PageSkin,
         columns: u16,
         rows: u16,
         files: Files,

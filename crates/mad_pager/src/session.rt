@@ -8,9 +8,9 @@ ghost use Rattle.mad_pager.specs.Sessions.{asks_size, end_of, opens, state_of, t
 use crate::places::field_row;
 use crate::sizes::{ScreenSize, height_of, lay};
 use mad_field::InputField;
-use mad_layout::MadSkin;
 use mad_outline::Source;
 use mad_page::{Ask, Files, Page, is_break};
+use mad_page_skin::PageSkin;
 use mad_pages::PagedPage;
 use mad_term::{Event, KeyEvent};
 use std::alloc::{AllocError, Global};
@@ -86,8 +86,8 @@ pub struct Session<'s> {
     pub name: &'s str,
     /// What is shown, before it is laid out.
     pub source: Source<'s>,
-    /// The skin that it is shown in.
-    pub skin: &'s MadSkin,
+    /// The skin that it is shown in. Words stay whole where those of its text do.
+    pub skin: &'s PageSkin,
     /// What is shown, laid out for the screen in its skin.
     pub laid: PagedPage<'s>,
     /// Which of its rows is on top.
@@ -116,7 +116,7 @@ impl<'s> Session<'s> {
         alloc: Global,
         name: &'s str,
         source: Source<'s>,
-        skin: &'s MadSkin,
+        skin: &'s PageSkin,
         columns: u16,
         rows: u16,
         files: Files,

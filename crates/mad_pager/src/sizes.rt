@@ -6,10 +6,10 @@ ghost use Rattle.mad_pager.specs.Sessions.{hears, hears_size, kept_row, paged_sk
 
 use crate::places::{field_row, layout_width};
 use crate::session::Session;
-use mad_layout::MadSkin;
 use mad_outline::Source;
 use mad_page::Page;
 use mad_page_rows::has_ascii_boxes;
+use mad_page_skin::PageSkin;
 use mad_pages::PagedPage;
 use mad_rows::RowSkin;
 use mad_search::row_in_parts;
@@ -113,7 +113,7 @@ impl<'s> Session<'s> {
 /// Out of memory is the only error.
 pub(crate) fn lay<'s>(
     alloc: Global,
-    skin: &MadSkin,
+    skin: &PageSkin,
     source: Source<'s>,
     columns: u16,
 ) -> Result<PagedPage<'s>, AllocError>
@@ -124,11 +124,14 @@ pub(crate) fn lay<'s>(
     Ok(laid)
 }
 
-/// What rows show of a skin, with links that one sees.
-pub(crate) fn paged_skin(skin: &MadSkin) -> RowSkin
+/// What rows show of a skin. Words stay whole where those of its text do.
+pub(crate) fn paged_skin(skin: &PageSkin) -> RowSkin
     ensures { result ≡ paged_skin skin.now }
 {
-    skin.row_skin().with_links()
+    RowSkin {
+        whole_words: skin.text.whole_words,
+        ..skin.row_skin()
+    }
 }
 
 /// How many rows what is laid out has.

@@ -5,7 +5,7 @@ ghost use Rattle.mad_term.specs.Trace.{TookWith};
 ghost use Rattle.mad_measure.specs.Areas.{IsWithinLimits};
 ghost use Rattle.mad_layout.specs.RowSkins.{row_skin};
 ghost use Rattle.mad_pager.specs.Sessions.{state_of};
-ghost use Rattle.mad_pager.specs.Screens.{reversed_skin, sought_words, status_words, IsLineIn, IsStatus, IsStatusLine};
+ghost use Rattle.mad_pager.specs.Screens.{sought_words, status_skin, status_words, IsLineIn, IsStatus, IsStatusLine};
 
 use crate::places::last_row;
 use crate::session::Session;
@@ -13,7 +13,8 @@ use mad_format::{Fitter, FmtComposite, FmtLine};
 use mad_layout::{FmtText, MadSkin, draw_text};
 use mad_md::{Alignment, Compound};
 use mad_measure::{Area, Spacing};
-use mad_term::{Attribute, Error, Out};
+use mad_style::CompoundStyle;
+use mad_term::{Error, Out};
 use std::alloc::{AllocError, Global};
 
 impl Session<'_> {
@@ -23,10 +24,10 @@ impl Session<'_> {
     ///
     /// A fault of the device, or out of memory. What went out by then is a beginning of the whole.
     pub fn draw_status<O: Out>(&self, alloc: Global, out: &mut O) -> Result<(), Error>
-        ensures { OnOk result (TookWith (O.seen out.old) (O.seen out.new) (IsStatus self.now.name.now (state_of self.now))) }
+        ensures { OnOk result (TookWith (O.seen out.old) (O.seen out.new) (IsStatus self.now.skin.now self.now.name.now (state_of self.now))) }
     {
         let words = self.status_words(alloc)?;
-        let skin = status_skin();
+        let skin = status_skin(self.skin.status);
         let line = status_line(alloc, words.as_str(), self.page.columns, &skin)?;
         let area = last_row(self.page.columns, self.page.rows);
         draw_line(alloc, out, line, &skin, &area)?;
@@ -108,11 +109,11 @@ fn status_line<'w>(
     Ok(FmtLine::Normal(line.in_place(place)))
 }
 
-// The skin of the status: reversed.
-fn status_skin() -> MadSkin
-    ensures { result ≡ reversed_skin }
+// The skin of the status: no style but this one.
+fn status_skin(style: CompoundStyle) -> MadSkin
+    ensures { result ≡ status_skin style }
 {
     let mut skin = MadSkin::no_style();
-    skin.paragraph.compound_style.add_attr(Attribute::Reverse);
+    skin.paragraph.compound_style = style;
     skin
 }

@@ -20,7 +20,7 @@ use Rattle.mad_pages.specs.PageLayouts.{IsSectionAt, BecomesAt, IsPageAt}
 use Rattle.mad_pages.specs.PageRows.{RowContent, behind, rest_behind}
 use Rattle.mad_pages.specs.Fronts.{FrontContent, front_at, front_content, front_of, front_or_none, fronts_behind, line_of, row_behind}
 use Rattle.mad_pages.specs.BesideLaws.{IsTextAt, LinesAreTheTexts, RowsAreThePage}
-use Rattle.mad_pages.specs.PagedPages.{AreAdded, ArePartsAdded, BeginIn, EndIn, IsPagedAt, IsPartAt, PlacedPart, page_parts, parts_in, parts_shown}
+use Rattle.mad_pages.specs.PagedPages.{AreAdded, ArePartsAdded, BeginIn, EndIn, IsPagedAt, IsPartAt, PlacedPart, page_parts, parts_in, parts_shown, sections_in}
 use Rattle.mad_pages.specs.declared.fronts.Front.{Front}
 use Rattle.mad_pages.specs.declared.paged.PagedPage.{PagedPage}
 use Rattle.mad_pages.proofs.PageLemmas.{lines_behind}
@@ -59,9 +59,16 @@ pub each_begins : {A R : Type 0} (P : A → List R → Type 0) (xs : List A) (ro
 each_begins P [] row rows ends h = h.0
 each_begins P (x ∷ xs) row rows ends (own, others, more, are, is, ends_are, h) = (own, others, are, is, each_begins P xs (row + length own) others more h)
 
+-- what becomes of groups becomes of all that are in them
+pub groups_become : {R : Type 0} (P : SectionContent → List R → Type 0) (groups : List (List SectionContent)) (rows : List R) → EachBecomes (EachBecomes P) groups rows → EachBecomes P (sections_in groups) rows
+groups_become P [] rows h = h
+groups_become {R = R} P (group ∷ groups) rows (own, others, are, here, h) =
+    subst (λ (r : List R). EachBecomes P (group ++ sections_in groups) r) (sym are) (both_become P group (sections_in groups) own others here (groups_become P groups others h))
+
 -- the rows of a page that is laid out are those of its sections
-pub paged_rows : (rules : LineRules) (ascii : Bool) (width : Option ℕ) (page : List SectionContent) (paged : PagedPage) (is : IsPagedAt rules ascii width page paged) → IsPageAt rules ascii width page is.rows
-paged_rows rules ascii width page paged is = each_begins (BecomesAt rules ascii width) page 0 is.rows is.sections.0 is.sections.2
+pub paged_rows : (rules : LineRules) (ascii : Bool) (width : Option ℕ) (groups : List (List SectionContent)) (paged : PagedPage) (is : IsPagedAt rules ascii width groups paged) → IsPageAt rules ascii width (sections_in groups) is.rows
+paged_rows rules ascii width groups paged is =
+    groups_become (BecomesAt rules ascii width) groups is.rows (each_begins (IsPageAt rules ascii width) groups 0 is.rows is.groups_begin.0 is.groups_begin.2)
 
 -- ---- the parts of a text
 
@@ -230,57 +237,99 @@ pub items_added : (rules : LineRules) (ascii : Bool) (width : Option ℕ) (all l
 items_added rules ascii width all left old new h none =
     subst (λ (s : List SectionContent). AreAdded rules ascii width s old new) (sym (h.joins ∙ ap (λ (s : List SectionContent). h.front ++ s) none ∙ append-nil h.front)) h.added
 
+-- ---- groups
+
+-- what becomes of two parts, part by part
+pub parts_become : {A B : Type 0} (P : A → List B → Type 0) (xs ys : List A) (rows : List B) → EachBecomes P (xs ++ ys) rows → (own : List B) × (others : List B) × (rows ≡ own ++ others) × EachBecomes P xs own × EachBecomes P ys others
+parts_become P [] ys rows h = ([], rows, refl, refl, h)
+parts_become {B = B} P (x ∷ xs) ys rows (first, rest, are, here, h) =
+    let more = parts_become P xs ys rest h in
+    (first ++ more.0, more.1, are ∙ ap (λ (r : List B). first ++ r) more.2 ∙ sym (append_assoc first more.0 more.1), (first, more.0, refl, here, more.3), more.4)
+
+-- the rows of what is shown of a group are those of the group
+pub group_becomes : (rules : LineRules) (ascii : Bool) (width : Option ℕ) (group : List SectionContent) (rows : List RowContent)
+    → EachBecomes (IsSectionAt rules ascii width) (flat_map (unfolded rules.whole_words ascii width) group) rows → IsPageAt rules ascii width group rows
+group_becomes rules ascii width [] rows h = h
+group_becomes rules ascii width (section ∷ group) rows h =
+    let two = parts_become (IsSectionAt rules ascii width) (unfolded rules.whole_words ascii width section) (flat_map (unfolded rules.whole_words ascii width) group) rows h in
+    (two.0, two.1, two.2, two.3, group_becomes rules ascii width group two.1 two.4)
+
+-- a section, and one below it
+pub two_added : (rules : LineRules) (ascii : Bool) (width : Option ℕ) (section below : SectionContent) (group : List SectionContent) (old mid new : PagedPage) → group ≡ section ∷ below ∷ [] → AreAdded rules ascii width (unfolded rules.whole_words ascii width section) old mid
+    → AreAdded rules ascii width (unfolded rules.whole_words ascii width below) mid new → AreAdded rules ascii width (flat_map (unfolded rules.whole_words ascii width) group) old new
+two_added rules ascii width section below group old mid new is h k =
+    let one : List SectionContent = unfolded rules.whole_words ascii width section in
+    let other : List SectionContent = unfolded rules.whole_words ascii width below in
+    subst (λ (s : List SectionContent). AreAdded rules ascii width s old new) (ap (λ (s : List SectionContent). one ++ s) (sym (append-nil other)) ∙ ap (flat_map (unfolded rules.whole_words ascii width)) (sym is))
+    (added_join rules ascii width one other old mid new h k)
+
+-- the parts of what is shown of a group are those of the group
+pub group_parts : (whole_words ascii : Bool) (width : Option ℕ) (group : List SectionContent) → parts_shown ascii width (flat_map (unfolded whole_words ascii width) group) ≡ page_parts whole_words ascii width group
+group_parts whole_words ascii width [] = refl
+group_parts whole_words ascii width (section ∷ group) =
+    let one : List SectionContent = unfolded whole_words ascii width section in
+    flat_map_append (λ (s : SectionContent). parts_in (room ascii width s.gutters) s.lines) one (flat_map (unfolded whole_words ascii width) group)
+    ∙ ap (λ (ps : List PlacedPart). parts_shown ascii width one ++ ps) (group_parts whole_words ascii width group)
+
+-- the parts of the pages of two lists of groups
+pub groups_parts : (whole_words ascii : Bool) (width : Option ℕ) (groups : List (List SectionContent)) (group : List SectionContent)
+    → page_parts whole_words ascii width (sections_in (groups ++ group ∷ [])) ≡ page_parts whole_words ascii width (sections_in groups) ++ page_parts whole_words ascii width group
+groups_parts whole_words ascii width groups group =
+    ap (page_parts whole_words ascii width) (flat_map_append (λ (g : List SectionContent). g) groups (group ∷ []) ∙ ap (λ (s : List SectionContent). sections_in groups ++ s) (append-nil group))
+    ∙ flat_map_append (λ (s : SectionContent). parts_shown ascii width (unfolded whole_words ascii width s)) (sections_in groups) group
+
 -- ---- pages
 
 -- the page up to what is left
-pub record PagedSoFar (rules : LineRules) (ascii : Bool) (width : Option ℕ) (all left : List SectionContent) (paged : PagedPage) : Type 0 where
-  pub front : List SectionContent
+pub record PagedSoFar (rules : LineRules) (ascii : Bool) (width : Option ℕ) (all left : List (List SectionContent)) (paged : PagedPage) : Type 0 where
+  pub front : List (List SectionContent)
   pub joins : all ≡ front ++ left
   pub is : IsPagedAt rules ascii width front paged
 
--- before the first section there are no lines and no fronts
-pub nothing_paged : (rules : LineRules) (ascii : Bool) (width : Option ℕ) (all : List SectionContent) (paged : PagedPage) → paged.lines.items ≡ [] → paged.fronts.items ≡ [] → paged.starts.items ≡ 0 ∷ [] → paged.parts.items ≡ 0 ∷ []
+-- before the first group there are no lines and no fronts
+pub nothing_paged : (rules : LineRules) (ascii : Bool) (width : Option ℕ) (all : List (List SectionContent)) (paged : PagedPage) → paged.lines.items ≡ [] → paged.fronts.items ≡ [] → paged.starts.items ≡ 0 ∷ [] → paged.parts.items ≡ 0 ∷ []
     → PagedSoFar rules ascii width all all paged
 nothing_paged rules ascii width all paged no_line no_front one one_part = record {
   front = [];
   joins = refl;
-  is = record { rows = []; sections = ([], one, (refl, refl)); parts = ([], one_part, (no_line, refl)); lines = no_line; fronts = ap (map front_content) no_front };
+  is = record { rows = []; groups_begin = ([], one, (refl, refl)); parts = ([], one_part, (no_line, refl)); lines = no_line; fronts = ap (map front_content) no_front };
 }
 
--- a section more
-pub section_paged : (rules : LineRules) (ascii : Bool) (width : Option ℕ) (all left : List SectionContent) (section : SectionContent) (old mid new : PagedPage)
-    → PagedSoFar rules ascii width all (section ∷ left) old → AreAdded rules ascii width (unfolded rules.whole_words ascii width section) old mid → mid.starts ≡ old.starts
+-- a group more
+pub group_paged : (rules : LineRules) (ascii : Bool) (width : Option ℕ) (all left : List (List SectionContent)) (group : List SectionContent) (old mid new : PagedPage)
+    → PagedSoFar rules ascii width all (group ∷ left) old → AreAdded rules ascii width (flat_map (unfolded rules.whole_words ascii width) group) old mid → mid.starts ≡ old.starts
     → new.lines ≡ mid.lines → new.fronts ≡ mid.fronts → new.parts ≡ mid.parts → new.starts.items ≡ mid.starts.items ++ length mid.lines.items ∷ [] → PagedSoFar rules ascii width all left new
-section_paged rules ascii width all left section old mid new h added same same_lines same_fronts same_parts pushed =
+group_paged rules ascii width all left group old mid new h added same same_lines same_fronts same_parts pushed =
     let so_far = h.is in
     let lines : new.lines.items ≡ old.lines.items ++ map line_of added.own = ap (λ v. v.items) same_lines ∙ added.lines in
     let rows_count : length so_far.rows ≡ length old.lines.items = sym (ap length so_far.lines ∙ length-map so_far.rows line_of) in
     let count : length mid.lines.items ≡ length so_far.rows + length added.own =
     omega (arith, ap length added.lines, length-append old.lines.items (map line_of added.own), length-map added.own line_of, rows_count) in
     let starts : new.starts.items ≡ old.starts.items ++ (length so_far.rows + length added.own) ∷ [] = pushed ∙ ap (λ v. v.items ++ length mid.lines.items ∷ []) same ∙ ap (λ (n : ℕ). old.starts.items ++ n ∷ []) count in
-    let shown_here = parts_shown ascii width (unfolded rules.whole_words ascii width section) in
+    let shown_here = page_parts rules.whole_words ascii width group in
     record {
-      front = h.front ++ section ∷ [];
-      joins = h.joins ∙ sym (append_assoc h.front (section ∷ []) left);
+      front = h.front ++ group ∷ [];
+      joins = h.joins ∙ sym (append_assoc h.front (group ∷ []) left);
       is = record {
         rows = so_far.rows ++ added.own;
-        sections =
-            begin_more (BecomesAt rules ascii width) h.front (section ∷ []) so_far.rows added.own (so_far.rows ++ added.own) old.starts.items ((length so_far.rows + length added.own) ∷ []) new.starts.items so_far.sections
-            (one_end (BecomesAt rules ascii width) section (length so_far.rows) added.own added.are) refl starts;
+        groups_begin =
+            begin_more (IsPageAt rules ascii width) h.front (group ∷ []) so_far.rows added.own (so_far.rows ++ added.own) old.starts.items ((length so_far.rows + length added.own) ∷ []) new.starts.items so_far.groups_begin
+            (one_end (IsPageAt rules ascii width) group (length so_far.rows) added.own (group_becomes rules ascii width group added.own added.are)) refl starts;
         parts =
             subst (λ (ps : List PlacedPart). BeginIn (IsPartAt rules) ps new.lines.items new.parts.items)
-            (sym (flat_map_append (λ (s : SectionContent). parts_shown ascii width (unfolded rules.whole_words ascii width s)) h.front (section ∷ []) ∙ ap (λ (ps : List PlacedPart). page_parts rules.whole_words ascii width h.front ++ ps) (append-nil shown_here)))
-            (begin_more (IsPartAt rules) (page_parts rules.whole_words ascii width h.front) shown_here old.lines.items (map line_of added.own) new.lines.items old.parts.items added.ends new.parts.items so_far.parts added.end lines
+            (sym (groups_parts rules.whole_words ascii width h.front group))
+            (begin_more (IsPartAt rules) (page_parts rules.whole_words ascii width (sections_in h.front)) shown_here old.lines.items (map line_of added.own) new.lines.items old.parts.items added.ends new.parts.items so_far.parts
+            (subst (λ (ps : List PlacedPart). EndIn (IsPartAt rules) ps (length old.lines.items) (map line_of added.own) added.ends) (group_parts rules.whole_words ascii width group) added.end) lines
             (ap (λ v. v.items) same_parts ∙ added.parts));
         lines = lines ∙ ap (λ (l : List FmtLine). l ++ map line_of added.own) so_far.lines ∙ sym (map-append line_of so_far.rows added.own);
         fronts = ap (λ v. map front_content v.items) same_fronts ∙ added.fronts ∙ ap (λ (l : List FrontContent). l ++ map front_of added.own) so_far.fronts ∙ sym (map-append front_of so_far.rows added.own);
       };
     }
 
--- where no section is left, the page is laid out
-pub paged_whole : (rules : LineRules) (ascii : Bool) (width : Option ℕ) (all left : List SectionContent) (paged : PagedPage) → PagedSoFar rules ascii width all left paged → left ≡ [] → IsPagedAt rules ascii width all paged
+-- where no group is left, the page is laid out
+pub paged_whole : (rules : LineRules) (ascii : Bool) (width : Option ℕ) (all left : List (List SectionContent)) (paged : PagedPage) → PagedSoFar rules ascii width all left paged → left ≡ [] → IsPagedAt rules ascii width all paged
 paged_whole rules ascii width all left paged h none =
-    subst (λ (s : List SectionContent). IsPagedAt rules ascii width s paged) (sym (h.joins ∙ ap (λ (s : List SectionContent). h.front ++ s) none ∙ append-nil h.front)) h.is
+    subst (λ (s : List (List SectionContent)). IsPagedAt rules ascii width s paged) (sym (h.joins ∙ ap (λ (s : List (List SectionContent)). h.front ++ s) none ∙ append-nil h.front)) h.is
 
 -- ---- laws
 
@@ -296,7 +345,7 @@ line_found rows fronts row line same is =
 
 -- the line of a number is behind the front of that number a row of the page
 pub rows_are : RowsAreThePage
-rows_are rules ascii width page paged is row line found =
+rows_are rules ascii width groups paged is row line found =
     line_found is.rows paged.fronts.items row line is.fronts (ap (λ (l : List FmtLine). slice_get l row) (sym is.lines) ∙ found)
 
 section_text : (rules : LineRules) (ascii : Bool) (width : Option ℕ) (section : SectionContent) (rows : List RowContent) → IsSectionAt rules ascii width section rows → IsTextAt rules ascii width section (map line_of rows)
@@ -316,5 +365,5 @@ page_text rules ascii width (section ∷ page) rows (own, others, are, becomes, 
 
 -- the lines of a page are layouts of its texts, each in the room behind its gutters
 pub lines_are_the_texts : LinesAreTheTexts
-lines_are_the_texts rules ascii width page paged is =
-    subst (λ (lines : List FmtLine). EachBecomes (EachBecomes (IsTextAt rules ascii width)) (map (unfolded rules.whole_words ascii width) page) lines) (sym is.lines) (page_text rules ascii width page is.rows (paged_rows rules ascii width page paged is))
+lines_are_the_texts rules ascii width groups paged is =
+    subst (λ (lines : List FmtLine). EachBecomes (EachBecomes (IsTextAt rules ascii width)) (map (unfolded rules.whole_words ascii width) (sections_in groups)) lines) (sym is.lines) (page_text rules ascii width (sections_in groups) is.rows (paged_rows rules ascii width groups paged is))

@@ -8,12 +8,12 @@ use Rattle.mad_sections.specs.Gutters.{room}
 use Rattle.mad_sections.specs.Sections.{SectionContent}
 use Rattle.mad_sections.specs.Unfolded.{unfolded}
 use Rattle.mad_pages.specs.Fronts.{front_at, row_behind}
-use Rattle.mad_pages.specs.PagedPages.{IsPagedAt}
+use Rattle.mad_pages.specs.PagedPages.{IsPagedAt, sections_in}
 use Rattle.mad_pages.specs.declared.paged.PagedPage.{PagedPage}
 
 -- The line of a number is that of the page's row, and behind the front of the same number it is the row.
 abbrev pub RowsAreThePage : Type 0
-RowsAreThePage = (rules : LineRules) (ascii : Bool) (width : Option ℕ) (page : List SectionContent) (paged : PagedPage) (is : IsPagedAt rules ascii width page paged)
+RowsAreThePage = (rules : LineRules) (ascii : Bool) (width : Option ℕ) (groups : List (List SectionContent)) (paged : PagedPage) (is : IsPagedAt rules ascii width groups paged)
     (row : ℕ) (line : FmtLine) → slice_get paged.lines.items row ≡ Some line → slice_get is.rows row ≡ Some (row_behind (front_at paged.fronts.items row) line)
 
 -- the lines of a section that is shown, in its room
@@ -22,5 +22,5 @@ IsTextAt rules ascii width section lines = IsLayoutAt rules (room ascii width se
 
 -- The lines, in which is sought, are the layouts of the sections' texts, one after the other: without gutters, but each in the room behind its own.
 abbrev pub LinesAreTheTexts : Type 0
-LinesAreTheTexts = (rules : LineRules) (ascii : Bool) (width : Option ℕ) (page : List SectionContent) (paged : PagedPage) → IsPagedAt rules ascii width page paged
-    → EachBecomes (EachBecomes (IsTextAt rules ascii width)) (map (unfolded rules.whole_words ascii width) page) paged.lines.items
+LinesAreTheTexts = (rules : LineRules) (ascii : Bool) (width : Option ℕ) (groups : List (List SectionContent)) (paged : PagedPage) → IsPagedAt rules ascii width groups paged
+    → EachBecomes (EachBecomes (IsTextAt rules ascii width)) (map (unfolded rules.whole_words ascii width) (sections_in groups)) paged.lines.items

@@ -10,7 +10,7 @@ use Rattle.mad_blocks.specs.TextParts.{text_parts}
 use Rattle.mad_sections.specs.Gutters.{room}
 use Rattle.mad_sections.specs.Sections.{SectionContent}
 use Rattle.mad_sections.specs.Unfolded.{unfolded}
-use Rattle.mad_pages.specs.PageLayouts.{BecomesAt, IsSectionAt}
+use Rattle.mad_pages.specs.PageLayouts.{IsPageAt, IsSectionAt}
 use Rattle.mad_pages.specs.PageRows.{RowContent}
 use Rattle.mad_pages.specs.Fronts.{front_content, front_of, line_of}
 use Rattle.mad_pages.specs.declared.paged.PagedPage.{PagedPage}
@@ -52,12 +52,16 @@ IsPartAt rules part lines = IsLayoutAt rules part.room part.lines lines
 
 -- ---- pages
 
--- It is a page at a width, if there is one: its fronts with its lines are the rows of the page. Its starts are where the sections begin, and its
--- parts where the parts do of what is shown of them.
-pub record IsPagedAt (rules : LineRules) (ascii : Bool) (width : Option ℕ) (page : List SectionContent) (paged : PagedPage) : Type 0 where
+-- the sections of groups, in order
+abbrev pub sections_in : List (List SectionContent) → List SectionContent
+sections_in groups = flat_map (λ (group : List SectionContent). group) groups
+
+-- It is a page at a width, if there is one: its fronts with its lines are the rows of the page. Its sections come in groups, as one with the rule
+-- below it. Its starts are where the groups begin, and its parts where the parts do of what is shown.
+pub record IsPagedAt (rules : LineRules) (ascii : Bool) (width : Option ℕ) (groups : List (List SectionContent)) (paged : PagedPage) : Type 0 where
   pub rows : List RowContent
-  pub sections : BeginIn (BecomesAt rules ascii width) page rows paged.starts.items
-  pub parts : BeginIn (IsPartAt rules) (page_parts rules.whole_words ascii width page) paged.lines.items paged.parts.items
+  pub groups_begin : BeginIn (IsPageAt rules ascii width) groups rows paged.starts.items
+  pub parts : BeginIn (IsPartAt rules) (page_parts rules.whole_words ascii width (sections_in groups)) paged.lines.items paged.parts.items
   pub lines : paged.lines.items ≡ map line_of rows
   pub fronts : map front_content paged.fronts.items ≡ map front_of rows
 

@@ -1,19 +1,22 @@
 //! A page that is laid out for a pager: its lines, what stands in front of each, and where its sections and their parts begin.
 
 ghost use Rattle.std.specs.Prelude.{◌≡◌, ◌++◌, [], ◌∷◌, IfOk, OnOk, List, ℕ, length, map};
+ghost use Rattle.std.specs.List.{flat_map};
 ghost use Rattle.mad_blocks.specs.Layouts.{IsLayoutAt};
 ghost use Rattle.mad_md.specs.Lines.{contents};
 ghost use Rattle.mad_format.specs.declared.line.FmtLine.{FmtLine};
-ghost use Rattle.mad_sections.specs.Sections.{page_content, section_content};
+ghost use Rattle.mad_dressing.specs.Dressed.{sections_dressed};
+ghost use Rattle.mad_sections.specs.Sections.{section_content};
 ghost use Rattle.mad_sections.specs.Unfolded.{unfolded};
 ghost use Rattle.mad_pages.specs.Fronts.{front_content};
 ghost use Rattle.mad_pages.specs.PagedPages.{AreAdded, ArePartsAdded, IsPagedAt};
 
 use crate::fronts::{Front, push_fronts};
 use mad_blocks::PartCursor;
+use mad_dressing::Dressed;
 use mad_format::{FmtLine, LineSkin};
 use mad_md::Text;
-use mad_sections::{Page, Section, Unfolded, room_behind, unfold};
+use mad_sections::{Section, Unfolded, room_behind, unfold};
 use std::alloc::{AllocError, Global};
 
 /// A page that is laid out.
@@ -23,13 +26,14 @@ pub struct PagedPage<'s> {
     pub lines: Vec<FmtLine<'s>>,
     /// What stands in front of each.
     pub fronts: Vec<Front<'s>>,
-    /// The rows in which its sections begin, and last the count of all rows. There are as many at each width.
+    /// The rows in which its sections begin, each with the rule below it, and last the count of all rows. There are as many at each width.
     pub starts: Vec<usize>,
     /// The rows in which the parts of what is shown of them begin, and last the count of all rows. No line of a text goes over two parts.
     pub parts: Vec<usize>,
 }
 
-/// A page at a width in columns, if there is one. Boxes of tasks are of ASCII characters, or not.
+/// A page of these sections, each with what is put into the page with it, at a width in columns, if there is one. Boxes of tasks are of ASCII
+/// characters, or not.
 ///
 /// # Errors
 ///
@@ -37,15 +41,15 @@ pub struct PagedPage<'s> {
 pub fn lay_beside<'s, S: LineSkin>(
     alloc: Global,
     skin: &S,
-    page: Page<'s>,
+    page: Vec<Dressed<'s>>,
     width: Option<usize>,
     ascii: bool,
 ) -> Result<PagedPage<'s>, AllocError>
-    ensures { IfOk result (λ paged. IsPagedAt (S.rules skin.now) ascii width (page_content page.entry) paged) }
+    ensures { IfOk result (λ paged. IsPagedAt (S.rules skin.now) ascii width (map sections_dressed page.entry.items) paged) }
 {
     let mut paged = PagedPage::new(alloc)?;
-    for section in page.sections {
-        paged.push_section(alloc, section, width, ascii, skin)?;
+    for dressed in page {
+        paged.push_dressed(alloc, dressed, width, ascii, skin)?;
         let count = count_of(&paged.lines);
         paged.starts.push(count)?;
     }
@@ -68,6 +72,28 @@ impl<'s> PagedPage<'s> {
             starts,
             parts,
         })
+    }
+
+    // Puts what is shown of a section behind what is there, and below it the rule, if it has one.
+    fn push_dressed<S: LineSkin>(
+        &mut self,
+        alloc: Global,
+        dressed: Dressed<'s>,
+        width: Option<usize>,
+        ascii: bool,
+        skin: &S,
+    ) -> Result<(), AllocError>
+        ensures added { OnOk result (AreAdded (S.rules skin.now) ascii width (flat_map (unfolded (S.rules skin.now).whole_words ascii width) (sections_dressed dressed.entry)) self.old self.new) }
+        ensures starts { OnOk result (self.new.starts ≡ self.old.starts) }
+    {
+        self.push_section(alloc, dressed.section, width, ascii, skin)?;
+        match dressed.rule {
+            Some(rule) => {
+                self.push_section(alloc, rule, width, ascii, skin)?;
+                Ok(())
+            }
+            None => Ok(()),
+        }
     }
 
     // Puts what is shown of a section behind what is there.

@@ -2,6 +2,7 @@
 use Rattle.std.specs.Prelude.{false, List, [], ◌∷◌, map, None}
 use Rattle.mad_blocks.specs.TextParts.{text_parts}
 use Rattle.mad_md.specs.Lines.{LineContent}
+use Rattle.mad_dressing.specs.Dressed.{Put, dressed_by, put_of}
 use Rattle.mad_md.specs.Reading.{unread_text}
 use Rattle.mad_md.specs.Scan.{lines_of}
 use Rattle.mad_sections.specs.Sections.{SectionContent}
@@ -25,4 +26,19 @@ plain_sections lines = map plain_section (text_parts lines)
 -- those of the lines that the text is read as, or those of the Markdown that was read
 abbrev pub paged_sections : PagedText → List SectionContent
 paged_sections (Lines source) = plain_sections (lines_of (unread_text false source.now))
-paged_sections (Markdown markdown) = markdown_says markdown.now
+paged_sections (Markdown markdown dressings) = markdown_says markdown.now
+
+-- sections in groups: each with what is put into the page with it, in order; those past the last of that stay
+abbrev pub grouped : List Put → List SectionContent → List (List SectionContent)
+grouped puts [] = []
+grouped [] (section ∷ page) = (section ∷ []) ∷ grouped [] page
+grouped (put ∷ puts) (section ∷ page) = dressed_by put section ∷ grouped puts page
+
+-- what is put into the page of a text with each of its sections; with lines that stand for themselves nothing is
+abbrev pub puts_of : PagedText → List Put
+puts_of (Lines source) = []
+puts_of (Markdown markdown dressings) = map put_of dressings.now
+
+-- the sections that are shown of a text, in groups
+abbrev pub paged_groups : PagedText → List (List SectionContent)
+paged_groups text = grouped (puts_of text) (paged_sections text)

@@ -1,12 +1,13 @@
 //! A text that is paged, and rows of it that are looked for.
 //!
-//! 1. [`paged`], [`plain`]: the sections of the text.
+//! 1. [`paged`], [`plain`]: the sections of the text; [`dressed_pages`]: each with what is put into its page with it.
 //! 2. [`letters`], [`breaks`], [`search`]: which row has what is sought.
 //! 3. [`headers`]: which rows begin a header.
 //! 4. [`kept`]: which row stays on top where the width changes.
 #![tactic(auto)]
 
 mod breaks;
+mod dressed_pages;
 mod headers;
 mod kept;
 mod letters;
@@ -15,6 +16,7 @@ mod plain;
 mod search;
 
 pub use breaks::{rows_after, rows_up_to};
+pub use dressed_pages::dress_each;
 pub use headers::{next_header, previous_header};
 pub use kept::row_in_parts;
 pub use letters::{has_capital, small};

@@ -1,13 +1,16 @@
 //! A text that is paged: its lines stand for themselves, or it is Markdown as people write it.
 
-ghost use Rattle.std.specs.Prelude.{◌≡◌, false, IfOk};
+ghost use Rattle.std.specs.Prelude.{◌≡◌, false, IfOk, map};
+ghost use Rattle.mad_dressing.specs.Dressed.{put_of, sections_dressed};
 ghost use Rattle.mad_md.specs.Lines.{contents};
 ghost use Rattle.mad_md.specs.Reading.{unread_text};
 ghost use Rattle.mad_md.specs.Scan.{lines_of};
 ghost use Rattle.mad_sections.specs.Sections.{page_content};
-ghost use Rattle.mad_search.specs.PagedTexts.{paged_sections};
+ghost use Rattle.mad_search.specs.PagedTexts.{paged_groups, paged_sections, puts_of};
 
+use crate::dressed_pages::dress_each;
 use crate::plain::plain_page;
+use mad_dressing::{Dressed, Dressing};
 use mad_md::{LineCursor, ParseOptions, Text};
 use mad_sections::Page;
 use markdown_reader::Markdown;
@@ -18,8 +21,8 @@ use std::alloc::{AllocError, Global};
 pub enum PagedText<'s> {
     /// A text whose lines stand for themselves, as [`mad_md::parse_text`] reads it.
     Lines(&'s str),
-    /// Markdown as people write it, which was read.
-    Markdown(&'s Markdown),
+    /// Markdown as people write it, which was read, and what is put into its page with each of its sections.
+    Markdown(&'s Markdown, &'s [Dressing]),
 }
 
 impl<'s> PagedText<'s> {
@@ -37,10 +40,32 @@ impl<'s> PagedText<'s> {
                 let page = plain_page(alloc, text)?;
                 Ok(page)
             }
-            PagedText::Markdown(markdown) => {
+            PagedText::Markdown(markdown, _) => {
                 let page = markdown.page(alloc)?;
                 Ok(page)
             }
+        }
+    }
+
+    /// The same, each with what is put into the page with it.
+    ///
+    /// # Errors
+    ///
+    /// Out of memory is the only error.
+    pub fn dressed(self, alloc: Global) -> Result<Vec<Dressed<'s>>, AllocError>
+        ensures { IfOk result (λ dressed. map sections_dressed dressed.items ≡ paged_groups self.entry) }
+    {
+        let page = self.page(alloc)?;
+        dress_each(alloc, page, self.dressings())
+    }
+
+    // What is put into the page with each.
+    fn dressings(self) -> &'s [Dressing]
+        ensures { map put_of result.now ≡ puts_of self.entry }
+    {
+        match self {
+            PagedText::Lines(_) => &[],
+            PagedText::Markdown(_, dressings) => dressings,
         }
     }
 }

@@ -37,6 +37,8 @@ use Rattle.mad_sections.specs.Unfolded.{lacks_room, list_sections, as_list, unfo
 use Rattle.mad_sections.specs.declared.gutters.Gutter.{Gutter}
 use Rattle.mad_sections.proofs.Choices.{by_bool}
 use Rattle.mad_sections.proofs.RoomLemmas.{rooms_last}
+use Rattle.mad_dressing.specs.Dressed.{Put, nothing, rule_below, signs_before, dressed, dressed_by, dressed_page, put_with}
+use Rattle.mad_dressing.specs.declared.heading_marks.HeadingMarks.{HeadingMarks}
 use Rattle.mad_page_rows.specs.FaceLaws.{IsTypedGutter}
 use Rattle.mad_page_rows.specs.Faces.{has_ascii_boxes}
 use Rattle.mad_page_rows.specs.PageFits.{KeepsRoom, sections_at}
@@ -207,10 +209,27 @@ sections_keep : (skin : RowSkin) (width : ℕ) (sections : List SectionContent) 
 sections_keep skin width [] wide marks h = tt
 sections_keep skin width (s ∷ sections) wide marks h = (section_keeps skin width s wide marks h.0, sections_keep skin width sections wide marks h.1)
 
-fine_sections : (page : List SectionContent) → AllByRecursion IsTypedSection page → ArePrintedSections page → AreSteadySections page → ArePlainSections page → AllByRecursion IsFineSection page
+fine_section : (s : SectionContent) → IsTypedSection s → ArePrinted s.lines → AreSteadyLines s.lines → ArePlainLines s.lines → IsFineSection s
+fine_section s t p steady plain = record { gutters = t.gutters; list = t.list; lines = all_fine s.lines t.lines p steady plain }
+
+-- ---- what stands beside headings
+
+-- what holds of all of these and those holds of all of these, and of all of those
+all_parted : {A : Type 0} (P : A → Type 0) (xs ys : List A) → AllByRecursion P (xs ++ ys) → AllByRecursion P xs × AllByRecursion P ys
+all_parted P [] ys h = (tt, h)
+all_parted P (x ∷ xs) ys h = let rest = all_parted P xs ys h.1 in ((h.0, rest.0), rest.1)
+
+put_fine : (put : Put) (s : SectionContent) → AllByRecursion IsTypedSection (dressed_by put s) → ArePrinted s.lines → AreSteadyLines s.lines → ArePlainLines s.lines → AllByRecursion IsFineSection (dressed_by put s)
+put_fine nothing s t p steady own = (fine_section s t.0 p steady own, tt)
+put_fine (rule_below gutters) s t p steady own = (fine_section s t.0 p steady own, (record { gutters = t.1.0.gutters; list = tt; lines = (tt, tt) }, tt))
+put_fine (signs_before gutters) s t p steady own = (record { gutters = t.0.gutters; list = t.0.list; lines = all_fine s.lines t.0.lines p steady own }, tt)
+
+fine_sections : (marks : HeadingMarks) (page : List SectionContent) → AllByRecursion IsTypedSection (dressed_page marks page) → ArePrintedSections page → AreSteadySections page → ArePlainSections page → AllByRecursion IsFineSection (dressed_page marks page)
 unfolding ArePrintedSections AreSteadySections
-fine_sections [] t p s plain = tt
-fine_sections (section ∷ page) t p s plain = (record { gutters = t.0.gutters; list = t.0.list; lines = all_fine section.lines t.0.lines p.0 s.0 plain.0 }, fine_sections page t.1 p.1 s.1 plain.1)
+fine_sections marks [] t p s plain = tt
+fine_sections marks (section ∷ page) t p s plain =
+    let typed = all_parted IsTypedSection (dressed marks section) (dressed_page marks page) t in
+    all_joined IsFineSection (dressed marks section) (dressed_page marks page) (put_fine (put_with marks section) section typed.0 p.0 s.0 plain.0) (fine_sections marks page typed.1 p.1 s.1 plain.1)
 
 -- ---- tables as lists
 
@@ -299,10 +318,12 @@ page_fine skin width (s ∷ page) h =
     let ascii : Bool = has_ascii_boxes skin in
     all_joined IsFineSection (unfolded (line_rules skin).whole_words ascii (Some width) s) (sections_at skin width page) (shown_fine (line_rules skin).whole_words (room_at ascii width s.gutters) s.list s h.0 h.0.list) (page_fine skin width page h.1)
 
--- steady and printed sections, whose lines have no sign of their own, keep what drawing asks of texts
-keep : (page : List SectionContent) → ArePrintedSections page → AreSteadySections page → ArePlainSections page → KeepPremises page
-keep page p s plain typed skin width wide marks = sections_keep skin width (sections_at skin width page) wide marks (page_fine skin width page (fine_sections page typed p s plain))
+-- steady and printed sections, whose lines have no sign of their own, keep what drawing asks of texts, whatever stands beside headings
+keep : (marks : HeadingMarks) (page : List SectionContent) → ArePrintedSections page → AreSteadySections page → ArePlainSections page → KeepPremises (dressed_page marks page)
+keep marks page p s plain typed skin width wide shown =
+    let shown_page : List SectionContent = dressed_page marks page in
+    sections_keep skin width (sections_at skin width shown_page) wide shown (page_fine skin width shown_page (fine_sections marks page typed p s plain))
 
 -- so do the sections of a text that was read
-pub read_keeps : (source : List ℕ) (page : List SectionContent) → page ≡ markdown_sections source → ArePrintedSections page → AreSteadySections page → KeepPremises page
-read_keeps source page is p s = keep page p s (subst ArePlainSections (sym is) (sections_are_plain source))
+pub read_keeps : (source : List ℕ) (page : List SectionContent) → page ≡ markdown_sections source → ArePrintedSections page → AreSteadySections page → (marks : HeadingMarks) → KeepPremises (dressed_page marks page)
+read_keeps source page is p s marks = keep marks page p s (subst ArePlainSections (sym is) (sections_are_plain source))

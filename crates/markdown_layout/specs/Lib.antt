@@ -1,4 +1,5 @@
 pub mod DrawnMarkdown
+pub mod DressedTexts
 pub mod KeptPremises
 pub mod Looks
 pub mod NestedRows

@@ -1,21 +1,18 @@
 -- Pages laid out and written.
-use Rattle.std.specs.Prelude.{ℕ, true, Result, List, Option}
+use Rattle.std.specs.Prelude.{ℕ, Result, List, Option}
 use Rattle.std.specs.List.{flat_map}
-use Rattle.mad_layout.specs.RowSkins.{row_skin}
-use Rattle.mad_layout.specs.declared.skin.MadSkin.{MadSkin}
-use Rattle.mad_rows.specs.RowStyles.{line_rules, with_links}
+use Rattle.mad_rows.specs.RowStyles.{line_rules}
 use Rattle.mad_rows.specs.declared.row_skin.RowSkin.{RowSkin}
 use Rattle.mad_sections.specs.Sections.{SectionContent}
 use Rattle.mad_pages.specs.PageLayouts.{IsPageAt}
 use Rattle.mad_pages.specs.PageRows.{RowContent}
 use Rattle.mad_page_rows.specs.Faces.{has_ascii_boxes, page_row_bytes}
+use Rattle.mad_dressing.specs.Dressed.{dressed_page}
+use Rattle.mad_page_skin.specs.PageSkins.{page_row_skin}
+use Rattle.mad_page_skin.specs.declared.page_skin.PageSkin.{PageSkin}
 use Rattle.mad_term.specs.Draws.{DrawsSome}
 use Rattle.mad_term.specs.Trace.{Trace}
 use Rattle.mad_term.specs.declared.errors.Error.{Error}
-
--- what rows show of a skin, with whole words and links that one sees
-abbrev pub markdown_skin : MadSkin → RowSkin
-markdown_skin skin = with_links (record (row_skin skin) { whole_words = true })
 
 -- rows of a page, one after another, each with a newline
 abbrev pub rows_bytes : RowSkin → Option ℕ → List RowContent → List ℕ
@@ -24,3 +21,16 @@ rows_bytes skin width rows = flat_map (page_row_bytes skin width) rows
 -- What a call does that writes these sections: it draws the rows of a page of them; or memory for the rows was refused, and nothing went out.
 abbrev pub WritesPage : {T : Type 0} → RowSkin → Option ℕ → List SectionContent → Trace → Result T Error → Trace → Type 0
 WritesPage skin width page old r new = DrawsSome (IsPageAt (line_rules skin) (has_ascii_boxes skin) width page) (rows_bytes skin width) old r new
+
+-- the rows are those of a page of a text in its skin: of these sections, with the rules and signs of headings
+abbrev pub IsDressedAt : PageSkin → Option ℕ → List SectionContent → List RowContent → Type 0
+IsDressedAt skin width page rows = IsPageAt (line_rules (page_row_skin skin)) (has_ascii_boxes (page_row_skin skin)) width (dressed_page skin.headings page) rows
+
+-- the bytes of these rows
+abbrev pub dressed_bytes : PageSkin → Option ℕ → List RowContent → List ℕ
+dressed_bytes skin width rows = rows_bytes (page_row_skin skin) width rows
+
+-- What a call does that writes a text which says these sections: it draws the rows of a page of them, with the rules and signs of headings; or memory for the rows was
+-- refused, and nothing went out.
+abbrev pub WritesDressed : {T : Type 0} → PageSkin → Option ℕ → List SectionContent → Trace → Result T Error → Trace → Type 0
+WritesDressed skin width page old r new = DrawsSome (IsDressedAt skin width page) (dressed_bytes skin width) old r new

@@ -9,16 +9,19 @@ ghost use Rattle.mad_pages.specs.PageRows.{row_content};
 ghost use Rattle.mad_page_rows.specs.Faces.{has_ascii_boxes};
 ghost use Rattle.markdown_reader.specs.Markdown.{markdown_sections};
 ghost use Rattle.markdown_reader.specs.MarkdownSays.{markdown_says};
+ghost use Rattle.markdown_layout.specs.DressedTexts.{dressed_says};
 ghost use Rattle.markdown_layout.specs.DrawnMarkdown.{DrawsPage, ShowsKept, ShowsMarkdown};
 ghost use Rattle.markdown_layout.specs.KeptPremises.{KeepPremises};
-ghost use Rattle.markdown_layout.specs.WrittenPages.{markdown_skin};
+ghost use Rattle.mad_dressing.specs.Dressed.{dressed_page};
+ghost use Rattle.mad_dressing.specs.declared.heading_marks.HeadingMarks.{HeadingMarks};
+ghost use Rattle.mad_page_skin.specs.PageSkins.{page_row_skin};
 
+use crate::dressed_markdown::DressedMarkdown;
 use crate::typed_pages::typed_page;
-use crate::writing::markdown_skin;
 use mad_draw::draw_rows;
-use mad_layout::MadSkin;
 use mad_measure::Area;
 use mad_page_rows::{PageTextRows, has_ascii_boxes};
+use mad_page_skin::PageSkin;
 use mad_pages::{PageRow, lay_page};
 use mad_rows::RowSkin;
 use mad_sections::Page;
@@ -26,8 +29,8 @@ use mad_term::{Error, Out};
 use markdown_reader::Markdown;
 use std::alloc::{AllocError, Global};
 
-/// Reads a text as [`Markdown::read`] does. Its sections keep the premises of drawing that speak of texts: no control character, each
-/// widthless character is no whitespace and follows a non-blank one in its compound, and from three columns on all have room.
+/// Reads a text as [`Markdown::read`] does. Its sections keep the premises of drawing that speak of texts, whatever stands beside its headings: no
+/// control character, each widthless character is no whitespace and follows a non-blank one in its compound, and from three columns on all have room.
 ///
 /// # Errors
 ///
@@ -35,31 +38,31 @@ use std::alloc::{AllocError, Global};
 #[tactic(auto, using(crate::proofs::KeptLemmas::read_keeps))]
 pub fn read_drawable(alloc: Global, source: &str) -> Result<Markdown, AllocError>
     ensures sections { IfOk result (λ read. markdown_says read ≡ markdown_sections source.now) }
-    ensures premises { IfOk result (λ read. KeepPremises (markdown_says read)) }
+    ensures premises { IfOk result (λ read. (marks : HeadingMarks) → KeepPremises (dressed_page marks (markdown_says read))) }
 {
     let read = Markdown::read(alloc, source)?;
     Ok(read)
 }
 
-/// The rows of a text that was read, as a page at a width in columns, if there is one.
+/// The rows of a text that was read, with what stands beside its headings, as a page at a width in columns, if there is one.
 ///
 /// # Errors
 ///
 /// Out of memory is the only error.
 pub fn lay_markdown<'m>(
     alloc: Global,
-    read: &'m Markdown,
+    read: &'m DressedMarkdown,
     skin: &RowSkin,
     width: Option<usize>,
 ) -> Result<Vec<PageRow<'m>>, AllocError>
-    ensures { IfOk result (λ rows. IsPageAt (line_rules skin.now) (has_ascii_boxes skin.now) width (markdown_says read.entry.now) (map row_content rows.items)) }
+    ensures { IfOk result (λ rows. IsPageAt (line_rules skin.now) (has_ascii_boxes skin.now) width (dressed_says read.entry.now) (map row_content rows.items)) }
 {
     let page = read.page(alloc)?;
     lay_page(alloc, skin, page, width, has_ascii_boxes(skin))
 }
 
-/// Draws the first rows of a text of Markdown in an area, as a page that is as wide, in the skin that [`write_markdown_on`] has. Below its
-/// last row there are spaces. Nothing is flushed.
+/// Draws the first rows of a text of Markdown in an area, as a page that is as wide, as [`write_markdown_on`] writes them. Below its last row there
+/// are spaces. Nothing is flushed.
 ///
 /// The area's right and bottom have to fit a `u16`.
 ///
@@ -71,20 +74,21 @@ pub fn lay_markdown<'m>(
 pub fn draw_markdown<O: Out>(
     alloc: Global,
     out: &mut O,
-    skin: &MadSkin,
+    skin: &PageSkin,
     markdown: &str,
     area: &Area,
 ) -> Result<(), Error>
     requires { IsWithinLimits area.now }
-    ensures writes { DrawsPage (markdown_skin skin.now) (markdown_sections markdown.now) area.now (O.seen out.old) result (O.seen out.new) }
+    ensures writes { DrawsPage (page_row_skin skin.now) (dressed_page skin.now.headings (markdown_sections markdown.now)) area.now (O.seen out.old) result (O.seen out.new) }
 
     // What a plain terminal shows that reads it. Nothing is asked of the text.
-    ensures shown { OnOk result (3 ≤ area.now.width → ShowsMarkdown (markdown_skin skin.now) (markdown_sections markdown.now) area.now (O.seen out.old) (O.seen out.new)) }
+    ensures shown { OnOk result (3 ≤ area.now.width → ShowsMarkdown (page_row_skin skin.now) (dressed_page skin.now.headings (markdown_sections markdown.now)) area.now (O.seen out.old) (O.seen out.new)) }
 {
     let read = read_drawable(alloc, markdown)?;
-    let page = read.page(alloc)?;
+    let dressed = DressedMarkdown::new(alloc, read, skin.headings)?;
+    let page = dressed.page(alloc)?;
     typed_page(&page);
-    draw_page(alloc, out, &markdown_skin(skin), page, area)
+    draw_page(alloc, out, &skin.row_skin(), page, area)
 }
 
 /// Draws the first rows of a page in an area, laid out as wide as that. Below its last row there are spaces. Nothing is flushed.

@@ -6,7 +6,11 @@ ghost use Rattle.markdown_layout.specs.KeptPremises.{AreMarksShown};
 ghost use Rattle.markdown_layout.specs.NestedRows.{RowsNest};
 ghost use Rattle.markdown_layout.specs.ShownFaces.{ListsShowFaces};
 ghost use Rattle.markdown_layout.specs.TableCells.{CellsArePlain, SectionsKeepWords};
-ghost use Rattle.markdown_layout.specs.WrittenPages.{markdown_skin};
+ghost use Rattle.mad_page_skin.specs.DarkSkins.{dark_page_skin};
+ghost use Rattle.mad_page_skin.specs.LightSkins.{light_page_skin};
+ghost use Rattle.mad_page_skin.specs.PageSkins.{page_row_skin, page_skin_of};
+ghost use Rattle.mad_page_skin.specs.PlainSkins.{plain_skin};
+ghost use Rattle.mad_page_skin.specs.SixteenSkins.{sixteen_page_skin};
 
 /// Where its gutters take less than half of the width, each row of a section is behind all of them, and the first row has the first faces of
 /// those that begin with the section.
@@ -26,12 +30,21 @@ pub fn table_words_stay_whole()
     ensures words { SectionsKeepWords }
 {}
 
-/// The marks of the skins that are made are shown: of the default one, of those for a dark and a light background, of the one without style, and of
-/// that one on an ASCII terminal.
+/// The marks of the skins of pages that are made are shown: of those for a dark and a light background, of that of sixteen colors, and of the one
+/// without styles.
 pub fn made_marks_are_shown()
-    ensures by_default { AreMarksShown (markdown_skin default_skin) }
-    ensures dark { AreMarksShown (markdown_skin dark_skin) }
-    ensures light { AreMarksShown (markdown_skin light_skin) }
-    ensures without_style { AreMarksShown (markdown_skin no_style_skin) }
-    ensures ascii { AreMarksShown (markdown_skin (limited_to_ascii no_style_skin)) }
+    ensures dark { AreMarksShown (page_row_skin dark_page_skin) }
+    ensures light { AreMarksShown (page_row_skin light_page_skin) }
+    ensures sixteen { AreMarksShown (page_row_skin sixteen_page_skin) }
+    ensures plain { AreMarksShown (page_row_skin plain_skin) }
+{}
+
+/// The same of the skins of the smaller grammar that are made: of the default one, of those for a dark and a light background, of the one without
+/// style, and of that one on an ASCII terminal.
+pub fn other_marks_are_shown()
+    ensures by_default { AreMarksShown (page_row_skin (page_skin_of default_skin)) }
+    ensures dark { AreMarksShown (page_row_skin (page_skin_of dark_skin)) }
+    ensures light { AreMarksShown (page_row_skin (page_skin_of light_skin)) }
+    ensures without_style { AreMarksShown (page_row_skin (page_skin_of no_style_skin)) }
+    ensures ascii { AreMarksShown (page_row_skin (page_skin_of (limited_to_ascii no_style_skin))) }
 {}

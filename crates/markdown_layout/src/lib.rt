@@ -2,16 +2,19 @@
 //!
 //! 1. [`page_writing`]: the rows of a section, put after a string.
 //! 2. [`writing`]: a whole page.
-//! 3. [`typed_pages`]: what types promise of a page. [`drawing`]: the first rows of a page in an area of the screen.
-//! 4. [`laws`]: what is said of all pages.
+//! 3. [`dressed_markdown`]: a text that was read, with what stands beside its headings.
+//! 4. [`typed_pages`]: what types promise of a page. [`drawing`]: the first rows of a page in an area of the screen.
+//! 5. [`laws`]: what is said of all pages.
 #![tactic(auto)]
 
 pub mod drawing;
+pub mod dressed_markdown;
 pub mod laws;
 pub mod page_writing;
 pub mod typed_pages;
 pub mod writing;
 
 pub use drawing::{draw_markdown, draw_page, lay_markdown, read_drawable};
+pub use dressed_markdown::DressedMarkdown;
 pub use page_writing::{append_page_row, append_section};
-pub use writing::{append_sections, markdown_skin, write_markdown_on, write_page_on};
+pub use writing::{append_sections, write_markdown_on, write_page_on};

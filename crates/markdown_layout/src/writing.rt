@@ -2,28 +2,29 @@
 
 ghost use Rattle.std.specs.Prelude.{◌≡◌, ◌++◌, List, IfOk, IsErrOf, OnOk, string_bytes};
 ghost use Rattle.mad_rows.specs.RowStyles.{line_rules};
-ghost use Rattle.mad_sections.specs.Sections.{page_content, SectionContent};
+ghost use Rattle.mad_sections.specs.Sections.{page_content, section_content};
 ghost use Rattle.mad_pages.specs.PageLayouts.{IsPageAt};
 ghost use Rattle.mad_pages.specs.PageRows.{RowContent};
 ghost use Rattle.mad_page_rows.specs.Faces.{has_ascii_boxes};
 ghost use Rattle.mad_term.specs.declared.errors.Error.TheVariants.{Memory};
 ghost use Rattle.markdown_reader.specs.Markdown.{markdown_sections};
 ghost use Rattle.markdown_reader.specs.SectionsLeft.{sections_left};
-ghost use Rattle.markdown_layout.specs.WrittenPages.{markdown_skin, rows_bytes, WritesPage};
+ghost use Rattle.mad_dressing.specs.Dressed.{dressed};
+ghost use Rattle.markdown_layout.specs.WrittenPages.{dressed_bytes, rows_bytes, IsDressedAt, WritesDressed, WritesPage};
 
 use crate::page_writing::append_section;
-use mad_layout::MadSkin;
+use mad_dressing::{HeadingMarks, dress, dressing_of};
+use mad_page_skin::PageSkin;
 use mad_rows::{RowSkin, StyleCommands};
-use mad_sections::Page;
+use mad_sections::{Page, Section};
 use mad_term::{Error, Out, put_text};
 use markdown_reader::{Markdown, Sections};
 use std::alloc::{AllocError, Global};
 
 /// Writes a text of Markdown as people write it, as a page at a width, in columns, if there is one: each row and a newline. Nothing is flushed.
 ///
-/// The text is read by [`Markdown::read`], as CommonMark has it, and laid out in the skin with whole words, whatever the skin says of these.
-/// The text of a link is underlined, but in a skin in which no flag of a compound adds anything.
-/// No character of the text reaches the device that a terminal obeys.
+/// The text is read by [`Markdown::read`], as CommonMark has it, and laid out with whole words. Where the skin says so, headings have a rule below
+/// or signs in front. No character of the text reaches the device that a terminal obeys.
 ///
 /// # Errors
 ///
@@ -31,15 +32,14 @@ use std::alloc::{AllocError, Global};
 pub fn write_markdown_on<O: Out>(
     alloc: Global,
     out: &mut O,
-    skin: &MadSkin,
+    skin: &PageSkin,
     markdown: &str,
     width: Option<usize>,
 ) -> Result<(), Error>
-    ensures writes { WritesPage (markdown_skin skin.now) width (markdown_sections markdown.now) (O.seen out.old) result (O.seen out.new) }
+    ensures writes { WritesDressed skin.now width (markdown_sections markdown.now) (O.seen out.old) result (O.seen out.new) }
     ensures early { IsErrOf result Memory → O.seen out.new ≡ O.seen out.old }
 {
-    let skin = markdown_skin(skin);
-    let rows = markdown_rows(alloc, &skin, markdown, width)?;
+    let rows = markdown_rows(alloc, skin, markdown, width)?;
     put_text(out, &rows)
 }
 
@@ -62,25 +62,14 @@ pub fn write_page_on<O: Out>(
     put_text(out, &rows)
 }
 
-/// What rows show of a skin, with whole words and links that one sees.
-pub fn markdown_skin(skin: &MadSkin) -> RowSkin
-    ensures { result ≡ markdown_skin skin.now }
-{
-    let skin = RowSkin {
-        whole_words: true,
-        ..skin.row_skin()
-    };
-    skin.with_links()
-}
-
 // The rows of a text in a skin: those of its page, each with a newline.
 fn markdown_rows(
     alloc: Global,
-    skin: &RowSkin,
+    skin: &PageSkin,
     markdown: &str,
     width: Option<usize>,
 ) -> Result<String, AllocError>
-    ensures { IfOk result (λ rows. (own : List RowContent) × IsPageAt (line_rules skin.now) (has_ascii_boxes skin.now) width (markdown_sections markdown.now) own × (string_bytes rows ≡ rows_bytes skin.now width own)) }
+    ensures { IfOk result (λ rows. (own : List RowContent) × IsDressedAt skin.now width (markdown_sections markdown.now) own × (string_bytes rows ≡ dressed_bytes skin.now width own)) }
 {
     let read = Markdown::read(alloc, markdown)?;
     let mut rows = String::with_capacity(alloc, markdown.len())?;
@@ -88,7 +77,8 @@ fn markdown_rows(
     Ok(rows)
 }
 
-/// Puts the rows of sections, each with a newline, after the rows that are there, at a width in columns, if there is one.
+/// Puts the rows of sections, with the rules and signs of headings, each with a newline, after the rows that are there, at a width in columns, if
+/// there is one.
 ///
 /// # Errors
 ///
@@ -98,16 +88,46 @@ pub fn append_sections(
     rows: &mut String,
     sections: Sections<'_>,
     width: Option<usize>,
-    skin: &RowSkin,
+    skin: &PageSkin,
 ) -> Result<(), AllocError>
-    ensures { OnOk result ((own : List RowContent) × IsPageAt (line_rules skin.now) (has_ascii_boxes skin.now) width (sections_left sections.entry) own × (string_bytes rows.new ≡ string_bytes rows.old ++ rows_bytes skin.now width own)) }
+    ensures { OnOk result ((own : List RowContent) × IsDressedAt skin.now width (sections_left sections.entry) own × (string_bytes rows.new ≡ string_bytes rows.old ++ dressed_bytes skin.now width own)) }
 {
+    let row_skin = skin.row_skin();
     let mut commands = StyleCommands::new(alloc);
     let mut rest = sections;
     'sections: while let Some(section) = rest.next(alloc)? {
-        append_section(alloc, rows, section, width, skin, &mut commands)?;
+        append_dressed(
+            alloc,
+            rows,
+            section,
+            width,
+            &row_skin,
+            skin.headings,
+            &mut commands,
+        )?;
     }
     Ok(())
+}
+
+// Puts the rows of a section after those that are there: a heading with the rule below it or the signs in front of it.
+fn append_dressed(
+    alloc: Global,
+    rows: &mut String,
+    section: Section<'_>,
+    width: Option<usize>,
+    skin: &RowSkin,
+    marks: HeadingMarks,
+    commands: &mut StyleCommands,
+) -> Result<(), AllocError>
+    ensures { OnOk result ((own : List RowContent) × IsPageAt (line_rules skin.now) (has_ascii_boxes skin.now) width (dressed marks (section_content section.entry)) own × (string_bytes rows.new ≡ string_bytes rows.old ++ rows_bytes skin.now width own)) }
+{
+    let dressing = dressing_of(alloc, &section, marks)?;
+    let dressed = dress(alloc, section, &dressing)?;
+    append_section(alloc, rows, dressed.section, width, skin, commands)?;
+    match dressed.rule {
+        Some(rule) => append_section(alloc, rows, rule, width, skin, commands),
+        None => Ok(()),
+    }
 }
 
 // The rows of a page.

@@ -7,8 +7,7 @@ use Rattle.mad_format.proofs.ListLemmas.{both_become}
 use Rattle.mad_pages.specs.PageLayouts.{BecomesAt, IsPageAt}
 use Rattle.mad_pages.specs.PageRows.{RowContent}
 use Rattle.mad_sections.specs.Sections.{SectionContent}
-use Rattle.mad_page_rows.specs.Faces.{has_ascii_boxes}
-use Rattle.mad_rows.specs.RowStyles.{line_rules}
+use Rattle.markdown_layout.specs.WrittenPages.{IsDressedAt}
 use Rattle.markdown_lines.specs.Texts.{behind_mark}
 use Rattle.std.proofs.lemmas.List.{map-append}
 use Rattle.markdown_reader.specs.Steady.{steady_section, steady_sections}
@@ -42,6 +41,6 @@ rows_are_those_of_the_whole rules ascii width text groups rows joins known laid 
 pub known_is_written_whole : KnownIsWrittenWhole
 known_is_written_whole skin width text bytes known h = (
   h.rows,
-  subst (λ (ss : List SectionContent). IsPageAt (line_rules skin) (has_ascii_boxes skin) width (steady_sections ss) h.rows) (known_is_whole (behind_mark text) known) h.page,
+  subst (λ (ss : List SectionContent). IsDressedAt skin width (steady_sections ss) h.rows) (known_is_whole (behind_mark text) known) h.page,
   h.written,
 )

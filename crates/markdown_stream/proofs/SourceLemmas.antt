@@ -4,7 +4,7 @@ use Rattle.std.specs.Result.{IsErrAnd}
 use Rattle.std.specs.declared.io.Error.{Error as IoError}
 use Rattle.std.proofs.lemmas.List.{append-nil, length-append, take-append-drop}
 use Rattle.std.proofs.lemmas.Result.{err_from_is_err_and}
-use Rattle.mad_rows.specs.declared.row_skin.RowSkin.{RowSkin}
+use Rattle.mad_page_skin.specs.declared.page_skin.PageSkin.{PageSkin}
 use Rattle.mad_stream.specs.Sources.{IsNoText, IsReadOut, Streamed}
 use Rattle.mad_stream.specs.SourceErrors.{refusal_of}
 use Rattle.mad_stream.specs.SourceSteps.{FlushesOut}
@@ -17,13 +17,10 @@ use Rattle.mad_term.specs.declared.errors.Error.{Error}
 use Rattle.mad_term.specs.declared.errors.Error.TheVariants as writing
 use Rattle.mad_term.proofs.Traces.{after-nil}
 use Rattle.mad_md.specs.Parts.{HasNoNewline}
-use Rattle.mad_page_rows.specs.Faces.{has_ascii_boxes}
-use Rattle.mad_pages.specs.PageLayouts.{IsPageAt}
 use Rattle.mad_pages.specs.PageRows.{RowContent}
-use Rattle.mad_rows.specs.RowStyles.{line_rules}
 use Rattle.mad_sections.specs.Sections.{SectionContent}
 use Rattle.markdown_blocks.specs.Lines.{text_lines}
-use Rattle.markdown_layout.specs.WrittenPages.{rows_bytes}
+use Rattle.markdown_layout.specs.WrittenPages.{IsDressedAt, dressed_bytes}
 use Rattle.markdown_lines.specs.Texts.{behind_mark}
 use Rattle.markdown_reader.specs.Mapping.{LinkSaid}
 use Rattle.markdown_reader.specs.Steady.{steady_sections}
@@ -83,7 +80,7 @@ stops_at_rows T old new block text before (writing.IO e) now front fed = record 
 }
   where
     begins_same : (a b : MarkdownStream) (text bytes : List ℕ) → a.skin ≡ b.skin → a.width ≡ b.width → BeginsStreamed a.skin a.width text bytes → BeginsStreamed b.skin b.width text bytes
-    begins_same a b text bytes p q h = subst (λ (k : RowSkin). BeginsStreamed k b.width text bytes) p (subst (λ (w : Option ℕ). BeginsStreamed a.skin w text bytes) q h)
+    begins_same a b text bytes p q h = subst (λ (k : PageSkin). BeginsStreamed k b.width text bytes) p (subst (λ (w : Option ℕ). BeginsStreamed a.skin w text bytes) q h)
 stops_at_rows T old new block text before (writing.InsufficientWidth e) now front fed = absurd fed
 stops_at_rows T old new block text before writing.Memory now front fed = record {
   text = text;
@@ -95,7 +92,7 @@ stops_at_rows T old new block text before writing.Memory now front fed = record 
 
 begins_fed : (old new : MarkdownStream) (read sent text bytes : List ℕ) → new.skin ≡ old.skin → new.width ≡ old.width → IsInStep (read ++ text) new (sent ++ bytes) → BeginsStreamed old.skin old.width (read ++ text) (sent ++ bytes)
 begins_fed old new read sent text bytes skin width h =
-    subst (λ (k : RowSkin). BeginsStreamed k old.width (read ++ text) (sent ++ bytes)) skin
+    subst (λ (k : PageSkin). BeginsStreamed k old.width (read ++ text) (sent ++ bytes)) skin
     (subst (λ (w : Option ℕ). BeginsStreamed new.skin w (read ++ text) (sent ++ bytes)) width (begins_streamed (read ++ text) [] (read ++ text) (sent ++ bytes) new (sym (append-nil (read ++ text))) h))
 
 -- where a flush is refused, the source stops in this block
@@ -114,7 +111,7 @@ stops_at_flush U old new block text before between Memory now front fed h = absu
 -- ---- block by block
 
 -- what was read so far, of which this waits, and what went out
-pub record SourceSoFar (skin : RowSkin) (width : Option ℕ) (source out : Trace) (s : MarkdownStream) (waiting : List ℕ) (blocks : ℕ) (source_now out_now : Trace) : Type 0 where
+pub record SourceSoFar (skin : PageSkin) (width : Option ℕ) (source out : Trace) (s : MarkdownStream) (waiting : List ℕ) (blocks : ℕ) (source_now out_now : Trace) : Type 0 where
   pub streamed : Streamed source out source_now out_now
   pub rest : streamed.front.rest ≡ waiting
   pub counted : blocks ≤ length streamed.read
@@ -125,7 +122,7 @@ pub record SourceSoFar (skin : RowSkin) (width : Option ℕ) (source out : Trace
   pub width_is : s.width ≡ width
 
 -- before the first block nothing was read, and nothing went out
-pub source_start : (skin : RowSkin) (width : Option ℕ) (source out : Trace) (s : MarkdownStream) (waiting : List ℕ) → waiting ≡ [] → IsInStep [] s [] → IsPrompt s → s.skin ≡ skin → s.width ≡ width → SourceSoFar skin width source out s waiting 0 source out
+pub source_start : (skin : PageSkin) (width : Option ℕ) (source out : Trace) (s : MarkdownStream) (waiting : List ℕ) → waiting ≡ [] → IsInStep [] s [] → IsPrompt s → s.skin ≡ skin → s.width ≡ width → SourceSoFar skin width source out s waiting 0 source out
 source_start skin width source out s waiting none step prompt skin_is width_is = record {
   streamed = record { read = []; handed_out = ahead_none source; text = []; front = record { rest = []; joins = refl; utf8 = front_none.utf8; longest = front_none.longest }; bytes = []; flushes = 0; went = sym (after-nil out) };
   rest = sym none;
@@ -138,14 +135,14 @@ source_start skin width source out s waiting none step prompt skin_is width_is =
 }
 
 -- a block without bytes
-pub source_ended : (skin : RowSkin) (width : Option ℕ) (source out : Trace) (s : MarkdownStream) (waiting : List ℕ) (blocks : ℕ) (source_now source_next out_now : Trace) (buffer : List ℕ) (count : ℕ) → SourceSoFar skin width source out s waiting blocks source_now out_now
+pub source_ended : (skin : PageSkin) (width : Option ℕ) (source out : Trace) (s : MarkdownStream) (waiting : List ℕ) (blocks : ℕ) (source_now source_next out_now : Trace) (buffer : List ℕ) (count : ℕ) → SourceSoFar skin width source out s waiting blocks source_now out_now
     → source_now ≡ ahead_all (take count buffer) source_next → count ≡ 0 → SourceSoFar skin width source out s waiting blocks source_next out_now
 source_ended skin width source out s waiting blocks source_now source_next out_now buffer count h handed none =
     let same : source_now ≡ source_next = handed ∙ ap (λ n. ahead_all (take n buffer) source_next) none ∙ sym (ahead_none source_next) in
     subst (λ (t : Trace). SourceSoFar skin width source out s waiting blocks t out_now) same h
 
 -- a block more
-pub source_more : (skin : RowSkin) (width : Option ℕ) (source out : Trace) (old new : MarkdownStream) (waiting got block left : List ℕ) (used blocks : ℕ) (is_wrong : Bool) (source_now source_next out_now out_next : Trace) → SourceSoFar skin width source out old waiting blocks source_now out_now
+pub source_more : (skin : PageSkin) (width : Option ℕ) (source out : Trace) (old new : MarkdownStream) (waiting got block left : List ℕ) (used blocks : ℕ) (is_wrong : Bool) (source_now source_next out_now out_next : Trace) → SourceSoFar skin width source out old waiting blocks source_now out_now
     → source_now ≡ ahead_all got source_next → 0 < length got → block ≡ waiting ++ got → FeedsBlock old block used is_wrong new out_now out_next → left ≡ drop used block
     → (k : SourceSoFar skin width source out new left (blocks + 1) source_next out_next) × (is_wrong ≡ true → BeginNoText k.streamed.read)
 source_more skin width source out old new waiting got block left used blocks is_wrong source_now source_next out_now out_next h handed came is f left_is =
@@ -177,51 +174,51 @@ source_more skin width source out old new waiting got block left used blocks is_
 -- ---- exits
 
 complete_if : (read sent bytes : List ℕ) (s : MarkdownStream) (sections : List SectionContent) (links : List LinkSaid) (o : Option SectionStream) (rows : List RowContent) → HasBegun read sections links o
-    → IsPageAt (line_rules s.skin) (has_ascii_boxes s.skin) s.width (steady_sections sections) rows → bytes ≡ rows_bytes s.skin s.width rows
-    → (done : List (List ℕ)) × (begun : List ℕ) × (text_lines read ≡ done ++ text_lines begun) × HasNoNewline begun × IsPageAt (line_rules s.skin) (has_ascii_boxes s.skin) s.width (steady_sections (lines_streamed done).mapping.sections) rows
+    → IsDressedAt s.skin s.width (steady_sections sections) rows → bytes ≡ dressed_bytes s.skin s.width rows
+    → (done : List (List ℕ)) × (begun : List ℕ) × (text_lines read ≡ done ++ text_lines begun) × HasNoNewline begun × IsDressedAt s.skin s.width (steady_sections (lines_streamed done).mapping.sections) rows
 unfolding lines_read parts_streamed text_lines
 complete_if read sent bytes s sections links None rows h page written = (
   [],
   [],
   ap text_lines h.0,
   tt,
-  subst (λ (ss : List SectionContent). IsPageAt (line_rules s.skin) (has_ascii_boxes s.skin) s.width (steady_sections ss) rows) h.1 page,
+  subst (λ (ss : List SectionContent). IsDressedAt s.skin s.width (steady_sections ss) rows) h.1 page,
 )
 complete_if read sent bytes s sections links (Some t) rows h page written = (
   h.0.done,
   string_bytes t.line,
   ap text_lines (sym (append-nil read)) ∙ h.0.joins [] ∙ ap (λ (l : List ℕ). h.0.done ++ text_lines l) (append-nil (string_bytes t.line)),
   h.0.begun,
-  subst (λ (ss : List SectionContent). IsPageAt (line_rules s.skin) (has_ascii_boxes s.skin) s.width (steady_sections ss) rows) (sym (all_taken h.0.done sections links t h.0.shown h.1)) page,
+  subst (λ (ss : List SectionContent). IsDressedAt s.skin s.width (steady_sections ss) rows) (sym (all_taken h.0.done sections links t h.0.shown h.1)) page,
 )
 
 complete_rows : (read sent : List ℕ) (s : MarkdownStream) → IsInStep read s sent → IsPrompt s → AreCompleteRows s.skin s.width read sent
 complete_rows read sent s h prompt =
     let b = h.behind in
-    let written : sent ≡ rows_bytes s.skin s.width b.rows = sym (b.written ∙ ap (λ (x : List ℕ). sent ++ x) prompt ∙ append-nil sent) in
+    let written : sent ≡ dressed_bytes s.skin s.width b.rows = sym (b.written ∙ ap (λ (x : List ℕ). sent ++ x) prompt ∙ append-nil sent) in
     let c = complete_if (behind_mark read) sent sent s b.sections b.links s.sections b.rows b.come b.page written in
     record { done = c.0; begun = c.1; joins = c.2; line = c.3; rows = b.rows; page = c.4; written = written }
 
 -- where the source fails, the answer says so
-pub source_failed : (T : Type 0) (e : IoError) (skin : RowSkin) (width : Option ℕ) (source out : Trace) (s : MarkdownStream) (waiting : List ℕ) (blocks : ℕ) (source_now source_next out_now : Trace) → SourceSoFar skin width source out s waiting blocks source_now out_now
+pub source_failed : (T : Type 0) (e : IoError) (skin : PageSkin) (width : Option ℕ) (source out : Trace) (s : MarkdownStream) (waiting : List ℕ) (blocks : ℕ) (source_now source_next out_now : Trace) → SourceSoFar skin width source out s waiting blocks source_now out_now
     → source_next ≡ failed source_now → StreamsMarkdown {T = T} skin width source out (Err (Source e)) source_next out_now
 source_failed T e skin width source out s waiting blocks source_now source_next out_now h fault = record {
   last = source_now;
   fault = fault;
   streamed = h.streamed;
-  rows = subst (λ (k : RowSkin). AreCompleteRows k width h.streamed.text h.streamed.bytes) h.skin_is (subst (λ (w : Option ℕ). AreCompleteRows s.skin w h.streamed.text h.streamed.bytes) h.width_is (complete_rows h.streamed.text h.streamed.bytes s h.step h.prompt));
+  rows = subst (λ (k : PageSkin). AreCompleteRows k width h.streamed.text h.streamed.bytes) h.skin_is (subst (λ (w : Option ℕ). AreCompleteRows s.skin w h.streamed.text h.streamed.bytes) h.width_is (complete_rows h.streamed.text h.streamed.bytes s h.step h.prompt));
   some = h.some;
 }
 
 -- the same rows in the same skin
-begins_in : (skin : RowSkin) (width : Option ℕ) (s : MarkdownStream) (text bytes : List ℕ) → s.skin ≡ skin → s.width ≡ width → BeginsStreamed s.skin s.width text bytes → BeginsStreamed skin width text bytes
-begins_in skin width s text bytes p q h = subst (λ (k : RowSkin). BeginsStreamed k width text bytes) p (subst (λ (w : Option ℕ). BeginsStreamed s.skin w text bytes) q h)
+begins_in : (skin : PageSkin) (width : Option ℕ) (s : MarkdownStream) (text bytes : List ℕ) → s.skin ≡ skin → s.width ≡ width → BeginsStreamed s.skin s.width text bytes → BeginsStreamed skin width text bytes
+begins_in skin width s text bytes p q h = subst (λ (k : PageSkin). BeginsStreamed k width text bytes) p (subst (λ (w : Option ℕ). BeginsStreamed s.skin w text bytes) q h)
 
-streamed_in : (skin : RowSkin) (width : Option ℕ) (s : MarkdownStream) (text bytes : List ℕ) → s.skin ≡ skin → s.width ≡ width → IsStreamed s.skin s.width text bytes → IsStreamed skin width text bytes
-streamed_in skin width s text bytes p q h = subst (λ (k : RowSkin). IsStreamed k width text bytes) p (subst (λ (w : Option ℕ). IsStreamed s.skin w text bytes) q h)
+streamed_in : (skin : PageSkin) (width : Option ℕ) (s : MarkdownStream) (text bytes : List ℕ) → s.skin ≡ skin → s.width ≡ width → IsStreamed s.skin s.width text bytes → IsStreamed skin width text bytes
+streamed_in skin width s text bytes p q h = subst (λ (k : PageSkin). IsStreamed k width text bytes) p (subst (λ (w : Option ℕ). IsStreamed s.skin w text bytes) q h)
 
 -- what was read, and what went out of it, in the middle of a block
-stopped_streamed : (skin : RowSkin) (width : Option ℕ) (source out : Trace) (old : MarkdownStream) (waiting got block text bytes : List ℕ) (blocks : ℕ) (source_now source_next out_now : Trace) → (h : SourceSoFar skin width source out old waiting blocks source_now out_now)
+stopped_streamed : (skin : PageSkin) (width : Option ℕ) (source out : Trace) (old : MarkdownStream) (waiting got block text bytes : List ℕ) (blocks : ℕ) (source_now source_next out_now : Trace) → (h : SourceSoFar skin width source out old waiting blocks source_now out_now)
     → source_now ≡ ahead_all got source_next → block ≡ waiting ++ got → IsTextFront block text → (k : Streamed source out source_next (after out_now bytes)) × (k.text ≡ h.streamed.text ++ text) × (k.bytes ≡ h.streamed.bytes ++ bytes)
 stopped_streamed skin width source out old waiting got block text bytes blocks source_now source_next out_now h handed is front =
     let s : Streamed source out source_now out_now = h.streamed in
@@ -239,10 +236,10 @@ stopped_streamed skin width source out old waiting got block text bytes blocks s
       refl,
     )
 
-stopped_rows : (skin : RowSkin) (width : Option ℕ) (text bytes other_text other_bytes : List ℕ) → other_text ≡ text → other_bytes ≡ bytes → BeginsStreamed skin width text bytes → BeginsStreamed skin width other_text other_bytes
+stopped_rows : (skin : PageSkin) (width : Option ℕ) (text bytes other_text other_bytes : List ℕ) → other_text ≡ text → other_bytes ≡ bytes → BeginsStreamed skin width text bytes → BeginsStreamed skin width other_text other_bytes
 stopped_rows skin width text bytes other_text other_bytes p q h = subst (λ (t : List ℕ). BeginsStreamed skin width t other_bytes) (sym p) (subst (λ (b : List ℕ). BeginsStreamed skin width text b) (sym q) h)
 
-stopped_by : (T : Type 0) (e : SourceError) (skin : RowSkin) (width : Option ℕ) (source out : Trace) (old : MarkdownStream) (waiting got block : List ℕ) (blocks : ℕ) (source_now source_next out_now out_next : Trace) → SourceSoFar skin width source out old waiting blocks source_now out_now
+stopped_by : (T : Type 0) (e : SourceError) (skin : PageSkin) (width : Option ℕ) (source out : Trace) (old : MarkdownStream) (waiting got block : List ℕ) (blocks : ℕ) (source_now source_next out_now out_next : Trace) → SourceSoFar skin width source out old waiting blocks source_now out_now
     → source_now ≡ ahead_all got source_next → block ≡ waiting ++ got → StopsInBlock old block out_now e out_next → StreamsMarkdown {T = T} skin width source out (Err e) source_next out_next
 stopped_by T (Source e) skin width source out old waiting got block blocks source_now source_next out_now out_next h handed is stop = absurd stop
 stopped_by T (Device e) skin width source out old waiting got block blocks source_now source_next out_now out_next h handed is stop =
@@ -264,7 +261,7 @@ stopped_by T Memory skin width source out old waiting got block blocks source_no
     })
 
 -- where a block stops the source, the answer says why
-pub block_stopped : {T : Type 0} (r : Result T SourceError) (e : SourceError) (skin : RowSkin) (width : Option ℕ) (source out : Trace) (old : MarkdownStream) (waiting got block : List ℕ) (blocks : ℕ) (source_now source_next out_now out_next : Trace)
+pub block_stopped : {T : Type 0} (r : Result T SourceError) (e : SourceError) (skin : PageSkin) (width : Option ℕ) (source out : Trace) (old : MarkdownStream) (waiting got block : List ℕ) (blocks : ℕ) (source_now source_next out_now out_next : Trace)
     → SourceSoFar skin width source out old waiting blocks source_now out_now → source_now ≡ ahead_all got source_next → block ≡ waiting ++ got → StopsInBlock old block out_now e out_next → IsErrAnd r (λ d. d ≡ e) → StreamsMarkdown skin width source out r source_next out_next
 block_stopped {T} r e skin width source out old waiting got block blocks source_now source_next out_now out_next h handed is stop refused =
     let p = err_from_is_err_and r refused in
@@ -289,11 +286,11 @@ all_streamed source out source_now out_now written out_next bytes s went flush =
   omega arith,
 )
 
-laid_same : (skin : RowSkin) (width : Option ℕ) (text same bytes rows : List ℕ) → same ≡ text → rows ≡ bytes → IsStreamed skin width text bytes → IsStreamed skin width same rows
+laid_same : (skin : PageSkin) (width : Option ℕ) (text same bytes rows : List ℕ) → same ≡ text → rows ≡ bytes → IsStreamed skin width text bytes → IsStreamed skin width same rows
 laid_same skin width text same bytes rows r t h = subst (λ (l : List ℕ). IsStreamed skin width l rows) (sym r) (subst (λ (l : List ℕ). IsStreamed skin width text l) (sym t) h)
 
 -- whatever the end answers
-pub text_ended : {T : Type 0} (r : Result T SourceError) (is_whole : Bool) (skin : RowSkin) (width : Option ℕ) (source out : Trace) (s : MarkdownStream) (waiting : List ℕ) (blocks : ℕ) (source_now out_now out_next : Trace) → (h : SourceSoFar skin width source out s waiting blocks source_now out_now)
+pub text_ended : {T : Type 0} (r : Result T SourceError) (is_whole : Bool) (skin : PageSkin) (width : Option ℕ) (source out : Trace) (s : MarkdownStream) (waiting : List ℕ) (blocks : ℕ) (source_now out_now out_next : Trace) → (h : SourceSoFar skin width source out s waiting blocks source_now out_now)
     → (is_whole ≡ true → (h.streamed.text ≡ h.streamed.read) × IsReadOut h.streamed.read source_now) → (is_whole ≡ false → IsNoText h.streamed.read source_now) → EndsSource s is_whole out_now r out_next → StreamsMarkdown skin width source out r source_now out_next
 text_ended {T} (Ok x) is_whole skin width source out s waiting blocks source_now out_now out_next h good bad e =
     let w = e.1.whole h.streamed.text h.streamed.bytes h.step in
@@ -330,7 +327,7 @@ text_ended {T} (Err Memory) is_whole skin width source out s waiting blocks sour
     }
 
 -- nothing more is read
-pub read_out : {T : Type 0} (r : Result T SourceError) (is_whole : Bool) (skin : RowSkin) (width : Option ℕ) (source out : Trace) (s : MarkdownStream) (waiting : List ℕ) (blocks : ℕ) (source_now out_now out_next : Trace) → (h : SourceSoFar skin width source out s waiting blocks source_now out_now) → IsReadOut h.streamed.read source_now
+pub read_out : {T : Type 0} (r : Result T SourceError) (is_whole : Bool) (skin : PageSkin) (width : Option ℕ) (source out : Trace) (s : MarkdownStream) (waiting : List ℕ) (blocks : ℕ) (source_now out_now out_next : Trace) → (h : SourceSoFar skin width source out s waiting blocks source_now out_now) → IsReadOut h.streamed.read source_now
     → (is_whole ≡ true → length waiting ≡ 0) → (is_whole ≡ false → 0 < length waiting) → EndsSource s is_whole out_now r out_next → StreamsMarkdown skin width source out r source_now out_next
 read_out {T} r is_whole skin width source out s waiting blocks source_now out_now out_next h over good bad e =
     text_ended r is_whole skin width source out s waiting blocks source_now out_now out_next h

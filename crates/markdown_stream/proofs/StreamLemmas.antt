@@ -10,13 +10,19 @@ use Rattle.mad_page_rows.specs.Faces.{has_ascii_boxes, page_row_bytes}
 use Rattle.mad_pages.specs.PageLayouts.{BecomesAt, IsPageAt}
 use Rattle.mad_pages.specs.PageRows.{RowContent}
 use Rattle.mad_rows.specs.RowStyles.{line_rules}
+use Rattle.mad_rows.specs.RowStyles.{line_rules}
 use Rattle.mad_rows.specs.declared.row_skin.RowSkin.{RowSkin}
+use Rattle.mad_dressing.specs.Dressed.{dressed_page}
+use Rattle.mad_dressing.specs.declared.heading_marks.HeadingMarks.{HeadingMarks}
+use Rattle.mad_dressing.proofs.DressLemmas.{pages_dressed}
+use Rattle.mad_page_skin.specs.PageSkins.{page_row_skin}
+use Rattle.mad_page_skin.specs.declared.page_skin.PageSkin.{PageSkin}
 use Rattle.mad_sections.specs.Sections.{SectionContent}
 use Rattle.mad_term.specs.Trace.{Trace, failed}
 use Rattle.mad_term.specs.declared.errors.Error.{Error}
 use Rattle.mad_term.specs.declared.errors.Error.TheVariants.{IO, InsufficientWidth, Memory}
 use Rattle.mad_term.proofs.Traces.{after-nil}
-use Rattle.markdown_layout.specs.WrittenPages.{rows_bytes}
+use Rattle.markdown_layout.specs.WrittenPages.{IsDressedAt, dressed_bytes}
 use Rattle.markdown_lines.specs.Texts.{behind_mark}
 use Rattle.markdown_lines.proofs.MarkLemmas.{behind_more}
 use Rattle.markdown_reader.specs.Mapping.{LinkSaid}
@@ -46,17 +52,23 @@ starts s fresh none rows = record {
 
 -- ---- rows
 
+-- the pages of two groups of sections, one after the other, are that of both
+page_joined : (marks : HeadingMarks) (first next : List SectionContent) → dressed_page marks (steady_sections (first ++ next)) ≡ dressed_page marks (steady_sections first) ++ dressed_page marks (steady_sections next)
+page_joined marks first next = ap (dressed_page marks) (map-append steady_section first next) ∙ pages_dressed marks (steady_sections first) (steady_sections next)
+
 -- rows of these sections stand below those that were
-more_laid : (skin : RowSkin) (width : Option ℕ) (first next : List SectionContent) (rows own : List RowContent) (sent before now : List ℕ)
-    → IsPageAt (line_rules skin) (has_ascii_boxes skin) width (steady_sections first) rows → rows_bytes skin width rows ≡ sent ++ before
-    → IsPageAt (line_rules skin) (has_ascii_boxes skin) width (steady_sections next) own → now ≡ before ++ rows_bytes skin width own
-    → IsPageAt (line_rules skin) (has_ascii_boxes skin) width (steady_sections (first ++ next)) (rows ++ own) × (rows_bytes skin width (rows ++ own) ≡ sent ++ now)
-more_laid skin width first next rows own sent before now page written page2 now_is = (
-  subst (λ (ss : List SectionContent). IsPageAt (line_rules skin) (has_ascii_boxes skin) width ss (rows ++ own)) (sym (map-append steady_section first next))
-      (both_become (BecomesAt (line_rules skin) (has_ascii_boxes skin) width) (steady_sections first) (steady_sections next) rows own page page2),
-  flat_map-append (page_row_bytes skin width) rows own ∙ ap (λ (b : List ℕ). b ++ rows_bytes skin width own) written
-      ∙ append_assoc sent before (rows_bytes skin width own) ∙ ap (λ (b : List ℕ). sent ++ b) (sym now_is),
-)
+more_laid : (skin : PageSkin) (width : Option ℕ) (first next : List SectionContent) (rows own : List RowContent) (sent before now : List ℕ)
+    → IsDressedAt skin width (steady_sections first) rows → dressed_bytes skin width rows ≡ sent ++ before
+    → IsDressedAt skin width (steady_sections next) own → now ≡ before ++ dressed_bytes skin width own
+    → IsDressedAt skin width (steady_sections (first ++ next)) (rows ++ own) × (dressed_bytes skin width (rows ++ own) ≡ sent ++ now)
+more_laid skin width first next rows own sent before now page written page2 now_is =
+    let row_skin : RowSkin = page_row_skin skin in
+    let marks : HeadingMarks = skin.headings in (
+      subst (λ (ss : List SectionContent). IsPageAt (line_rules row_skin) (has_ascii_boxes row_skin) width ss (rows ++ own)) (sym (page_joined marks first next))
+          (both_become (BecomesAt (line_rules row_skin) (has_ascii_boxes row_skin) width) (dressed_page marks (steady_sections first)) (dressed_page marks (steady_sections next)) rows own page page2),
+      flat_map-append (page_row_bytes row_skin width) rows own ∙ ap (λ (b : List ℕ). b ++ dressed_bytes skin width own) written
+          ∙ append_assoc sent before (dressed_bytes skin width own) ∙ ap (λ (b : List ℕ). sent ++ b) (sym now_is),
+    )
 
 -- ---- a piece
 
@@ -135,7 +147,7 @@ ends_laid old mid new before ended begins same ends lays = record {
       let more = more_laid old.skin old.width b.sections there b.rows own.own sent old.rows.items new.rows.items b.page b.written own.page own.rows in
       record {
         rows = b.rows ++ own.own;
-        page = subst (λ (ss : List SectionContent). IsPageAt (line_rules old.skin) (has_ascii_boxes old.skin) old.width (steady_sections ss) (b.rows ++ own.own)) (sym (ends (behind_mark read) b.sections b.links k.0)) more.0;
+        page = subst (λ (ss : List SectionContent). IsDressedAt old.skin old.width (steady_sections ss) (b.rows ++ own.own)) (sym (ends (behind_mark read) b.sections b.links k.0)) more.0;
         written = sym more.1;
       };
 }
@@ -193,7 +205,7 @@ feeds {T} (Err (IO e)) old mid new piece before now t s = fed_by old mid new pie
 feeds {T} (Err (InsufficientWidth e)) old mid new piece before now t s = absurd s
 feeds {T} (Err Memory) old mid new piece before now t s = absurd s
 
-all_front : (skin : RowSkin) (width : Option ℕ) (text bytes rest : List ℕ) → IsStreamed skin width text (bytes ++ rest) → BeginsStreamed skin width text bytes
+all_front : (skin : PageSkin) (width : Option ℕ) (text bytes rest : List ℕ) → IsStreamed skin width text (bytes ++ rest) → BeginsStreamed skin width text bytes
 all_front skin width text bytes rest h = record { front = streamed_page text; rest = []; joins = sym (append-nil (streamed_page text)); rows = h.rows; page = h.page; left = rest; written = sym h.written }
 
 -- the end of a text, once the rows that are left are sent

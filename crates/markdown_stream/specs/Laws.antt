@@ -16,10 +16,8 @@ use Rattle.markdown_reader.specs.Definitions.{definitions_of, nothing_defined}
 use Rattle.markdown_reader.specs.Mapping.{Mapping, shown_parts}
 use Rattle.markdown_reader.specs.Steady.{steady_sections}
 use Rattle.markdown_reader.specs.Markdown.{printable_sections, unmarked_sections, markdown_sections, unmarked_links}
-use Rattle.mad_page_rows.specs.Faces.{has_ascii_boxes}
-use Rattle.mad_rows.specs.RowStyles.{line_rules}
-use Rattle.mad_rows.specs.declared.row_skin.RowSkin.{RowSkin}
-use Rattle.markdown_layout.specs.WrittenPages.{rows_bytes}
+use Rattle.mad_page_skin.specs.declared.page_skin.PageSkin.{PageSkin}
+use Rattle.markdown_layout.specs.WrittenPages.{IsDressedAt, dressed_bytes}
 use Rattle.markdown_lines.specs.Links.{Defined}
 use Rattle.markdown_lines.specs.Texts.{behind_mark}
 use Rattle.markdown_stream.specs.Streams.{IsStreamed}
@@ -97,6 +95,6 @@ RowsAreThoseOfTheWhole = (rules : LineRules) (ascii : Bool) (width : Option ℕ)
 -- What goes out of a text in pieces, wherever it is cut, is what goes out of the whole text, where each part says the same by the definitions that came
 -- up to it as by all.
 abbrev pub KnownIsWrittenWhole : Type 0
-KnownIsWrittenWhole = (skin : RowSkin) (width : Option ℕ) (text bytes : List ℕ)
+KnownIsWrittenWhole = (skin : PageSkin) (width : Option ℕ) (text bytes : List ℕ)
     → AreKnown (definitions_of (parts_of (behind_mark text))) nothing_defined (parts_of (behind_mark text)) → IsStreamed skin width text bytes
-    → (rows : List RowContent) × IsPageAt (line_rules skin) (has_ascii_boxes skin) width (markdown_sections text) rows × (bytes ≡ rows_bytes skin width rows)
+    → (rows : List RowContent) × IsDressedAt skin width (markdown_sections text) rows × (bytes ≡ dressed_bytes skin width rows)

@@ -1,15 +1,12 @@
 -- Markdown as people write it that comes in pieces: what a stream has read, what it has laid out, and what its device took.
 use Rattle.std.specs.Prelude.{◌≡◌, ℕ, ◌==◌, ◌&&◌, Bool, if◌then◌else◌, List, [], ◌++◌, length, Option, None, Some, Result, Ok, Err}
-use Rattle.mad_page_rows.specs.Faces.{has_ascii_boxes}
-use Rattle.mad_pages.specs.PageLayouts.{IsPageAt}
 use Rattle.mad_pages.specs.PageRows.{RowContent}
-use Rattle.mad_rows.specs.RowStyles.{line_rules}
-use Rattle.mad_rows.specs.declared.row_skin.RowSkin.{RowSkin}
+use Rattle.mad_page_skin.specs.declared.page_skin.PageSkin.{PageSkin}
 use Rattle.mad_sections.specs.Sections.{SectionContent}
 use Rattle.mad_term.specs.Trace.{Trace, after, failed}
 use Rattle.mad_term.specs.declared.errors.Error.{Error}
 use Rattle.mad_term.specs.declared.errors.Error.TheVariants.{IO, InsufficientWidth, Memory}
-use Rattle.markdown_layout.specs.WrittenPages.{rows_bytes}
+use Rattle.markdown_layout.specs.WrittenPages.{IsDressedAt, dressed_bytes}
 use Rattle.markdown_lines.specs.Texts.{behind_mark}
 use Rattle.markdown_reader.specs.Mapping.{LinkSaid}
 use Rattle.markdown_reader.specs.Steady.{steady_sections}
@@ -25,24 +22,24 @@ abbrev pub streamed_page : List ℕ → List SectionContent
 streamed_page text = steady_sections (streamed_sections (behind_mark text))
 
 -- these bytes are the rows of a page of what a text shows that comes in pieces
-pub record IsStreamed (skin : RowSkin) (width : Option ℕ) (text bytes : List ℕ) : Type 0 where
+pub record IsStreamed (skin : PageSkin) (width : Option ℕ) (text bytes : List ℕ) : Type 0 where
   pub rows : List RowContent
-  pub page : IsPageAt (line_rules skin) (has_ascii_boxes skin) width (streamed_page text) rows
-  pub written : bytes ≡ rows_bytes skin width rows
+  pub page : IsDressedAt skin width (streamed_page text) rows
+  pub written : bytes ≡ dressed_bytes skin width rows
 
 -- these bytes are a front of the rows of its first sections
-pub record BeginsStreamed (skin : RowSkin) (width : Option ℕ) (text bytes : List ℕ) : Type 0 where
+pub record BeginsStreamed (skin : PageSkin) (width : Option ℕ) (text bytes : List ℕ) : Type 0 where
   pub front : List SectionContent
   pub rest : List SectionContent
   pub joins : streamed_page text ≡ front ++ rest
   pub rows : List RowContent
-  pub page : IsPageAt (line_rules skin) (has_ascii_boxes skin) width front rows
+  pub page : IsDressedAt skin width front rows
   pub left : List ℕ
-  pub written : rows_bytes skin width rows ≡ bytes ++ left
+  pub written : dressed_bytes skin width rows ≡ bytes ++ left
 
 -- What a call does at the end of a text, of whose rows these bytes were sent before. The others go out; or a front of them, and then the device
 -- fails or memory is refused.
-abbrev pub Finishes : {T : Type 0} → RowSkin → Option ℕ → (text sent : List ℕ) → Trace → Result T Error → Trace → Type 0
+abbrev pub Finishes : {T : Type 0} → PageSkin → Option ℕ → (text sent : List ℕ) → Trace → Result T Error → Trace → Type 0
 Finishes skin width text sent before (Ok x) now = (bytes : List ℕ) × IsStreamed skin width text (sent ++ bytes) × (now ≡ after before bytes)
 Finishes skin width text sent before (Err (IO e)) now = (bytes : List ℕ) × BeginsStreamed skin width text (sent ++ bytes) × (now ≡ failed (after before bytes))
 Finishes skin width text sent before (Err (InsufficientWidth e)) now = ⊥
@@ -70,8 +67,8 @@ pub record HasLaid (read : List ℕ) (s : MarkdownStream) (sent : List ℕ) : Ty
   pub links : List LinkSaid
   pub come : HasBegun read sections links s.sections
   pub rows : List RowContent
-  pub page : IsPageAt (line_rules s.skin) (has_ascii_boxes s.skin) s.width (steady_sections sections) rows
-  pub written : rows_bytes s.skin s.width rows ≡ sent ++ s.rows.items
+  pub page : IsDressedAt s.skin s.width (steady_sections sections) rows
+  pub written : dressed_bytes s.skin s.width rows ≡ sent ++ s.rows.items
 
 -- a stream has read this text, and its device took these bytes
 pub record IsInStep (read : List ℕ) (s : MarkdownStream) (sent : List ℕ) : Type 0 where
@@ -116,8 +113,8 @@ Begins old s = (read : List ℕ) (sections : List SectionContent) (links : List 
 -- rows of a page of these sections are kept after those that were
 pub record LaysRows (shown : List SectionContent) (old new : MarkdownStream) : Type 0 where
   pub own : List RowContent
-  pub page : IsPageAt (line_rules old.skin) (has_ascii_boxes old.skin) old.width (steady_sections shown) own
-  pub rows : new.rows.items ≡ old.rows.items ++ rows_bytes old.skin old.width own
+  pub page : IsDressedAt old.skin old.width (steady_sections shown) own
+  pub rows : new.rows.items ≡ old.rows.items ++ dressed_bytes old.skin old.width own
 
 -- some of the rows went out, and the others are kept; then there was this
 pub record Sent (old new : MarkdownStream) (before : Trace) (fault : Trace → Trace) (now : Trace) : Type 0 where

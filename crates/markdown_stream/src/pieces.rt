@@ -2,11 +2,10 @@
 
 ghost use Rattle.std.specs.Prelude.{[]};
 ghost use Rattle.std.specs.List.{flat_map};
-ghost use Rattle.markdown_layout.specs.WrittenPages.{markdown_skin};
 ghost use Rattle.markdown_stream.specs.Streams.{Finishes};
 
 use crate::stream::MarkdownStream;
-use mad_layout::MadSkin;
+use mad_page_skin::PageSkin;
 use mad_term::{Error, Out};
 use std::alloc::Global;
 
@@ -19,11 +18,11 @@ use std::alloc::Global;
 pub fn write_markdown_pieces_on<O: Out>(
     alloc: Global,
     out: &mut O,
-    skin: &MadSkin,
+    skin: &PageSkin,
     width: Option<usize>,
     pieces: &[&str],
 ) -> Result<(), Error>
-    ensures { Finishes (markdown_skin skin.now) width (flat_map (λ piece. piece.now) pieces.now) [] (O.seen out.old) result (O.seen out.new) }
+    ensures { Finishes skin.now width (flat_map (λ piece. piece.now) pieces.now) [] (O.seen out.old) result (O.seen out.new) }
 {
     let mut stream = MarkdownStream::new(alloc, skin, width);
     for piece in pieces {

@@ -1,12 +1,11 @@
 //! A text that a source gives, written as it comes.
 
 ghost use Rattle.std.specs.Prelude.{MatchResult};
-ghost use Rattle.markdown_layout.specs.WrittenPages.{markdown_skin};
 ghost use Rattle.markdown_stream.specs.Sources.{StreamsMarkdown};
 ghost use Rattle.markdown_stream.specs.SourceSteps.{FeedsBlock, StopsInBlock, EndsSource};
 
 use crate::stream::MarkdownStream;
-use mad_layout::MadSkin;
+use mad_page_skin::PageSkin;
 use mad_stream::{BLOCK, SourceError, cut_text, flush, keep_from, refusal_of};
 use mad_term::{Out, Source};
 use std::alloc::Global;
@@ -24,10 +23,10 @@ pub fn write_markdown_source_on<I: Source, O: Out>(
     alloc: Global,
     input: &mut I,
     out: &mut O,
-    skin: &MadSkin,
+    skin: &PageSkin,
     width: Option<usize>,
 ) -> Result<(), SourceError>
-    ensures streams { StreamsMarkdown (markdown_skin skin.now) width (I.seen input.old) (O.seen out.old) result (I.seen input.new) (O.seen out.new) }
+    ensures streams { StreamsMarkdown skin.now width (I.seen input.old) (O.seen out.old) result (I.seen input.new) (O.seen out.new) }
 {
     let mut stream = MarkdownStream::new(alloc, skin, width);
     let mut block = [0; BLOCK];

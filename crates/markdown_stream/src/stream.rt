@@ -1,15 +1,13 @@
 //! Text in pieces, whose rows go out leaf by leaf.
 
 ghost use Rattle.std.specs.Prelude.{◌≡◌, ◌≤◌, ℕ, List, [], None, OnOk, IfOk, length, drop};
-ghost use Rattle.markdown_layout.specs.WrittenPages.{markdown_skin};
 ghost use Rattle.markdown_stream.specs.Come.{Takes, sections_there};
 ghost use Rattle.markdown_stream.specs.Streams.{IsInStep, Feeds, Finishes, IsPrompt, coming, still_fresh, Begins, LaysRows, TakesPiece, EndsText, Sends};
 
 use crate::section_stream::SectionStream;
-use mad_layout::MadSkin;
-use mad_rows::RowSkin;
+use mad_page_skin::PageSkin;
 use mad_term::{Error, Out, put_counted};
-use markdown_layout::{append_sections, markdown_skin};
+use markdown_layout::append_sections;
 use markdown_lines::texts::behind_mark;
 use std::alloc::{AllocError, Global};
 use std::mem::replace;
@@ -26,7 +24,7 @@ use std::mem::replace;
 /// [`known_is_written_whole`]: crate::laws::known_is_written_whole
 #[derive(Drop)]
 pub struct MarkdownStream {
-    skin: RowSkin,
+    skin: PageSkin,
     width: Option<usize>,
     // Whether nothing came yet.
     fresh: bool,
@@ -38,14 +36,14 @@ pub struct MarkdownStream {
 
 impl MarkdownStream {
     /// A text of which nothing has come, to be laid out in a skin at a width, in columns, if there is one.
-    pub fn new(alloc: Global, skin: &MadSkin, width: Option<usize>) -> Self
+    pub fn new(alloc: Global, skin: &PageSkin, width: Option<usize>) -> Self
         ensures start { IsInStep [] result [] }
         ensures prompt { IsPrompt result }
-        ensures skin { result.skin ≡ markdown_skin skin.now }
+        ensures skin { result.skin ≡ skin.now }
         ensures width { result.width ≡ width }
     {
         MarkdownStream {
-            skin: markdown_skin(skin),
+            skin: *skin,
             width,
             fresh: true,
             sections: None,

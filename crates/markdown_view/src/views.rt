@@ -6,22 +6,21 @@ ghost use Rattle.mad_measure.specs.Thumbs.{scrollbar_at};
 ghost use Rattle.mad_term.specs.Draws.{Draws};
 ghost use Rattle.mad_view.specs.Scrolls.{pages_in_lines, scroll_within, scrolled_by, scrolled_down};
 ghost use Rattle.mad_view.specs.ViewKeys.{scrolled_by_key};
-ghost use Rattle.markdown_layout.specs.WrittenPages.{markdown_skin};
-ghost use Rattle.markdown_reader.specs.MarkdownSays.{markdown_says};
+ghost use Rattle.mad_page_skin.specs.PageSkins.{page_row_skin};
+ghost use Rattle.markdown_layout.specs.DressedTexts.{dressed_says};
 ghost use Rattle.markdown_view.specs.MarkdownViews.{IsLaidAnew, IsLaidOut, IsResized, IsSoundView, ShowsKeptView, ShowsReadView, last_column_of, page_columns, view_bytes};
 
 use mad_draw::{ScrollBar, draw_rows_beside};
-use mad_layout::MadSkin;
 use mad_measure::Area;
 use mad_page_rows::{PageTextRows, has_ascii_boxes};
+use mad_page_skin::PageSkin;
 use mad_pages::{PageRow, lay_page};
 use mad_rows::RowSkin;
 use mad_style::{ScrollBarStyle, StyledChar};
 use mad_term::{Error, KeyCode, KeyCombination, KeyEvent, KeyModifiers, Out};
 use mad_view::scrolls::{pages_in_lines, scroll_within, scrolled_by, scrolled_down};
-use markdown_layout::markdown_skin;
+use markdown_layout::DressedMarkdown;
 use markdown_layout::typed_pages::typed_page;
-use markdown_reader::Markdown;
 use std::alloc::{AllocError, Global};
 use std::marker::Model;
 
@@ -31,7 +30,7 @@ use std::marker::Model;
 /// takes no memory.
 #[derive(Drop)]
 pub struct MarkdownView<'m> {
-    markdown: &'m Markdown,
+    markdown: &'m DressedMarkdown,
     area: Area,
     skin: RowSkin,
     bar: ScrollBarStyle,
@@ -40,39 +39,37 @@ pub struct MarkdownView<'m> {
 }
 
 impl<'m> Model for MarkdownView<'m> {
-    ghost use Rattle.markdown_reader.specs.MarkdownSays.{markdown_says};
+    ghost use Rattle.markdown_layout.specs.DressedTexts.{dressed_says};
     ghost use Rattle.markdown_view.specs.MarkdownViews.{IsSoundView, ViewContent};
 
     ghost Value = { ViewContent };
 
-    ghost view = { λ v. record { area = v.area; skin = v.skin; bar = v.bar; page = markdown_says v.markdown.now; rows = v.rows.items; scroll = v.scroll } };
+    ghost view = { λ v. record { area = v.area; skin = v.skin; bar = v.bar; page = dressed_says v.markdown.now; rows = v.rows.items; scroll = v.scroll } };
 
-    ghost invariant = { λ v. IsSoundView v.skin v.area (markdown_says v.markdown.now) v.rows.items };
+    ghost invariant = { λ v. IsSoundView v.skin v.area (dressed_says v.markdown.now) v.rows.items };
 }
 
 impl<'m> MarkdownView<'m> {
-    /// A view of a text in an area, from its first row on. Words stay whole, and links are underlined, as in [`write_markdown_on`].
-    ///
-    /// [`write_markdown_on`]: markdown_layout::write_markdown_on
+    /// A view of a text in an area, from its first row on, in the skin of a page. What stands beside its headings is the text's.
     ///
     /// # Errors
     ///
     /// Out of memory is the only error.
     pub fn from(
         alloc: Global,
-        markdown: &'m Markdown,
+        markdown: &'m DressedMarkdown,
         area: Area,
-        skin: &MadSkin,
+        skin: &PageSkin,
     ) -> Result<MarkdownView<'m>, AllocError>
-        ensures { IfOk result (λ view. IsLaidAnew (record { area = area; skin = markdown_skin skin.now; bar = skin.now.scrollbar; page = markdown_says markdown.entry.now; rows = view.rows; scroll = 0 }) view) }
+        ensures { IfOk result (λ view. IsLaidAnew (record { area = area; skin = page_row_skin skin.now; bar = skin.now.text.scrollbar; page = dressed_says markdown.entry.now; rows = view.rows; scroll = 0 }) view) }
     {
-        let row_skin = markdown_skin(skin);
+        let row_skin = skin.row_skin();
         let rows = laid_out(alloc, markdown, &row_skin, &area)?;
         Ok(MarkdownView {
             markdown,
             area,
             skin: row_skin,
-            bar: skin.scrollbar,
+            bar: skin.text.scrollbar,
             rows,
             scroll: 0,
         })
@@ -83,8 +80,8 @@ impl<'m> MarkdownView<'m> {
     /// # Errors
     ///
     /// Out of memory for the layout. The view is not changed then.
-    pub fn set_markdown(&mut self, markdown: &'m Markdown) -> Result<(), AllocError>
-        ensures anew { OnOk result (IsLaidAnew (record self.old { page = markdown_says markdown.entry.now }) self.new) }
+    pub fn set_markdown(&mut self, markdown: &'m DressedMarkdown) -> Result<(), AllocError>
+        ensures anew { OnOk result (IsLaidAnew (record self.old { page = dressed_says markdown.entry.now }) self.new) }
         ensures err { OnErr result (self.new ≡ self.old) }
     {
         let alloc = *self.rows.allocator();
@@ -299,11 +296,11 @@ impl<'m> MarkdownView<'m> {
 // The rows of a text's page in an area.
 fn laid_out<'m>(
     alloc: Global,
-    markdown: &'m Markdown,
+    markdown: &'m DressedMarkdown,
     skin: &RowSkin,
     area: &Area,
 ) -> Result<Vec<PageRow<'m>>, AllocError>
-    ensures { IfOk result (λ rows. IsSoundView skin.now area.now (markdown_says markdown.entry.now) rows.items) }
+    ensures { IfOk result (λ rows. IsSoundView skin.now area.now (dressed_says markdown.entry.now) rows.items) }
 {
     let page = markdown.page(alloc)?;
     // Nothing is done: this only says what types promise.

@@ -46,10 +46,12 @@ pub mod layout {
 
 /// Pages as rows, and laws of these: the columns of what stands in front of a line, and that each row fills its width.
 pub mod pages {
+    pub use mad_dressing::HeadingMarks;
     pub use mad_page_rows::{PageTextRows, PlacedPageRows, laws};
+    pub use mad_page_skin::{CodeStyles, TitleStyles};
     pub use mad_pages::{PageRow, lay_page};
     pub use mad_sections::Alert;
-    pub use markdown_layout::{draw_page, lay_markdown, markdown_skin, read_drawable};
+    pub use markdown_layout::{draw_page, lay_markdown, read_drawable};
 }
 
 /// Laws of the widths of a table's columns.
@@ -196,6 +198,7 @@ pub use mad_measure::is_printable;
 pub use mad_measure::printable;
 pub use mad_measure::token_iter;
 pub use mad_measure::tokenize;
+pub use mad_page_skin::PageSkin;
 pub use mad_screen::CutOut;
 pub use mad_screen::ScriptSource;
 pub use mad_sections::Gutter;
@@ -270,6 +273,7 @@ pub use mad_view::TextView;
 pub use mad_view::draw_views;
 pub use mad_widths::TblFit;
 pub use mad_widths::TblFitResult;
+pub use markdown_layout::DressedMarkdown;
 pub use markdown_layout::draw_markdown;
 pub use markdown_layout::write_markdown_on;
 pub use markdown_layout::write_page_on;

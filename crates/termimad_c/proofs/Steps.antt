@@ -16,15 +16,17 @@ use Rattle.termimad.specs.declared.Error.{Error}
 use Rattle.termimad.specs.declared.FmtComposite.{FmtComposite}
 use Rattle.termimad.specs.declared.FmtLine.{FmtLine}
 use Rattle.termimad.specs.declared.MadSkin.{MadSkin}
-use Rattle.termimad_run.specs.GivenSkins.{skin_given, RefusesSkin as RefusesWord}
+use Rattle.mad_page_skin.specs.PageSkins.{page_skin_of}
+use Rattle.mad_page_skin.specs.declared.page_skin.PageSkin.{PageSkin}
+use Rattle.termimad_run.specs.GivenSkins.{page_skin_given, skin_given, RefusesPageSkin as RefusesPageWord, RefusesSkin as RefusesWord}
 use Rattle.termimad_run.specs.ProgramRuns.{WritesCall, ShowsCall}
 use Rattle.termimad_run.specs.declared.call.Command.{Command}
 use Rattle.termimad_run.specs.declared.failure.Failure.{Failure}
 use Rattle.termimad_run.specs.declared.failure.Failure.TheVariants as failure
 use Rattle.termimad_c.specs.Answers.{HandsOut, HandsOutParts, bit, refusal_of}
 use Rattle.mad_frames.specs.Gathered.{untouched}
-use Rattle.termimad_c.specs.Inputs.{word_given, IsNoText, IsSkinOf, IsTextSoFar, RefusesSkin, RefusesCall, RefusesParts, alignment_number}
-use Rattle.termimad_c.specs.Making.{ArePartsOf, IsWritten, IsRowCount, IsFittedLine}
+use Rattle.termimad_c.specs.Inputs.{word_given, IsNoText, IsPageSkinOf, IsSkinOf, IsTextSoFar, RefusesPage, RefusesPageSkin, RefusesSkin, RefusesCall, RefusesParts, alignment_number}
+use Rattle.termimad_c.specs.Making.{ArePartsOf, IsPageWritten, IsWritten, IsRowCount, IsFittedLine}
 use Rattle.termimad_c.specs.declared.answer.Answer.{Answer}
 use Rattle.termimad_c.specs.declared.answer.Progress.{Progress}
 use Rattle.termimad_c.specs.declared.answer.Refusal.{Refusal}
@@ -66,20 +68,56 @@ pub other_word : (word : List ℕ) → length word ≢ 0 → Some word ≡ word_
 other_word [] p = absurd (p refl)
 other_word (byte ∷ more) p = refl
 
--- the skin of a word that is a text
-pub skin_read : (word text : List ℕ) (given : Option (List ℕ)) (skin : MadSkin) (unknown : List (List ℕ)) → IsUtf8 word → text ≡ word → given ≡ word_given text → skin_given given ≡ Some (skin, unknown) → IsSkinOf word skin
-skin_read word text given skin unknown utf8 p q h = (utf8, unknown, ap skin_given (ap word_given (sym p) ∙ sym q) ∙ h)
+-- the program refuses the word of a page's skin
+pub page_word_refused : (word : List ℕ) (given : Option (List ℕ)) (f : Failure) → given ≡ word_given word → RefusesPageWord given f → RefusesPageSkin word (refusal_of f)
+page_word_refused word given failure.Skin p h = sym (ap page_skin_given p) ∙ h
+page_word_refused word given failure.Memory p h = tt
+page_word_refused word given _ p h = absurd h
 
--- all that a call wrote on a device that had taken nothing
-pub all_written : (text word src : List ℕ) (command : Command) (skin : MadSkin) (old last : Trace) (whole : List ℕ) → IsUtf8 text → src ≡ text → IsSkinOf word skin → old ≡ untouched
-    → WritesCall skin command src old (Ok (tt {0})) last → ShowsCall skin command src old last → last.bytes ≡ Some whole → IsWritten text word command whole
-all_written text word src command skin old last whole utf8 p given q writes shown taken = record {
+-- a page is refused for its skin
+pub page_skin_refused : (Wrong : Type 0) (text word : List ℕ) (refusal : Refusal) → RefusesPageSkin word refusal → RefusesPage Wrong text word refusal
+page_skin_refused Wrong text word NotUtf8 h = inr h
+page_skin_refused Wrong text word Skin h = h
+page_skin_refused Wrong text word Memory h = tt
+page_skin_refused Wrong text word Condition h = absurd h
+
+-- a page is refused as one is that has no numbers
+pub page_refused : (Wrong : Type 0) (text word : List ℕ) (refusal : Refusal) → RefusesPage ⊥ text word refusal → RefusesPage Wrong text word refusal
+page_refused Wrong text word NotUtf8 h = h
+page_refused Wrong text word Skin h = h
+page_refused Wrong text word Memory h = h
+page_refused Wrong text word Condition h = absurd h
+
+-- the skin of a page for a word that is a text
+pub page_skin_read : (word text : List ℕ) (given : Option (List ℕ)) (skin : PageSkin) (unknown : List (List ℕ)) → IsUtf8 word → text ≡ word → given ≡ word_given text → page_skin_given given ≡ Some (skin, unknown) → IsPageSkinOf word skin
+page_skin_read word text given skin unknown utf8 p q h = (utf8, unknown, ap page_skin_given (ap word_given (sym p) ∙ sym q) ∙ h)
+
+-- all that a call wrote of a page
+pub page_all_written : (text word src : List ℕ) (command : Command) (skin : PageSkin) (old last : Trace) (whole : List ℕ) → IsUtf8 text → src ≡ text → IsPageSkinOf word skin → old ≡ untouched
+    → WritesCall skin command src old (Ok (tt {0})) last → last.bytes ≡ Some whole → IsPageWritten text word command whole
+page_all_written text word src command skin old last whole utf8 p given q writes taken = record {
   utf8 = utf8;
   skin = skin;
   given = given;
   last = last;
   writes = subst (λ (t : List ℕ). WritesCall skin command t untouched (Ok (tt {0})) last) p (subst (λ (o : Trace). WritesCall skin command src o (Ok (tt {0})) last) q writes);
-  shown = subst (λ (t : List ℕ). ShowsCall skin command t untouched last) p (subst (λ (o : Trace). ShowsCall skin command src o last) q shown);
+  whole_is = taken;
+}
+
+-- the skin of a word that is a text
+pub skin_read : (word text : List ℕ) (given : Option (List ℕ)) (skin : MadSkin) (unknown : List (List ℕ)) → IsUtf8 word → text ≡ word → given ≡ word_given text → skin_given given ≡ Some (skin, unknown) → IsSkinOf word skin
+skin_read word text given skin unknown utf8 p q h = (utf8, unknown, ap skin_given (ap word_given (sym p) ∙ sym q) ∙ h)
+
+-- all that a call wrote on a device that had taken nothing
+pub all_written : (text word src : List ℕ) (command : Command) (skin : MadSkin) (page_skin : PageSkin) (old last : Trace) (whole : List ℕ) → IsUtf8 text → src ≡ text → IsSkinOf word skin → page_skin ≡ page_skin_of skin → old ≡ untouched
+    → WritesCall page_skin command src old (Ok (tt {0})) last → ShowsCall page_skin command src old last → last.bytes ≡ Some whole → IsWritten text word command whole
+all_written text word src command skin page_skin old last whole utf8 p given same q writes shown taken = record {
+  utf8 = utf8;
+  skin = skin;
+  given = given;
+  last = last;
+  writes = subst (λ (k : PageSkin). WritesCall k command text untouched (Ok (tt {0})) last) same (subst (λ (t : List ℕ). WritesCall page_skin command t untouched (Ok (tt {0})) last) p (subst (λ (o : Trace). WritesCall page_skin command src o (Ok (tt {0})) last) q writes));
+  shown = subst (λ (k : PageSkin). ShowsCall k command text untouched last) same (subst (λ (t : List ℕ). ShowsCall page_skin command t untouched last) p (subst (λ (o : Trace). ShowsCall page_skin command src o last) q shown));
   whole_is = taken;
 }
 

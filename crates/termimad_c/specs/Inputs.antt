@@ -6,7 +6,8 @@ use Rattle.termimad.specs.declared.Alignment.{Alignment}
 use Rattle.termimad.specs.declared.Alignment.TheVariants.{Unspecified, Left, Center, Right}
 use Rattle.termimad.specs.declared.Area.{Area}
 use Rattle.termimad.specs.declared.MadSkin.{MadSkin}
-use Rattle.termimad_run.specs.GivenSkins.{skin_given}
+use Rattle.mad_page_skin.specs.declared.page_skin.PageSkin.{PageSkin}
+use Rattle.termimad_run.specs.GivenSkins.{page_skin_given, skin_given}
 use Rattle.termimad_c.specs.declared.answer.Refusal.{Refusal}
 use Rattle.termimad_c.specs.declared.answer.Refusal.TheVariants.{Condition, NotUtf8, Skin, Memory}
 
@@ -46,6 +47,24 @@ RefusesCall Wrong text word Condition = Wrong
 RefusesCall Wrong text word NotUtf8 = (¬ (IsUtf8 text)) ⊎ (¬ (IsUtf8 word))
 RefusesCall Wrong text word Skin = skin_given (word_given word) ≡ None
 RefusesCall Wrong text word Memory = Unit {0}
+
+-- the skin of a page for a word, whatever keys are passed over
+abbrev pub IsPageSkinOf : List ℕ → PageSkin → Type 0
+IsPageSkinOf word skin = IsUtf8 word × (unknown : List (List ℕ)) × (page_skin_given (word_given word) ≡ Some (skin, unknown))
+
+-- why a word gives no skin of a page
+abbrev pub RefusesPageSkin : List ℕ → Refusal → Type 0
+RefusesPageSkin word NotUtf8 = ¬ (IsUtf8 word)
+RefusesPageSkin word Skin = page_skin_given (word_given word) ≡ None
+RefusesPageSkin word Memory = Unit {0}
+RefusesPageSkin word Condition = ⊥
+
+-- Why a text and the skin of a page are refused by a call whose numbers are wrong where this is so.
+abbrev pub RefusesPage : Type 0 → List ℕ → List ℕ → Refusal → Type 0
+RefusesPage Wrong text word Condition = Wrong
+RefusesPage Wrong text word NotUtf8 = (¬ (IsUtf8 text)) ⊎ (¬ (IsUtf8 word))
+RefusesPage Wrong text word Skin = page_skin_given (word_given word) ≡ None
+RefusesPage Wrong text word Memory = Unit {0}
 
 -- why a text that goes on or ends there, at a width, and a skin are refused
 abbrev pub RefusesParts : List ℕ → List ℕ → ℕ → Bool → Refusal → Type 0

@@ -15,11 +15,13 @@ use Rattle.termimad.specs.declared.Area.{Area}
 use Rattle.termimad.specs.declared.FmtComposite.{FmtComposite}
 use Rattle.termimad.specs.declared.FmtLine.{FmtLine}
 use Rattle.termimad.specs.declared.MadSkin.{MadSkin}
+use Rattle.mad_page_skin.specs.PageSkins.{page_skin_of}
+use Rattle.mad_page_skin.specs.declared.page_skin.PageSkin.{PageSkin}
 use Rattle.termimad_run.specs.ProgramRuns.{WritesCall, ShowsCall}
 use Rattle.termimad_run.specs.declared.call.Command.{Command}
 use Rattle.termimad_run.specs.declared.call.Command.TheVariants.{InArea, AtWidth, AsMarkdown}
 use Rattle.mad_frames.specs.Gathered.{untouched}
-use Rattle.termimad_c.specs.Inputs.{IsTextSoFar, IsSkinOf, IsAreaOf, alignment_number}
+use Rattle.termimad_c.specs.Inputs.{IsTextSoFar, IsPageSkinOf, IsSkinOf, IsAreaOf, alignment_number}
 
 -- They are all that the program writes of this text in the skin of this word, and what a plain terminal shows of them is what the
 -- program's bytes show.
@@ -28,8 +30,8 @@ pub record IsWritten (text word : List ℕ) (command : Command) (whole : List �
   pub skin : MadSkin
   pub given : IsSkinOf word skin
   pub last : Trace
-  pub writes : WritesCall skin command text untouched (Ok (tt {0})) last
-  pub shown : ShowsCall skin command text untouched last
+  pub writes : WritesCall (page_skin_of skin) command text untouched (Ok (tt {0})) last
+  pub shown : ShowsCall (page_skin_of skin) command text untouched last
   pub whole_is : last.bytes ≡ Some whole
 
 -- so it writes the text in the area of these numbers
@@ -40,9 +42,18 @@ IsAreaWritten text word left top width height whole = (area : Area) × IsAreaOf 
 abbrev pub IsTextWritten : List ℕ → List ℕ → ℕ → List ℕ → Type 0
 IsTextWritten text word width whole = (width < 2 ^ 16) × IsWritten text word (AtWidth width) whole
 
+-- They are all that the program writes of this text as a page in the skin of this word.
+pub record IsPageWritten (text word : List ℕ) (command : Command) (whole : List ℕ) : Type 0 where
+  pub utf8 : IsUtf8 text
+  pub skin : PageSkin
+  pub given : IsPageSkinOf word skin
+  pub last : Trace
+  pub writes : WritesCall skin command text untouched (Ok (tt {0})) last
+  pub whole_is : last.bytes ≡ Some whole
+
 -- so it writes what the text is as Markdown that people write
 abbrev pub IsMarkdownWritten : List ℕ → List ℕ → ℕ → List ℕ → Type 0
-IsMarkdownWritten text word width whole = (width < 2 ^ 16) × IsWritten text word (AsMarkdown width) whole
+IsMarkdownWritten text word width whole = (width < 2 ^ 16) × IsPageWritten text word (AsMarkdown width) whole
 
 -- The text has a layout of so many lines at this width, in the skin of this word. Each is one row.
 pub record IsRowCount (text word : List ℕ) (width count : ℕ) : Type 0 where

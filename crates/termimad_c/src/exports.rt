@@ -6,7 +6,7 @@
 ghost use Rattle.std.specs.Prelude.{◌≡◌, ◌⊎◌, ◌≤◌, ◌^◌, []};
 ghost use Rattle.termimad_run.specs.declared.call.Command.TheVariants.{Inline};
 ghost use Rattle.termimad_c.specs.Answers.{Answers, Counts, Progresses};
-ghost use Rattle.termimad_c.specs.Inputs.{RefusesCall, RefusesParts, IsNoArea, IsNoFit, is_told};
+ghost use Rattle.termimad_c.specs.Inputs.{RefusesCall, RefusesPage, RefusesParts, IsNoArea, IsNoFit, is_told};
 ghost use Rattle.termimad_c.specs.DataTables.{IsNoTable, IsTableWritten};
 ghost use Rattle.termimad_c.specs.Making.{IsWritten, IsAreaWritten, IsTextWritten, IsMarkdownWritten, IsRowCount, IsFittedLine, IsMadePrintable, ArePartsOf};
 
@@ -59,7 +59,7 @@ pub extern "C" fn termimad_markdown(
     width: usize,
     buffer: &mut [u8],
 ) -> Answer
-    ensures { Answers (IsMarkdownWritten text.now skin.now width) (RefusesCall (2 ^ 16 ≤ width) text.now skin.now) buffer.old result buffer.new }
+    ensures { Answers (IsMarkdownWritten text.now skin.now width) (RefusesPage (2 ^ 16 ≤ width) text.now skin.now) buffer.old result buffer.new }
 {
     hand_out(markdown_bytes(alloc, text, skin, width), buffer)
 }

@@ -2,12 +2,12 @@
 
 ghost use Rattle.std.specs.Prelude.{◌≡◌, ◌<◌, ◌≤◌, ◌^◌, IsUtf8, MatchResult, option_map};
 ghost use Rattle.termimad_c.specs.declared.answer.Refusal.TheVariants.{Condition, NotUtf8};
-ghost use Rattle.termimad_c.specs.Inputs.{AreAligned, IsTextSoFar, IsNoText, IsSkinOf, RefusesAligns, RefusesSkin, IsAreaOf, IsNoArea, alignment_number, word_given};
+ghost use Rattle.termimad_c.specs.Inputs.{AreAligned, IsTextSoFar, IsNoText, IsPageSkinOf, IsSkinOf, RefusesAligns, RefusesPageSkin, RefusesSkin, IsAreaOf, IsNoArea, alignment_number, word_given};
 
 use crate::answer::Refusal;
 use std::alloc::Global;
-use termimad::{Alignment, Area, MadSkin, cut_text};
-use termimad_run::skin_of;
+use termimad::{Alignment, Area, MadSkin, PageSkin, cut_text};
+use termimad_run::{page_skin_of_word, skin_of};
 
 // The least width of an area, in columns.
 const LEAST_AREA_WIDTH: u16 = 4;
@@ -56,6 +56,21 @@ pub fn skin_of_word(alloc: Global, word: &[u8]) -> Result<MadSkin, Refusal>
 {
     let word = text_of(word)?;
     let (skin, _) = skin_of(alloc, given_word(word))?;
+    Ok(skin)
+}
+
+/// The skin of a page for a word. An empty word and `none` are the one without styles; `default`, `dark`, `light` and `sixteen` are the made skins; any
+/// other is JSON text, whose keys that name no part of a skin are passed over.
+///
+/// # Errors
+///
+/// `NotUtf8`; `Skin`, where the word is no JSON text or says no skin; or out of memory for what it says.
+#[tactic(auto, using(crate::proofs::Steps::page_word_refused))]
+pub fn page_skin_of_bytes(alloc: Global, word: &[u8]) -> Result<PageSkin, Refusal>
+    ensures { MatchResult result (IsPageSkinOf word.now) (RefusesPageSkin word.now) }
+{
+    let word = text_of(word)?;
+    let (skin, _) = page_skin_of_word(alloc, given_word(word))?;
     Ok(skin)
 }
 

@@ -3,15 +3,17 @@
 ghost use Rattle.std.specs.Prelude.{◌≡◌, ◌≤◌, ◌^◌, [], MatchResult};
 ghost use Rattle.termimad_run.specs.Calls.{IsAllowed};
 ghost use Rattle.termimad_run.specs.declared.call.Command.TheVariants.{Inline};
-ghost use Rattle.termimad_c.specs.Inputs.{RefusesCall, RefusesParts, IsNoArea, IsNoFit};
+ghost use Rattle.termimad_c.specs.Inputs.{RefusesCall, RefusesPage, RefusesParts, IsNoArea, IsNoFit};
 ghost use Rattle.termimad_c.specs.DataTables.{IsNoTable, IsTableWritten};
-ghost use Rattle.termimad_c.specs.Making.{IsWritten, IsAreaWritten, IsTextWritten, IsMarkdownWritten, IsRowCount, IsFittedLine, IsMadePrintable, ArePartsOf};
+ghost use Rattle.termimad_c.specs.Making.{IsWritten, IsAreaWritten, IsPageWritten, IsTextWritten, IsMarkdownWritten, IsRowCount, IsFittedLine, IsMadePrintable, ArePartsOf};
 
 use crate::answer::{Parts, Refusal};
-use crate::inputs::{align_of, aligns_of, area_of, number_of, skin_of_word, text_of, text_so_far};
+use crate::inputs::{
+    align_of, aligns_of, area_of, number_of, page_skin_of_bytes, skin_of_word, text_of, text_so_far,
+};
 use mad_tables::table_of_cells;
 use std::alloc::Global;
-use termimad::{FmtText, Gathered, printable, write_front_on};
+use termimad::{FmtText, Gathered, PageSkin, printable, write_front_on};
 use termimad_run::{Command, write_call};
 
 /// A text in an area: the bytes of `termimad-view area`.
@@ -43,7 +45,7 @@ pub fn text_bytes(alloc: Global, text: &[u8], skin: &[u8], width: usize) -> Resu
 }
 
 /// A text of Markdown as people write it, at a width: the bytes of `termimad-view markdown`.
-#[tactic(auto, using(crate::proofs::Steps::call_refused))]
+#[tactic(auto, using(crate::proofs::Steps::page_refused))]
 pub fn markdown_bytes(
     alloc: Global,
     text: &[u8],
@@ -51,10 +53,10 @@ pub fn markdown_bytes(
     width: usize,
 ) -> Result<Vec<u8>, Refusal>
     ensures { MatchResult result (λ whole. IsMarkdownWritten text.now skin.now width whole.items)
-        (RefusesCall (2 ^ 16 ≤ width) text.now skin.now) }
+        (RefusesPage (2 ^ 16 ≤ width) text.now skin.now) }
 {
     let width = number_of(width)?;
-    written(alloc, text, skin, &Command::AsMarkdown(width))
+    page_written(alloc, text, skin, &Command::AsMarkdown(width))
 }
 
 /// A text as one line: the bytes of `termimad-view inline`.
@@ -71,6 +73,25 @@ fn written(alloc: Global, text: &[u8], skin: &[u8], command: &Command) -> Result
     ensures { MatchResult result (λ whole. IsWritten text.now skin.now command.now whole.items) (RefusesCall ⊥ text.now skin.now) }
 {
     let skin = skin_of_word(alloc, skin)?;
+    let text = text_of(text)?;
+    let page_skin = PageSkin::of(&skin);
+    let mut out = Gathered::new(alloc);
+    write_call(alloc, &mut out, &page_skin, command, text)?;
+    Ok(out.bytes)
+}
+
+// What the program writes of a text as a page.
+#[tactic(auto, using(crate::proofs::Steps::page_skin_refused))]
+fn page_written(
+    alloc: Global,
+    text: &[u8],
+    skin: &[u8],
+    command: &Command,
+) -> Result<Vec<u8>, Refusal>
+    requires { IsAllowed command.now }
+    ensures { MatchResult result (λ whole. IsPageWritten text.now skin.now command.now whole.items) (RefusesPage ⊥ text.now skin.now) }
+{
+    let skin = page_skin_of_bytes(alloc, skin)?;
     let text = text_of(text)?;
     let mut out = Gathered::new(alloc);
     write_call(alloc, &mut out, &skin, command, text)?;

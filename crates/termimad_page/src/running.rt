@@ -3,8 +3,8 @@
 use crate::call::{Place, parse_call};
 use crate::failing::Refusal;
 use crate::skins::skin_for;
-use mad_layout::MadSkin;
 use mad_measure::printable;
+use mad_page_skin::PageSkin;
 use mad_steady::steady;
 use mad_term::{Error, Out, Stream};
 use markdown_layout::write_markdown_on;
@@ -63,7 +63,7 @@ fn write_whole(
     rt: &HostRuntime,
     text: &str,
     grammar: Grammar,
-    skin: &MadSkin,
+    skin: &PageSkin,
     columns: usize,
 ) -> Result<(), Error> {
     let writer = BufWriter::new(rt.alloc(), io::writer(rt))?;
@@ -72,10 +72,12 @@ fn write_whole(
         Grammar::Lines => {
             let printed = printable(rt.alloc(), text)?;
             let text = steady(rt.alloc(), &printed)?;
-            skin.write_parts_on(rt.alloc(), &mut out, &text, Some(columns))?;
+            skin.text
+                .write_parts_on(rt.alloc(), &mut out, &text, Some(columns))?;
         }
         Grammar::Markdown => {
-            write_markdown_on(rt.alloc(), &mut out, skin, text, Some(columns))?;
+            let skin = PageSkin::of(skin);
+            write_markdown_on(rt.alloc(), &mut out, &skin, text, Some(columns))?;
         }
     }
     out.flush()?;

@@ -1,30 +1,69 @@
 //! The skin that a text is shown in.
 
 ghost use Rattle.std.specs.Prelude.{◌≡◌, Some, MatchResult, option_map};
-ghost use Rattle.termimad_page.specs.Skins.{keeps_words, skin_for, skin_worded, RefusesWord};
+ghost use Rattle.termimad_page.specs.Skins.{lines_skin, page_skin_worded, skin_for, skin_worded, word_or_default, RefusesPageWord, RefusesSkinFor, RefusesWord};
 
 use mad_layout::MadSkin;
+use mad_page_skin::PageSkin;
 use std::alloc::Global;
 use termimad_page_run::{Grammar, plain_skin};
-use termimad_run::{Failure, skin_of};
+use termimad_run::{Failure, page_skin_of_word, skin_of};
 
-/// The skin of the word for SKIN, for a text that is read so. It is the default one without a word, and for `none` one without a style, not that of
-/// the scroll bar either. Words of Markdown stay whole.
+// The word that a call without one has for the skin of Markdown.
+const DEFAULT: &str = "default";
+
+/// The skin of the word for SKIN, for a text that is read so. Words of Markdown stay whole.
+///
+/// Markdown has the skin of a page, as [`page_skin_of_word`] reads the word; without one it is `default`. Lines that stand for themselves have that
+/// of a text: the default one without a word, and for `none` one without a style, not that of the scroll bar either.
 ///
 /// # Errors
 ///
 /// `Skin`, where the word says no skin; or out of memory for what it says.
-pub fn skin_for(alloc: Global, word: Option<&str>, grammar: Grammar) -> Result<MadSkin, Failure>
+pub fn skin_for(alloc: Global, word: Option<&str>, grammar: Grammar) -> Result<PageSkin, Failure>
     ensures { MatchResult result
         (λ skin. skin_for (option_map (λ word. word.now) word.entry) grammar ≡ Some skin)
-        (λ failure. RefusesWord (option_map (λ word. word.now) word.entry) failure) }
+        (λ failure. RefusesSkinFor (option_map (λ word. word.now) word.entry) grammar failure) }
 {
-    let mut skin = skin_worded(alloc, word)?;
-    skin.whole_words = keeps_words(grammar);
+    match grammar {
+        Grammar::Lines => lines_skin(alloc, word),
+        Grammar::Markdown => page_skin(alloc, word),
+    }
+}
+
+// The skin of a page for that word, in which words stay whole.
+fn page_skin(alloc: Global, word: Option<&str>) -> Result<PageSkin, Failure>
+    ensures { MatchResult result
+        (λ skin. page_skin_worded (option_map (λ word. word.now) word.entry) ≡ Some skin)
+        (λ failure. RefusesPageWord (option_map (λ word. word.now) word.entry) failure) }
+{
+    let (mut skin, _) = page_skin_of_word(alloc, Some(word_or_default(word)))?;
+    skin.text.whole_words = true;
     Ok(skin)
 }
 
-// The skin of that word.
+// That word, or the default one without it.
+fn word_or_default(word: Option<&str>) -> &str
+    ensures { result.now ≡ word_or_default (option_map (λ word. word.now) word.entry) }
+{
+    match word {
+        Some(word) => word,
+        None => DEFAULT,
+    }
+}
+
+// The skin of lines for that word, as that of a page.
+fn lines_skin(alloc: Global, word: Option<&str>) -> Result<PageSkin, Failure>
+    ensures { MatchResult result
+        (λ skin. lines_skin (option_map (λ word. word.now) word.entry) ≡ Some skin)
+        (λ failure. RefusesWord (option_map (λ word. word.now) word.entry) failure) }
+{
+    let mut skin = skin_worded(alloc, word)?;
+    skin.whole_words = false;
+    Ok(PageSkin::of(&skin))
+}
+
+// The skin of a text for that word.
 fn skin_worded(alloc: Global, word: Option<&str>) -> Result<MadSkin, Failure>
     ensures { MatchResult result
         (λ skin. skin_worded (option_map (λ word. word.now) word.entry) ≡ Some skin)
@@ -38,11 +77,4 @@ fn skin_worded(alloc: Global, word: Option<&str>) -> Result<MadSkin, Failure>
     }
     let (skin, _) = skin_of(alloc, Some(word))?;
     Ok(skin)
-}
-
-// Whether words of a text that is read so stay whole.
-fn keeps_words(grammar: Grammar) -> bool
-    ensures { result ≡ keeps_words grammar }
-{
-    grammar == Grammar::Markdown
 }

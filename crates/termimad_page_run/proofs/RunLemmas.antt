@@ -9,9 +9,12 @@ use Rattle.mad_term.specs.Trace.{Trace, ahead_all, Filled}
 use Rattle.mad_term.specs.declared.errors.Error.{Error}
 use Rattle.mad_term.specs.declared.events.Event.{Event}
 use Rattle.mad_sections.specs.Sections.{SectionContent}
-use Rattle.mad_search.specs.PagedTexts.{plain_sections}
+use Rattle.mad_dressing.specs.Dressed.{Put, dressed, put_with}
+use Rattle.mad_dressing.specs.declared.heading_marks.HeadingMarks.{HeadingMarks}
+use Rattle.mad_search.specs.PagedTexts.{grouped}
+use Rattle.mad_search.proofs.GroupLemmas.{page_grouped}
 use Rattle.markdown_reader.specs.MarkdownSays.{LinkSaid}
-use Rattle.mad_outline.specs.Sources.{TextSaid}
+use Rattle.mad_outline.specs.Sources.{TextSaid, plain_said}
 use Rattle.mad_pager.proofs.PagerOrder.{step_order, view_settled_order}
 use Rattle.mad_pager.specs.Pagers.{View, IsOpened, IsOrderlyView, IsViewShown}
 use Rattle.mad_pager.specs.declared.pager.Pager.{Pager}
@@ -19,9 +22,7 @@ use Rattle.mad_pager.specs.declared.session.End.{End}
 use Rattle.termimad_page_run.specs.Blocks.{IsBlockDone, IsSession}
 use Rattle.termimad_page_run.specs.Runs.{AreTurns, EndsAtInput, IsBrokenOff, IsBrokenRun, IsPaged, IsTurn, IsTurned, Moment, block_room, moment, name_row, printed_text, row_char, said_in, sheet_said, shown_text}
 use Rattle.markdown_reader.specs.Markdown.{markdown_sections, markdown_links}
-use Rattle.mad_md.specs.Reading.{unread_text}
 use Rattle.mad_steady.specs.Steady.{steady_text}
-use Rattle.mad_md.specs.Scan.{lines_of}
 use Rattle.termimad_page_run.specs.declared.program.Grammar.{Grammar}
 use Rattle.termimad_page_run.specs.declared.program.Grammar.TheVariants.{Lines, Markdown}
 use Rattle.termimad_page_run.specs.declared.program.Sheet.{Sheet}
@@ -112,15 +113,17 @@ pub shown_by : (text printed shown : List ℕ) → printed ≡ printed_text text
 shown_by text printed shown e is = is ∙ ap (λ (t : List ℕ). encode_utf8_all (steady_text (chars t))) e
 
 -- what a text says that is shown so
-pub lines_said : (grammar : Grammar) (text shown : List ℕ) → grammar ≡ Lines → shown ≡ shown_text text → record { page = plain_sections (lines_of (unread_text false shown)); links = None } ≡ said_in grammar text
-lines_said grammar text shown is e =
-    ap (λ (t : List ℕ). let s : TextSaid = record { page = plain_sections (lines_of (unread_text false t)); links = None } in s) e ∙ ap (λ (g : Grammar). said_in g text) (sym is)
+pub lines_said : (grammar : Grammar) (marks : HeadingMarks) (text shown : List ℕ) → grammar ≡ Lines → shown ≡ shown_text text → plain_said shown ≡ said_in grammar marks text
+lines_said grammar marks text shown is e = ap plain_said e ∙ ap (λ (g : Grammar). said_in g marks text) (sym is)
 
--- what Markdown says that was read
-pub markdown_said : (grammar : Grammar) (text : List ℕ) (said : List SectionContent) (links : List LinkSaid) → grammar ≡ Markdown → said ≡ markdown_sections text → links ≡ markdown_links text → record { page = said; links = Some links } ≡ said_in grammar text
-markdown_said grammar text said links is e f =
-    ap (λ (l : List SectionContent). let s : TextSaid = record { page = l; links = Some links } in s) e
-    ∙ (ap (λ (l : List LinkSaid). let s : TextSaid = record { page = markdown_sections text; links = Some l } in s) f ∙ ap (λ (g : Grammar). said_in g text) (sym is))
+-- what Markdown says that was read, with what is put into its page with each of its sections
+pub markdown_said : (grammar : Grammar) (marks : HeadingMarks) (text : List ℕ) (puts : List Put) (page said : List SectionContent) (links : List LinkSaid) → grammar ≡ Markdown → said ≡ markdown_sections text → page ≡ said → puts ≡ map (put_with marks) page
+    → links ≡ markdown_links text → record { page = said; shown = grouped puts said; links = Some links } ≡ said_in grammar marks text
+markdown_said grammar marks text puts page said links is e same put f =
+    let groups : grouped puts said ≡ map (dressed marks) said = page_grouped marks puts said (put ∙ ap (map (put_with marks)) same) in
+    ap (λ (g : List (List SectionContent)). let s : TextSaid = record { page = said; shown = g; links = Some links } in s) groups
+    ∙ (ap (λ (l : List SectionContent). let s : TextSaid = record { page = l; shown = map (dressed marks) l; links = Some links } in s) e
+    ∙ (ap (λ (l : List LinkSaid). let s : TextSaid = record { page = markdown_sections text; shown = map (dressed marks) (markdown_sections text); links = Some l } in s) f ∙ ap (λ (g : Grammar). said_in g marks text) (sym is)))
 
 -- what was opened, along what is equal
 pub opened_along : (sheet : Sheet) (v : View) (name : List ℕ) (text : TextSaid) → name ≡ name_row sheet.name.now → text ≡ sheet_said sheet → IsOpened sheet.skin.now name text sheet.columns sheet.rows sheet.files v

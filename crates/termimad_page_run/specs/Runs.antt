@@ -5,12 +5,11 @@ use Rattle.mad_term.specs.declared.errors.Error.{Error}
 use Rattle.mad_term.specs.declared.errors.Error.TheVariants.{IO, InsufficientWidth, Memory}
 use Rattle.mad_measure.specs.Printable.{printable_text}
 use Rattle.mad_steady.specs.Steady.{steady_text}
-use Rattle.mad_md.specs.Reading.{unread_text}
-use Rattle.mad_md.specs.Scan.{lines_of}
-use Rattle.mad_search.specs.PagedTexts.{plain_sections}
+use Rattle.mad_dressing.specs.Dressed.{dressed}
+use Rattle.mad_dressing.specs.declared.heading_marks.HeadingMarks.{HeadingMarks}
 use Rattle.markdown_reader.specs.Markdown.{markdown_sections, markdown_links}
 use Rattle.mad_pager.specs.Pagers.{View, IsOpened, IsOrderlyView, IsViewShown, IsViewUnshown, view_of}
-use Rattle.mad_outline.specs.Sources.{TextSaid}
+use Rattle.mad_outline.specs.Sources.{TextSaid, plain_said}
 use Rattle.mad_pager.specs.declared.pager.Pager.{Pager}
 use Rattle.mad_pager.specs.declared.session.End.{End}
 use Rattle.mad_pager.specs.declared.session.End.TheVariants.{Quits}
@@ -41,14 +40,14 @@ row_char c = if c == 10 then 32 else c
 abbrev pub name_row : List ℕ → List ℕ
 name_row name = encode_utf8_all (map row_char (chars (shown_text name)))
 
--- what a text says: the parts of it as it is shown, or the sections of Markdown as people write it, and its links
-abbrev pub said_in : Grammar → List ℕ → TextSaid
-said_in Lines text = record { page = plain_sections (lines_of (unread_text false (shown_text text))); links = None }
-said_in Markdown text = record { page = markdown_sections text; links = Some (markdown_links text) }
+-- what a text says: the parts of it as it is shown, or the sections of Markdown as people write it, with the rules and signs of headings, and its links
+abbrev pub said_in : Grammar → HeadingMarks → List ℕ → TextSaid
+said_in Lines marks text = plain_said (shown_text text)
+said_in Markdown marks text = record { page = markdown_sections text; shown = map (dressed marks) (markdown_sections text); links = Some (markdown_links text) }
 
 -- what a sheet's text says
 abbrev pub sheet_said : Sheet → TextSaid
-sheet_said sheet = said_in sheet.grammar sheet.text.now
+sheet_said sheet = said_in sheet.grammar sheet.skin.now.headings sheet.text.now
 
 -- ---- turns
 

@@ -7,9 +7,10 @@ ghost use Rattle.mad_outline.specs.Sources.{text_said};
 ghost use Rattle.termimad_page_run.specs.Runs.{moment, name_row, row_char, sheet_said, IsBrokenOff, IsBrokenRun, IsFaultyTurn, IsLastTurn, IsPaged, IsTurn, IsTurned};
 
 use crate::blocks::apply_block;
+use mad_dressing::dressings_of;
 use mad_keys::Keys;
-use mad_layout::MadSkin;
 use mad_measure::printable;
+use mad_page_skin::PageSkin;
 use mad_pager::{End, Files, Pager, Turn};
 use mad_search::PagedText;
 use mad_steady::steady;
@@ -38,8 +39,8 @@ pub struct Sheet<'s> {
     pub text: &'s str,
     /// How it is read.
     pub grammar: Grammar,
-    /// The skin that it is shown in.
-    pub skin: &'s MadSkin,
+    /// The skin that it is shown in. Words stay whole where those of its text do. Lines that stand for themselves have neither rules nor signs.
+    pub skin: &'s PageSkin,
     /// The columns of the screen.
     pub columns: u16,
     /// Its rows.
@@ -57,6 +58,7 @@ pub struct Sheet<'s> {
 /// # Errors
 ///
 /// The first fault of a device, or out of memory. What went out by then is whole pictures, unless the output failed.
+#[tactic(auto, using(crate::proofs::RunLemmas::lines_said, crate::proofs::RunLemmas::markdown_said))]
 pub fn run<I: Source, O: Out>(
     alloc: Global,
     sheet: &Sheet,
@@ -82,7 +84,9 @@ pub fn run<I: Source, O: Out>(
         }
         Grammar::Markdown => {
             let markdown = Markdown::read(alloc, sheet.text)?;
-            let text = PagedText::Markdown(&markdown);
+            let sections = markdown.page(alloc)?;
+            let dressings = dressings_of(alloc, &sections, sheet.skin.headings)?;
+            let text = PagedText::Markdown(&markdown, &dressings);
             page(alloc, sheet, name.as_str(), text, input, out)
         }
     }

@@ -5,7 +5,7 @@ use Rattle.std.proofs.lemmas.Result.{err_from_is_err_and}
 use Rattle.mad_term.specs.Trace.{Trace, failed, flushed}
 use Rattle.mad_term.specs.declared.errors.Error.{Error}
 use Rattle.mad_term.specs.declared.errors.Error.TheVariants.{IO, InsufficientWidth, Memory as NoMemory}
-use Rattle.mad_layout.specs.declared.MadSkin.{MadSkin}
+use Rattle.mad_page_skin.specs.declared.page_skin.PageSkin.{PageSkin}
 use Rattle.mad_stream.specs.declared.SourceError.{SourceError}
 use Rattle.termimad_run.specs.declared.call.Command.{Command}
 use Rattle.termimad_run.specs.declared.call.Command.TheVariants.{InArea, AtWidth, AsMarkdown, AsItComes, MarkdownAsItComes, Live, Inline}
@@ -21,7 +21,7 @@ use Rattle.termimad_run.specs.Reading.{ReadsWhole, ReadingFails}
 use Rattle.termimad_run.specs.ProgramRuns.{ComesAs, Devices, Starts, Started, FailsToStart, HasRead, HasWritten, WritesCall, ShowsCall, RunsWhole, StreamsInput, RunsTo}
 
 -- the call that was parsed
-abbrev pub started : (words : List (List ℕ)) (old new : Trace) (command : Command) (skin : MadSkin) (unknown : List (List ℕ)) → Starts words old command skin unknown new → Started words old new
+abbrev pub started : (words : List (List ℕ)) (old new : Trace) (command : Command) (skin : PageSkin) (unknown : List (List ℕ)) → Starts words old command skin unknown new → Started words old new
 started words old new command skin unknown asked = record { command = command; skin = skin; unknown = unknown; asked = asked }
 
 same_devices : (old new : Devices) → new.input ≡ old.input → new.out ≡ old.out → new.err ≡ old.err → new ≡ old
@@ -81,7 +81,7 @@ pub flush_exit : {T : Type 0} (words : List (List ℕ)) (r : Result T Failure) (
 flush_exit {T} words r old new written is h out = ends_in words r Io old new is (inr (inr (record { written = written; wrote = h; unflushed = out })))
 
 -- a flush takes nothing from what is shown
-pub still_shown : (skin : MadSkin) (command : Command) (text : List ℕ) (old written new : Trace) → ShowsCall skin command text old written → new ≡ flushed written → ShowsCall skin command text old new
+pub still_shown : (skin : PageSkin) (command : Command) (text : List ℕ) (old written new : Trace) → ShowsCall skin command text old written → new ≡ flushed written → ShowsCall skin command text old new
 still_shown skin (InArea area) text old written new (headline, h) is = (
   record {
     lines = headline.lines;
@@ -93,7 +93,7 @@ still_shown skin (InArea area) text old written new (headline, h) is = (
   record {
     lines = h.lines;
     laid_out = h.laid_out;
-    shown = λ premises. took_flushed old written new (AreShownIn (row_skin skin) None h.lines area 0) (h.shown premises) is;
+    shown = λ premises. took_flushed old written new (AreShownIn (row_skin skin.text) None h.lines area 0) (h.shown premises) is;
   },
 )
 still_shown skin (AtWidth width) text old written new h is = tt
@@ -110,5 +110,5 @@ stream_exit {T} words r e old new is h =
     subst (λ (s : Result T Failure). RunsTo words old s new) (sym (p.1 ∙ ap Err p.2)) (inr (e, refl, h))
 
 -- a command that is that one
-pub comes_as : {T : Type 0} (skin : MadSkin) (command same : Command) (input out : Trace) (r : Result T SourceError) (input_now out_now : Trace) → command ≡ same → ComesAs skin same input out r input_now out_now → ComesAs skin command input out r input_now out_now
+pub comes_as : {T : Type 0} (skin : PageSkin) (command same : Command) (input out : Trace) (r : Result T SourceError) (input_now out_now : Trace) → command ≡ same → ComesAs skin same input out r input_now out_now → ComesAs skin command input out r input_now out_now
 comes_as {T} skin command same input out r input_now out_now is h = subst (λ (k : Command). ComesAs skin k input out r input_now out_now) (sym is) h

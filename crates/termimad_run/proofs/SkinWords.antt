@@ -1,13 +1,13 @@
 -- The words ask for one skin at most.
-use Rattle.std.proofs.Common.{◌≡◌, ℕ, List, [], ◌∷◌, length, get_or, ◌⊎◌, Option, Some, None, inl, inr, Ok, Err, refl, ap, sym, ◌∙◌, subst, arith}
-use Rattle.mad_layout.specs.declared.MadSkin.{MadSkin}
+use Rattle.std.proofs.Common.{◌≡◌, ℕ, Bool, List, [], ◌∷◌, length, get_or, ◌⊎◌, Option, Some, None, inl, inr, Ok, Err, refl, ap, sym, ◌∙◌, subst, arith}
+use Rattle.mad_page_skin.specs.declared.page_skin.PageSkin.{PageSkin}
 use Rattle.termimad_run.specs.declared.call.Command.{Command}
 use Rattle.termimad_run.specs.declared.call.Command.TheVariants.{InArea, AtWidth, AsMarkdown, AsItComes, MarkdownAsItComes, Live, Inline}
 use Rattle.termimad_run.specs.declared.failure.Failure.{Failure}
 use Rattle.termimad_run.specs.declared.failure.Failure.TheVariants.{Io, Usage, NotUtf8, Skin, Memory}
 use Rattle.mad_term.specs.Trace.{Trace}
-use Rattle.termimad_run.specs.GivenSkins.{skin_given}
-use Rattle.termimad_run.specs.Calls.{IsSkinWord, Asks, AsksRefusedSkin}
+use Rattle.termimad_run.specs.GivenSkins.{skin_shown}
+use Rattle.termimad_run.specs.Calls.{IsSkinWord, Asks, AsksRefusedSkin, shows_page}
 use Rattle.mad_stream.specs.declared.SourceError.{SourceError}
 use Rattle.mad_stream.specs.declared.SourceError.TheVariants as source_error
 use Rattle.termimad_run.specs.Failures.{status_of, streamed_failure}
@@ -21,33 +21,33 @@ one_word (given ∷ next ∷ more) a b h k = absurd h
 first_byte : (m n : ℕ) (name xs ys : List ℕ) → name ≡ m ∷ xs → name ≡ n ∷ ys → m ≡ n
 first_byte m n name xs ys h k = ap (λ (l : List ℕ). get_or l 0 0) (sym h ∙ k)
 
-asked_once : (words : List (List ℕ)) (c d : Command) (a b : Option (List ℕ)) → Asks words c a → Asks words d b → a ≡ b
+asked_once : (words : List (List ℕ)) (c d : Command) (a b : Option (List ℕ)) → Asks words c a → Asks words d b → (a ≡ b) × (shows_page c ≡ shows_page d)
 asked_once [] c d a b h k = absurd h
-asked_once (name ∷ l ∷ t ∷ w ∷ e ∷ rest) (InArea x) (InArea y) a b h k = one_word rest a b h.1.1 k.1.1
+asked_once (name ∷ l ∷ t ∷ w ∷ e ∷ rest) (InArea x) (InArea y) a b h k = (one_word rest a b h.1.1 k.1.1, refl)
 asked_once (name ∷ words) (InArea x) (AtWidth m) a b h k = absurd (let e : 97 ≡ 116 = first_byte 97 116 name _ _ h.0 k.0 in omega (arith, e))
 asked_once (name ∷ words) (InArea x) (AsMarkdown m) a b h k = absurd (let e : 97 ≡ 109 = first_byte 97 109 name _ _ h.0 k.0 in omega (arith, e))
 asked_once (name ∷ words) (InArea x) (AsItComes m) a b h k = absurd (let e : 97 ≡ 115 = first_byte 97 115 name _ _ h.0 k.0 in omega (arith, e))
 asked_once (name ∷ words) (InArea x) Inline a b h k = absurd (let e : 97 ≡ 105 = first_byte 97 105 name _ _ h.0 k.0 in omega (arith, e))
 asked_once (name ∷ words) (AtWidth n) (InArea y) a b h k = absurd (let e : 116 ≡ 97 = first_byte 116 97 name _ _ h.0 k.0 in omega (arith, e))
-asked_once (name ∷ w ∷ rest) (AtWidth n) (AtWidth m) a b h k = one_word rest a b h.1.1 k.1.1
+asked_once (name ∷ w ∷ rest) (AtWidth n) (AtWidth m) a b h k = (one_word rest a b h.1.1 k.1.1, refl)
 asked_once (name ∷ words) (AtWidth n) (AsMarkdown m) a b h k = absurd (let e : 116 ≡ 109 = first_byte 116 109 name _ _ h.0 k.0 in omega (arith, e))
 asked_once (name ∷ words) (AtWidth n) (AsItComes m) a b h k = absurd (let e : 116 ≡ 115 = first_byte 116 115 name _ _ h.0 k.0 in omega (arith, e))
 asked_once (name ∷ words) (AtWidth n) Inline a b h k = absurd (let e : 116 ≡ 105 = first_byte 116 105 name _ _ h.0 k.0 in omega (arith, e))
 asked_once (name ∷ words) (AsMarkdown n) (InArea y) a b h k = absurd (let e : 109 ≡ 97 = first_byte 109 97 name _ _ h.0 k.0 in omega (arith, e))
 asked_once (name ∷ words) (AsMarkdown n) (AtWidth m) a b h k = absurd (let e : 109 ≡ 116 = first_byte 109 116 name _ _ h.0 k.0 in omega (arith, e))
-asked_once (name ∷ w ∷ rest) (AsMarkdown n) (AsMarkdown m) a b h k = one_word rest a b h.1.1 k.1.1
+asked_once (name ∷ w ∷ rest) (AsMarkdown n) (AsMarkdown m) a b h k = (one_word rest a b h.1.1 k.1.1, refl)
 asked_once (name ∷ words) (AsMarkdown n) (AsItComes m) a b h k = absurd (let e : 109 ≡ 115 = first_byte 109 115 name _ _ h.0 k.0 in omega (arith, e))
 asked_once (name ∷ words) (AsMarkdown n) Inline a b h k = absurd (let e : 109 ≡ 105 = first_byte 109 105 name _ _ h.0 k.0 in omega (arith, e))
 asked_once (name ∷ words) (AsItComes n) (InArea y) a b h k = absurd (let e : 115 ≡ 97 = first_byte 115 97 name _ _ h.0 k.0 in omega (arith, e))
 asked_once (name ∷ words) (AsItComes n) (AtWidth m) a b h k = absurd (let e : 115 ≡ 116 = first_byte 115 116 name _ _ h.0 k.0 in omega (arith, e))
 asked_once (name ∷ words) (AsItComes n) (AsMarkdown m) a b h k = absurd (let e : 115 ≡ 109 = first_byte 115 109 name _ _ h.0 k.0 in omega (arith, e))
-asked_once (name ∷ w ∷ rest) (AsItComes n) (AsItComes m) a b h k = one_word rest a b h.1.1 k.1.1
+asked_once (name ∷ w ∷ rest) (AsItComes n) (AsItComes m) a b h k = (one_word rest a b h.1.1 k.1.1, refl)
 asked_once (name ∷ words) (AsItComes n) Inline a b h k = absurd (let e : 115 ≡ 105 = first_byte 115 105 name _ _ h.0 k.0 in omega (arith, e))
 asked_once (name ∷ words) Inline (InArea y) a b h k = absurd (let e : 105 ≡ 97 = first_byte 105 97 name _ _ h.0 k.0 in omega (arith, e))
 asked_once (name ∷ words) Inline (AtWidth m) a b h k = absurd (let e : 105 ≡ 116 = first_byte 105 116 name _ _ h.0 k.0 in omega (arith, e))
 asked_once (name ∷ words) Inline (AsMarkdown m) a b h k = absurd (let e : 105 ≡ 109 = first_byte 105 109 name _ _ h.0 k.0 in omega (arith, e))
 asked_once (name ∷ words) Inline (AsItComes m) a b h k = absurd (let e : 105 ≡ 115 = first_byte 105 115 name _ _ h.0 k.0 in omega (arith, e))
-asked_once (name ∷ words) Inline Inline a b h k = one_word words a b h.1 k.1
+asked_once (name ∷ words) Inline Inline a b h k = (one_word words a b h.1 k.1, refl)
 asked_once (name ∷ words) (InArea x) (Live m y) a b h k = absurd (let e : 97 ≡ 108 = first_byte 97 108 name _ _ h.0 k.0 in omega (arith, e))
 asked_once (name ∷ words) (AtWidth n) (Live m y) a b h k = absurd (let e : 116 ≡ 108 = first_byte 116 108 name _ _ h.0 k.0 in omega (arith, e))
 asked_once (name ∷ words) (AsMarkdown n) (Live m y) a b h k = absurd (let e : 109 ≡ 108 = first_byte 109 108 name _ _ h.0 k.0 in omega (arith, e))
@@ -58,7 +58,7 @@ asked_once (name ∷ words) (Live n x) (AsMarkdown m) a b h k = absurd (let e : 
 asked_once (name ∷ words) (Live n x) (AsItComes m) a b h k = absurd (let e : 108 ≡ 115 = first_byte 108 115 name _ _ h.0 k.0 in omega (arith, e))
 asked_once (name ∷ words) Inline (Live m y) a b h k = absurd (let e : 105 ≡ 108 = first_byte 105 108 name _ _ h.0 k.0 in omega (arith, e))
 asked_once (name ∷ words) (Live n x) Inline a b h k = absurd (let e : 108 ≡ 105 = first_byte 108 105 name _ _ h.0 k.0 in omega (arith, e))
-asked_once (name ∷ w ∷ t ∷ rest) (Live n x) (Live m y) a b h k = one_word rest a b h.1.2 k.1.2
+asked_once (name ∷ w ∷ t ∷ rest) (Live n x) (Live m y) a b h k = (one_word rest a b h.1.2 k.1.2, refl)
 asked_once (name ∷ words) (InArea x) (MarkdownAsItComes k) a b h i = absurd (let e : 97 ≡ 109 = first_byte 97 109 name _ _ h.0 i.0 in omega (arith, e))
 asked_once (name ∷ words) (MarkdownAsItComes k) (InArea y) a b h i = absurd (let e : 109 ≡ 97 = first_byte 109 97 name _ _ h.0 i.0 in omega (arith, e))
 asked_once (name ∷ words) (AtWidth n) (MarkdownAsItComes k) a b h i = absurd (let e : 116 ≡ 109 = first_byte 116 109 name _ _ h.0 i.0 in omega (arith, e))
@@ -71,17 +71,19 @@ asked_once (name ∷ words) (Live n x) (MarkdownAsItComes k) a b h i = absurd (l
 asked_once (name ∷ words) (MarkdownAsItComes k) (Live m y) a b h i = absurd (let e : 109 ≡ 108 = first_byte 109 108 name _ _ h.0 i.0 in omega (arith, e))
 asked_once (name ∷ words) (AsMarkdown n) (MarkdownAsItComes k) a b h i = absurd (let e : 8 ≡ 15 = ap length (sym h.0 ∙ i.0) in omega (arith, e))
 asked_once (name ∷ words) (MarkdownAsItComes k) (AsMarkdown m) a b h i = absurd (let e : 15 ≡ 8 = ap length (sym h.0 ∙ i.0) in omega (arith, e))
-asked_once (name ∷ w ∷ rest) (MarkdownAsItComes n) (MarkdownAsItComes m) a b h k = one_word rest a b h.1.1 k.1.1
+asked_once (name ∷ w ∷ rest) (MarkdownAsItComes n) (MarkdownAsItComes m) a b h k = (one_word rest a b h.1.1 k.1.1, refl)
 asked_once _ _ _ a b h k = absurd h.1
 
-known_skin : (word : Option (List ℕ)) (given : MadSkin × List (List ℕ)) → skin_given word ≡ Some given → skin_given word ≡ None → ⊥
-known_skin word given h refused = let both : Some given ≡ None = sym h ∙ refused in cc
+known_skin : (is_page : Bool) (word : Option (List ℕ)) (given : PageSkin × List (List ℕ)) → skin_shown is_page word ≡ Some given → skin_shown is_page word ≡ None → ⊥
+known_skin is_page word given h refused = let both : Some given ≡ None = sym h ∙ refused in cc
 
 -- a run that has started was asked for no skin that is refused
 pub never : (words : List (List ℕ)) (old new : Trace) → Started words old new → AsksRefusedSkin words → ⊥
 never words old new call h =
     let asked = call.asked.asked in
-    known_skin asked.word (call.skin, call.unknown) asked.given (subst (λ word. skin_given word ≡ None) (asked_once words h.0 call.command h.1 asked.word h.2 asked.asks) h.3)
+    let same = asked_once words h.0 call.command h.1 asked.word h.2 asked.asks in
+    known_skin (shows_page call.command) asked.word (call.skin, call.unknown) asked.given
+    (subst (λ (is_page : Bool). skin_shown is_page asked.word ≡ None) same.1 (subst (λ (word : Option (List ℕ)). skin_shown (shows_page h.0) word ≡ None) same.0 h.3))
 
 -- a failure has the status of a refused skin only where the words ask for one
 whole_exit : (words : List (List ℕ)) (failure : Failure) (old new : Devices) → RunsWhole {T = Unit {0}} words old (Err failure) new → status_of failure ≡ 4 → AsksRefusedSkin words

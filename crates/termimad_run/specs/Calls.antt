@@ -1,15 +1,15 @@
 -- What the words after the program's name ask for. A word is its bytes.
-use Rattle.std.specs.Prelude.{◌≡◌, ℕ, ◌≤◌, List, [], ◌∷◌, codes, Option, Some, None, ⊤}
+use Rattle.std.specs.Prelude.{◌≡◌, ℕ, ◌≤◌, Bool, true, false, List, [], ◌∷◌, codes, Option, Some, None, ⊤}
 use Rattle.mad_measure.specs.Areas.{IsWithinLimits}
 use Rattle.mad_measure.specs.declared.Area.{Area}
-use Rattle.mad_layout.specs.declared.MadSkin.{MadSkin}
+use Rattle.mad_page_skin.specs.declared.page_skin.PageSkin.{PageSkin}
 use Rattle.termimad_run.specs.declared.call.Command.{Command}
 use Rattle.termimad_run.specs.declared.call.Command.TheVariants.{InArea, AtWidth, AsMarkdown, AsItComes, MarkdownAsItComes, Live, Inline}
 use Rattle.termimad_run.specs.declared.call.Pieces.{Pieces}
 use Rattle.termimad_run.specs.declared.call.Pieces.TheVariants.{Stream as StreamPieces, Markdown as MarkdownPieces, Live as LivePieces}
 use Rattle.termimad_run.specs.declared.failure.Failure.{Failure}
 use Rattle.termimad_run.specs.declared.failure.Failure.TheVariants.{Usage, Skin, Memory}
-use Rattle.termimad_run.specs.GivenSkins.{skin_given, IsJsonText}
+use Rattle.termimad_run.specs.GivenSkins.{skin_shown, IsJsonShown}
 use Rattle.termimad_run.specs.Numbers.{IsNumber}
 
 -- The words L, T, W and H are the numbers of this area: at least four columns, and its right and bottom at most 65535.
@@ -70,6 +70,12 @@ IsWhole (MarkdownAsItComes width) = ⊥
 IsWhole (Live width height) = ⊥
 IsWhole _ = ⊤
 
+-- the command shows a page of Markdown as people write it
+abbrev pub shows_page : Command → Bool
+shows_page (AsMarkdown width) = true
+shows_page (MarkdownAsItComes width) = true
+shows_page _ = false
+
 -- the command that writes a text as it comes
 abbrev pub command_of_pieces : Pieces → Command
 command_of_pieces (StreamPieces width) = AsItComes width
@@ -82,17 +88,17 @@ IsNoCall words = (command : Command) (word : Option (List ℕ)) → ¬ (Asks wor
 
 -- the words ask for something that the program does, in a skin that is refused
 abbrev pub AsksRefusedSkin : List (List ℕ) → Type 0
-AsksRefusedSkin words = (command : Command) × (word : Option (List ℕ)) × Asks words command word × (skin_given word ≡ None)
+AsksRefusedSkin words = (command : Command) × (word : Option (List ℕ)) × Asks words command word × (skin_shown (shows_page command) word ≡ None)
 
 -- the words ask for something that the program does, in a skin that is JSON text
 abbrev pub AsksJson : List (List ℕ) → Type 0
-AsksJson words = (command : Command) × (word : Option (List ℕ)) × Asks words command word × IsJsonText word
+AsksJson words = (command : Command) × (word : Option (List ℕ)) × Asks words command word × IsJsonShown (shows_page command) word
 
--- The words are a call: what is to be written, in which skin, and which of its keys name no part of a skin.
-pub record IsCall (words : List (List ℕ)) (command : Command) (skin : MadSkin) (unknown : List (List ℕ)) : Type 0 where
+-- The words are a call: what is to be written, in which skin, and which of its keys name no part of a skin. A text is shown in the skin of a page's text.
+pub record IsCall (words : List (List ℕ)) (command : Command) (skin : PageSkin) (unknown : List (List ℕ)) : Type 0 where
   pub word : Option (List ℕ)
   pub asks : Asks words command word
-  pub given : skin_given word ≡ Some (skin, unknown)
+  pub given : skin_shown (shows_page command) word ≡ Some (skin, unknown)
 
 -- why the words are no call; memory is needed by JSON text alone
 abbrev pub RefusesWords : List (List ℕ) → Failure → Type 0

@@ -13,9 +13,10 @@ use Rattle.markdown_stream.specs.Sources.{StreamsMarkdown}
 use Rattle.mad_layout.specs.RowSkins.{row_skin}
 use Rattle.mad_stream.specs.LiveSources.{ShowsSource}
 use Rattle.mad_stream.specs.Sources.{StreamsSource}
-use Rattle.markdown_layout.specs.WrittenPages.{markdown_skin, WritesPage}
+use Rattle.markdown_layout.specs.WrittenPages.{WritesDressed}
 use Rattle.mad_layout.specs.WrittenParts.{WritesParts}
 use Rattle.mad_layout.specs.declared.MadSkin.{MadSkin}
+use Rattle.mad_page_skin.specs.declared.page_skin.PageSkin.{PageSkin}
 use Rattle.mad_stream.specs.declared.SourceError.{SourceError}
 use Rattle.termimad_run.specs.declared.call.Command.{Command}
 use Rattle.termimad_run.specs.declared.call.Command.TheVariants.{InArea, AtWidth, AsMarkdown, AsItComes, MarkdownAsItComes, Live, Inline}
@@ -33,7 +34,7 @@ pub record Devices : Type 0 where
   pub err : Trace
 
 -- The words are a call, and standard error was told which keys of its skin name no part of one.
-pub record Starts (words : List (List ℕ)) (old : Trace) (command : Command) (skin : MadSkin) (unknown : List (List ℕ)) (new : Trace) : Type 0 where
+pub record Starts (words : List (List ℕ)) (old : Trace) (command : Command) (skin : PageSkin) (unknown : List (List ℕ)) (new : Trace) : Type 0 where
   pub asked : IsCall words command skin unknown
   pub said : SaysKeys old unknown new
 
@@ -45,7 +46,7 @@ FailsToStart words old failure new = RefusesWords words failure × (new ≡ old)
 -- too, comes after it.
 pub record Started (words : List (List ℕ)) (old new : Trace) : Type 0 where
   pub command : Command
-  pub skin : MadSkin
+  pub skin : PageSkin
   pub unknown : List (List ℕ)
   pub asked : Starts words old command skin unknown new
 
@@ -55,21 +56,21 @@ abbrev pub WritesLine : {T : Type 0} → MadSkin → List ℕ → Trace → Resu
 WritesLine skin line old r new = DrawsSome (IsInlineReading line) (λ items. inline_bytes (row_skin skin) line items ++ (10 ∷ [])) old r new
 
 -- What the output is asked to take of a text. It is the text in its area, or its lines, laid out at a width part by part. Of `markdown`
--- it is the page that the text is read as, laid out with whole words; of `inline` the line without its end, and a newline.
-abbrev pub WritesCall : {T : Type 0} → MadSkin → Command → List ℕ → Trace → Result T Error → Trace → Type 0
-WritesCall skin (InArea area) text old r new = WritesInArea (row_skin skin) text area old r new
-WritesCall skin (AtWidth width) text old r new = WritesParts (row_skin skin) (Some width) text old r new
-WritesCall skin (AsMarkdown width) text old r new = WritesPage (markdown_skin skin) (Some width) (markdown_sections text) old r new
-WritesCall skin (AsItComes width) text old r new = WritesParts (row_skin skin) (Some width) text old r new
-WritesCall skin (MarkdownAsItComes width) text old r new = WritesPage (markdown_skin skin) (Some width) (markdown_sections text) old r new
-WritesCall skin (Live width height) text old r new = WritesParts (row_skin skin) (Some width) text old r new
-WritesCall skin Inline text old r new = (line : List ℕ) × IsWithoutLineEnd text line × WritesLine skin line old r new
+-- it is the page that the text is read as, with what stands beside headings; of `inline` the line without its end, and a newline.
+abbrev pub WritesCall : {T : Type 0} → PageSkin → Command → List ℕ → Trace → Result T Error → Trace → Type 0
+WritesCall skin (InArea area) text old r new = WritesInArea (row_skin skin.text) text area old r new
+WritesCall skin (AtWidth width) text old r new = WritesParts (row_skin skin.text) (Some width) text old r new
+WritesCall skin (AsMarkdown width) text old r new = WritesDressed skin (Some width) (markdown_sections text) old r new
+WritesCall skin (AsItComes width) text old r new = WritesParts (row_skin skin.text) (Some width) text old r new
+WritesCall skin (MarkdownAsItComes width) text old r new = WritesDressed skin (Some width) (markdown_sections text) old r new
+WritesCall skin (Live width height) text old r new = WritesParts (row_skin skin.text) (Some width) text old r new
+WritesCall skin Inline text old r new = (line : List ℕ) × IsWithoutLineEnd text line × WritesLine skin.text line old r new
 
 -- What a plain terminal shows that reads what was written. It is the first rows of the text in its area, by its characters and by a
 -- layout. Of the others nothing is said.
-abbrev pub ShowsCall : MadSkin → Command → List ℕ → Trace → Trace → Type 0
+abbrev pub ShowsCall : PageSkin → Command → List ℕ → Trace → Trace → Type 0
 ShowsCall skin (InArea area) text old new =
-    ShowsHeadline (row_skin skin) text area old new × ShowsText (row_skin skin) text area old new
+    ShowsHeadline (row_skin skin.text) text area old new × ShowsText (row_skin skin.text) text area old new
 ShowsCall skin (AtWidth width) text old new = ⊤
 ShowsCall skin (AsMarkdown width) text old new = ⊤
 ShowsCall skin (AsItComes width) text old new = ⊤
@@ -137,10 +138,10 @@ RunsWhole words old (Err Memory) new = (AsksJson words × (new ≡ old)) ⊎ (Fa
 
 -- What a command reads, and what goes out, that writes a text as it comes: `stream` writes the rows of its parts, `markdown-stream` those of the parts of
 -- Markdown as people write it, and `live` shows it on a terminal that scrolls. No other does.
-abbrev pub ComesAs : {T : Type 0} → MadSkin → Command → Trace → Trace → Result T SourceError → Trace → Trace → Type 0
-ComesAs skin (AsItComes width) input out r input_now out_now = StreamsSource (row_skin skin) (Some width) input out r input_now out_now
-ComesAs skin (MarkdownAsItComes width) input out r input_now out_now = StreamsMarkdown (markdown_skin skin) (Some width) input out r input_now out_now
-ComesAs skin (Live width height) input out r input_now out_now = ShowsSource (row_skin skin) (Some width) height input out r input_now out_now
+abbrev pub ComesAs : {T : Type 0} → PageSkin → Command → Trace → Trace → Result T SourceError → Trace → Trace → Type 0
+ComesAs skin (AsItComes width) input out r input_now out_now = StreamsSource (row_skin skin.text) (Some width) input out r input_now out_now
+ComesAs skin (MarkdownAsItComes width) input out r input_now out_now = StreamsMarkdown skin (Some width) input out r input_now out_now
+ComesAs skin (Live width height) input out r input_now out_now = ShowsSource (row_skin skin.text) (Some width) height input out r input_now out_now
 ComesAs skin command input out r input_now out_now = ⊥
 
 -- A run that writes its text as it comes: what it has read, and what went out.

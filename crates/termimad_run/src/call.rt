@@ -2,13 +2,13 @@
 
 ghost use Rattle.std.specs.Prelude.{◌≡◌, ℕ, List, Option, MatchOption, MatchResult, map, option_map, string_bytes};
 ghost use Rattle.mad_measure.specs.declared.Area.{Area as SomeArea};
-ghost use Rattle.termimad_run.specs.Calls.{Asks, IsWhole, command_of_pieces, IsNoCall, IsAreaOf, IsSkinWord, AsksArea, AsksWidth, AsksSize, IsCall, RefusesWords};
+ghost use Rattle.termimad_run.specs.Calls.{Asks, IsWhole, command_of_pieces, shows_page, IsNoCall, IsAreaOf, IsSkinWord, AsksArea, AsksWidth, AsksSize, IsCall, RefusesWords};
 
 use crate::failure::Failure;
 use crate::number::parse_number;
-use crate::skin::skin_of;
-use mad_layout::MadSkin;
+use crate::skin::skin_shown;
 use mad_measure::Area;
+use mad_page_skin::PageSkin;
 use std::alloc::Global;
 
 // The least width of an area, in columns. Its text is laid out one column narrower, and at less than three nothing is wrapped.
@@ -39,8 +39,8 @@ pub enum Command {
 pub struct Call {
     /// What is to be written.
     pub command: Command,
-    /// In which skin.
-    pub skin: MadSkin,
+    /// In which skin; a text in that of a page's text.
+    pub skin: PageSkin,
     /// The keys of that skin that name no part of one, in byte order.
     pub unknown: Vec<String>,
 }
@@ -56,12 +56,22 @@ pub fn parse_call(alloc: Global, words: &[String]) -> Result<Call, Failure>
         (λ failure. RefusesWords (map string_bytes words.now) failure) }
 {
     let (command, word) = parse_words(words).ok_or(Failure::Usage)?;
-    let (skin, unknown) = skin_of(alloc, word)?;
+    let (skin, unknown) = skin_shown(alloc, shows_page(&command), word)?;
     Ok(Call {
         command,
         skin,
         unknown,
     })
+}
+
+// Whether a command shows a page of Markdown as people write it.
+fn shows_page(command: &Command) -> bool
+    ensures { result ≡ shows_page command.now }
+{
+    matches!(
+        command,
+        Command::AsMarkdown(_) | Command::MarkdownAsItComes(_)
+    )
 }
 
 // What the words ask for: the command, and the word given for SKIN.

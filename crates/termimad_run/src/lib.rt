@@ -22,5 +22,5 @@ pub use call::Command;
 pub use failure::{Failure, refuse};
 pub use number::parse_number;
 pub use program::run;
-pub use skin::skin_of;
+pub use skin::{page_skin_of_word, skin_of};
 pub use writing::write_call;

@@ -7,6 +7,7 @@ ghost use Rattle.termimad_run.specs.ProgramRuns.{ComesAs, WritesCall, ShowsCall,
 
 use crate::call::{Command, Pieces};
 use mad_layout::MadSkin;
+use mad_page_skin::PageSkin;
 use mad_stream::{SourceError, show_source_on, write_source_on};
 use mad_term::{Error, Out, Source, put_all};
 use markdown_layout::write_markdown_on;
@@ -25,7 +26,7 @@ use std::alloc::Global;
 pub fn write_call<O: Out>(
     alloc: Global,
     out: &mut O,
-    skin: &MadSkin,
+    skin: &PageSkin,
     command: &Command,
     text: &str,
 ) -> Result<(), Error>
@@ -34,14 +35,15 @@ pub fn write_call<O: Out>(
     ensures shown { OnOk result (ShowsCall skin.now command.now text.now (O.seen out.old) (O.seen out.new)) }
 {
     match command {
-        Command::InArea(area) => skin.write_in_area_on(alloc, out, text, area),
+        Command::InArea(area) => skin.text.write_in_area_on(alloc, out, text, area),
         Command::AtWidth(width) | Command::AsItComes(width) | Command::Live(width, _) => {
-            skin.write_parts_on(alloc, out, text, Some(usize::from(*width)))
+            skin.text
+                .write_parts_on(alloc, out, text, Some(usize::from(*width)))
         }
         Command::AsMarkdown(width) | Command::MarkdownAsItComes(width) => {
             write_markdown_on(alloc, out, skin, text, Some(usize::from(*width)))
         }
-        Command::Inline => write_line(alloc, out, skin, without_line_end(text)),
+        Command::Inline => write_line(alloc, out, &skin.text, without_line_end(text)),
     }
 }
 
@@ -50,18 +52,20 @@ pub(crate) fn write_as_it_comes<I: Source, O: Out>(
     alloc: Global,
     input: &mut I,
     out: &mut O,
-    skin: &MadSkin,
+    skin: &PageSkin,
     pieces: Pieces,
 ) -> Result<(), SourceError>
     ensures { ComesAs skin.now (command_of_pieces pieces) (I.seen input.old) (O.seen out.old) result (I.seen input.new) (O.seen out.new) }
 {
     match pieces {
-        Pieces::Stream(width) => write_source_on(alloc, input, out, skin, Some(width)),
+        Pieces::Stream(width) => {
+            write_source_on(alloc, input, out, &skin.text, Some(width))
+        }
         Pieces::Markdown(width) => {
             write_markdown_source_on(alloc, input, out, skin, Some(width))
         }
         Pieces::Live(width, height) => {
-            show_source_on(alloc, input, out, skin, Some(width), height)
+            show_source_on(alloc, input, out, &skin.text, Some(width), height)
         }
     }
 }

@@ -5,7 +5,7 @@ use crate::moves::{key_of, push_step, push_thumb};
 use crate::refusal::Refusal;
 use crate::screens::picture;
 use std::alloc::AllocError;
-use termimad::{Area, CutOut, Error, Markdown, MarkdownView};
+use termimad::{Area, CutOut, DressedMarkdown, Error, Markdown, MarkdownView, PageSkin};
 
 // More than any row here writes.
 const ROOM: usize = 4000;
@@ -19,16 +19,18 @@ pub fn pictured(asked: &Asked) -> Result<String, Refusal> {
 
 /// Writes a view that is asked to scroll to the last number.
 pub fn write(asked: &Asked, out: &mut CutOut) -> Result<(), Error> {
-    let markdown = Markdown::read(asked.alloc, asked.text)?;
-    let mut view = MarkdownView::from(asked.alloc, &markdown, asked.area(), &asked.skin)?;
+    let skin = PageSkin::of(&asked.skin);
+    let markdown = read(asked, &skin)?;
+    let mut view = MarkdownView::from(asked.alloc, &markdown, asked.area(), &skin)?;
     view.set_scroll(asked.numbers[4]);
     view.write_on(out)
 }
 
 /// What a view answers to each step, if that has an answer; then its scroll, and the rows of its thumb.
 pub fn moved(asked: &Asked, steps: &str) -> Result<String, Refusal> {
-    let markdown = Markdown::read(asked.alloc, asked.text)?;
-    let mut view = MarkdownView::from(asked.alloc, &markdown, asked.area(), &asked.skin)?;
+    let skin = PageSkin::of(&asked.skin);
+    let markdown = read(asked, &skin)?;
+    let mut view = MarkdownView::from(asked.alloc, &markdown, asked.area(), &skin)?;
     let mut told = String::new(asked.alloc);
     for step in steps.split(' ') {
         let answer = move_view(&mut view, step)?;
@@ -37,6 +39,12 @@ pub fn moved(asked: &Asked, steps: &str) -> Result<String, Refusal> {
         push_thumb(&mut told, view.scrollbar())?;
     }
     Ok(told)
+}
+
+// The text, read for a skin.
+fn read(asked: &Asked, skin: &PageSkin) -> Result<DressedMarkdown, AllocError> {
+    let read = Markdown::read(asked.alloc, asked.text)?;
+    DressedMarkdown::new(asked.alloc, read, skin.headings)
 }
 
 fn move_view(view: &mut MarkdownView, step: &str) -> Result<Option<bool>, AllocError> {

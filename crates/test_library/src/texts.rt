@@ -5,7 +5,8 @@ use crate::lines;
 use crate::refusal::Refusal;
 use std::alloc::{AllocError, Global};
 use termimad::{
-    CutOut, Error, FmtText, TextView, print_inline, print_text, term_text, text, write_markdown_on,
+    CutOut, Error, FmtText, PageSkin, TextView, print_inline, print_text, term_text, text,
+    write_markdown_on,
 };
 
 // More than any row writes.
@@ -29,7 +30,10 @@ pub fn write(asked: &Asked, name: &str, out: &mut CutOut) -> Result<(), Error> {
     match name {
         "bytes" => skin.write_in_area(alloc, out, text, &asked.area()),
         "text" => skin.write_text(alloc, out, text, Some(asked.numbers[0])),
-        "markdown" => write_markdown_on(alloc, out, skin, text, Some(asked.numbers[0])),
+        "markdown" => {
+            let skin = PageSkin::of(skin);
+            write_markdown_on(alloc, out, &skin, text, Some(asked.numbers[0]))
+        }
         "text_twice" => write_text_twice(asked, out),
         "inline" => skin.write_inline(alloc, out, text),
         "inline_twice" => write_inline_twice(asked, out),

@@ -8,7 +8,7 @@
 //! 4. [`pieces`]: `pieces`, the inlines of a text's leaves.
 //! 5. [`shown`]: `sections`, the sections that are shown of a text, and `links`, its links.
 //! 6. [`pages`]: `page W`, the rows of a text at a width; `page none`, without one. `boxes W`, the same where code has a background,
-//!    and `ascii W`, where bullets are ASCII.
+//!    `ascii W`, where bullets are ASCII, and `plain W`, the page without styles.
 //!
 //! In a text `▪` is a byte order mark.
 //!
@@ -48,6 +48,7 @@ impl Calls for MarkdownCalls {
 fn answer_at(alloc: Global, call: &str, text: &str) -> Result<String, AllocError> {
     match call.split_once(' ') {
         Some(("page", width)) => pages::draw_page(alloc, width, text),
+        Some(("plain", width)) => pages::draw_plain(alloc, width, text),
         Some(("boxes", width)) => pages::draw_boxes(alloc, width, text),
         Some(("ascii", width)) => pages::draw_ascii(alloc, width, text),
         _ => inlines::draw_inlines(alloc, call, text),

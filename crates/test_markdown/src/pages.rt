@@ -2,12 +2,23 @@
 
 use mad_frames::Gathered;
 use mad_layout::MadSkin;
+use mad_page_skin::PageSkin;
 use mad_term::Color;
 use markdown_layout::write_markdown_on;
 use std::alloc::{AllocError, Global};
 
-// The rows of a text in a skin, at a width, or without one where it is no number.
+// The rows of a text in a skin of the smaller grammar.
 fn rows_in(alloc: Global, skin: &MadSkin, width: &str, text: &str) -> Result<String, AllocError> {
+    rows_of_page(alloc, &PageSkin::of(skin), width, text)
+}
+
+// The rows of a text in a skin, at a width, or without one where it is no number.
+fn rows_of_page(
+    alloc: Global,
+    skin: &PageSkin,
+    width: &str,
+    text: &str,
+) -> Result<String, AllocError> {
     let width = width.parse::<usize>().ok();
     let mut out = Gathered::new(alloc);
     if write_markdown_on(alloc, &mut out, skin, text, width).is_err() {
@@ -22,6 +33,11 @@ pub(crate) fn draw_ascii(alloc: Global, width: &str, text: &str) -> Result<Strin
     let mut skin = MadSkin::no_style();
     skin.bullet.set_char('*');
     rows_in(alloc, &skin, width, text)
+}
+
+/// The rows of a text in the skin of a page without styles.
+pub(crate) fn draw_plain(alloc: Global, width: &str, text: &str) -> Result<String, AllocError> {
+    rows_of_page(alloc, &PageSkin::plain(), width, text)
 }
 
 /// The rows of a text in a skin without styles.

@@ -2,6 +2,7 @@
 
 use crate::devices::{Blocks, Pictures};
 use mad_layout::MadSkin;
+use mad_page_skin::PageSkin;
 use mad_screen::{NotPlain, Screen};
 use mad_term::Error;
 use std::alloc::{AllocError, Global};
@@ -12,23 +13,20 @@ const SIZE_QUESTION: &[u8] = b"\x1b[999;999H\x1b[6n";
 
 /// What a session shows. The call has the columns and rows of the screen, and the name, after the word `markdown` where the text is read as
 /// people write Markdown. Before the columns stands what files there are beside it, if there are some: `first`, `between` or `last`. With the word
-/// `plain` before these the skin has no style, and with `pens` before that each picture is shown once more as letters of its pens. The text comes
-/// first, then a line `==`, and a block a line.
+/// `plain` before these the skin has no style; with `dark`, `light`, `sixteen` or `none` it is that of a page. With `pens` before that each picture is
+/// shown once more as letters of its pens. The text comes first, then a line `==`, and a block a line.
 pub fn shown(alloc: Global, call: &str, text: &str) -> Result<String, AllocError> {
     let (pens, call) = match call.strip_prefix("pens ") {
         Some(call) => (true, call),
         None => (false, call),
     };
-    let (mut skin, call) = match call.strip_prefix("plain ") {
-        Some(call) => (plain_skin(), call),
-        None => (MadSkin::default(), call),
-    };
+    let (mut skin, call) = skin_in(call);
     let (grammar, call) = match call.strip_prefix("markdown ") {
         Some(call) => (Grammar::Markdown, call),
         None => (Grammar::Lines, call),
     };
     // As the program has it: words of Markdown stay whole.
-    skin.whole_words = grammar == Grammar::Markdown;
+    skin.text.whole_words = grammar == Grammar::Markdown;
     let (files, call) = files_in(call);
     let mut words = call.splitn(3, ' ');
     let columns = number(words.next());
@@ -61,6 +59,19 @@ pub fn shown(alloc: Global, call: &str, text: &str) -> Result<String, AllocError
         Err(_) => answer.push_str("a fault\n")?,
     }
     Ok(answer)
+}
+
+// The skin that a call names, and the rest of it. Without a name it is the default one of the smaller grammar.
+fn skin_in(call: &str) -> (PageSkin, &str) {
+    let (word, rest) = call.split_once(' ').unwrap_or((call, ""));
+    match word {
+        "plain" => (PageSkin::of(&plain_skin()), rest),
+        "dark" => (PageSkin::dark(), rest),
+        "light" => (PageSkin::light(), rest),
+        "sixteen" => (PageSkin::sixteen(), rest),
+        "none" => (PageSkin::plain(), rest),
+        _ => (PageSkin::of(&MadSkin::default()), call),
+    }
 }
 
 // Which files a call says there are beside that of the text, and the rest of it: `first` has one after it, `last` one before it, `between` both.

@@ -2,6 +2,7 @@
 
 use crate::Asked;
 use crate::pieces::{BETWEEN, ROOM, push_rows};
+use mad_page_skin::PageSkin;
 use mad_screen::CutOut;
 use mad_stream::cut_text;
 use mad_term::Error;
@@ -13,7 +14,7 @@ use std::alloc::AllocError;
 pub fn went_out(asked: &Asked) -> Result<String, AllocError> {
     let alloc = asked.alloc;
     let mut told = String::new(alloc);
-    let mut stream = MarkdownStream::new(alloc, &asked.skin, asked.width);
+    let mut stream = MarkdownStream::new(alloc, &PageSkin::of(&asked.skin), asked.width);
     for piece in asked.text.split(BETWEEN) {
         let mut out = CutOut::new(alloc, ROOM, ROOM, false)?;
         if stream.feed(alloc, &mut out, piece).is_err() {
@@ -48,7 +49,7 @@ pub fn at_each_byte(asked: &Asked) -> Result<String, AllocError> {
 // What goes out of two pieces, where the first device fails after so many bytes.
 fn rows_of(asked: &Asked, front: &str, rest: &str, room: usize) -> Result<Vec<u8>, AllocError> {
     let alloc = asked.alloc;
-    let mut stream = MarkdownStream::new(alloc, &asked.skin, asked.width);
+    let mut stream = MarkdownStream::new(alloc, &PageSkin::of(&asked.skin), asked.width);
     let mut first = CutOut::new(alloc, ROOM, room, false)?;
     let mut second = CutOut::new(alloc, ROOM, ROOM, false)?;
     if let Err(Error::Memory) = stream.feed(alloc, &mut first, front) {
@@ -67,7 +68,8 @@ fn rows_of(asked: &Asked, front: &str, rest: &str, room: usize) -> Result<Vec<u8
 
 fn whole_rows(asked: &Asked) -> Result<CutOut, AllocError> {
     let mut out = CutOut::new(asked.alloc, ROOM, ROOM, false)?;
-    match write_markdown_on(asked.alloc, &mut out, &asked.skin, asked.text, asked.width) {
+    let skin = PageSkin::of(&asked.skin);
+    match write_markdown_on(asked.alloc, &mut out, &skin, asked.text, asked.width) {
         Ok(()) => Ok(out),
         Err(_) => Err(AllocError),
     }

@@ -1,6 +1,6 @@
 # Completions of termimad-view for bash: the command, and a skin behind its numbers.
 _termimad_view() {
-    local word=${COMP_WORDS[COMP_CWORD]} numbers
+    local word=${COMP_WORDS[COMP_CWORD]} numbers skins
     if [ "$COMP_CWORD" -eq 1 ]; then
         mapfile -t COMPREPLY < <(compgen -W "markdown markdown-stream text stream live inline area" -- "$word")
         return
@@ -11,6 +11,8 @@ _termimad_view() {
     live) numbers=2 ;;
     *) numbers=1 ;;
     esac
-    [ "$COMP_CWORD" -ne $((numbers + 2)) ] || mapfile -t COMPREPLY < <(compgen -W "default dark light" -- "$word")
+    skins="default dark light"
+    [[ ${COMP_WORDS[1]} != markdown* ]] || skins="$skins sixteen none"
+    [ "$COMP_CWORD" -ne $((numbers + 2)) ] || mapfile -t COMPREPLY < <(compgen -W "$skins" -- "$word")
 }
 complete -F _termimad_view termimad-view

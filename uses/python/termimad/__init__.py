@@ -31,7 +31,8 @@ Set TERMIMAD_LIBRARY to the path of the shared library; without it the loader lo
     Traceback (most recent call last):
     termimad.WrongNumber: A number is none that the call takes.
 
-A skin is "" for no style, "default", "dark" or "light", or JSON text as '{"bold":"red"}', which changes the default skin.
+A skin is "" for no style, "default", "dark" or "light", or JSON text as '{"bold":"red"}', which changes the default skin. For `markdown` it is that of a
+page: "none", "sixteen" and the key "page" too.
 A text or a skin is `str` or `bytes`; a path (`pathlib.Path`) stands for the text of its file. A call raises a `Refused` where it can answer nothing.
 """
 from __future__ import annotations

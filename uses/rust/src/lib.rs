@@ -1,6 +1,7 @@
 //! Markdown for terminals: a safe wrapper over `libtermimad.a`.
 //!
-//! A skin is `""` for no style, `default`, `dark` or `light`, or JSON text as `{"bold":"red"}`, which changes the default skin.
+//! A skin is `""` for no style, `default`, `dark` or `light`, or JSON text as `{"bold":"red"}`, which changes the default skin. For [`markdown`] it is
+//! that of a page: `none`, `sixteen` and the key `page` too.
 
 use std::{fmt, io};
 

@@ -2,7 +2,8 @@
 
 use std::alloc::{AllocError, Global};
 use std::fs;
-use termimad::{CellExtract, CompoundStyle, Error, ListViewCell, Markdown};
+use termimad::pages::HeadingMarks;
+use termimad::{CellExtract, CompoundStyle, DressedMarkdown, Error, ListViewCell, Markdown};
 
 /// A file of Markdown that was read.
 #[derive(Drop)]
@@ -10,19 +11,24 @@ pub struct Document {
     /// Its name.
     pub name: String,
     /// What it says.
-    pub markdown: Markdown,
+    pub markdown: DressedMarkdown,
 }
 
-/// Reads the files whose names are the lines of a file.
-pub fn read_all(rt: &HostRuntime, names: &str) -> Result<Vec<Document>, Error> {
+/// Reads the files whose names are the lines of a file, to be shown where these stand beside headings.
+pub fn read_all(
+    rt: &HostRuntime,
+    names: &str,
+    headings: HeadingMarks,
+) -> Result<Vec<Document>, Error> {
     let alloc = rt.alloc();
     let names = fs::read_to_string(rt, names)?;
     let mut documents = Vec::new(alloc);
     for name in names.lines() {
         let text = fs::read_to_string(rt, name)?;
+        let read = Markdown::read(alloc, text.as_str())?;
         documents.push(Document {
             name: String::from_str(alloc, name)?,
-            markdown: Markdown::read(alloc, text.as_str())?,
+            markdown: DressedMarkdown::new(alloc, read, headings)?,
         })?;
     }
     Ok(documents)

@@ -6,7 +6,7 @@ use std::alloc::{AllocError, Global};
 use std::io::{Error as IoError, ErrorKind};
 use termimad::{
     Alignment, Area, Error, KeyCode, KeyEvent, ListView, ListViewColumn, MadSkin, MarkdownView,
-    NoFilter, NoOrder, Out,
+    NoFilter, NoOrder, Out, PageSkin,
 };
 
 /// A list of documents, and the selected one beside it.
@@ -19,7 +19,12 @@ pub struct Reader<'m, 'k> {
 
 impl<'m, 'k> Reader<'m, 'k> {
     /// A reader of these documents, the first one selected.
-    pub fn new(alloc: Global, skin: &'k MadSkin, documents: &'m [Document]) -> Result<Self, Error> {
+    pub fn new(
+        alloc: Global,
+        skin: &'k MadSkin,
+        page_skin: &PageSkin,
+        documents: &'m [Document],
+    ) -> Result<Self, Error> {
         let Some(first) = documents.first() else {
             return Err(Error::from(IoError::new(ErrorKind::InvalidInput, "there are no files")));
         };
@@ -34,7 +39,7 @@ impl<'m, 'k> Reader<'m, 'k> {
         let area = Area::new(14, 0, 30, 10);
         Ok(Reader {
             list,
-            view: MarkdownView::from(alloc, &first.markdown, area, skin)?,
+            view: MarkdownView::from(alloc, &first.markdown, area, page_skin)?,
             is_open: true,
         })
     }

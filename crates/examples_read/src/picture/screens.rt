@@ -1,9 +1,11 @@
 //! Screens that show a file of Markdown: all of it, and a pager on it.
 
 use std::alloc::Global;
-use termimad::pages::{draw_page, lay_markdown, markdown_skin};
+use termimad::pages::{draw_page, lay_markdown};
 use termimad::screen::Screen;
-use termimad::{Area, Error, MadSkin, Markdown, ScriptSource, TestTerminal};
+use termimad::{
+    Area, DressedMarkdown, Error, MadSkin, Markdown, PageSkin, ScriptSource, TestTerminal,
+};
 use termimad_page_run::{Files, Grammar, Sheet, run};
 
 const COLUMNS: u16 = 72;
@@ -16,8 +18,10 @@ const KEYS: &[u8] = b"/disk\r";
 
 /// A screen that shows a whole text.
 pub fn text_screen(alloc: Global, text: &str) -> Result<Screen, Error> {
-    let skin = markdown_skin(&MadSkin::default());
-    let markdown = Markdown::read(alloc, text)?;
+    let page_skin = PageSkin::of(&MadSkin::default());
+    let skin = page_skin.row_skin();
+    let read = Markdown::read(alloc, text)?;
+    let markdown = DressedMarkdown::new(alloc, read, page_skin.headings)?;
     let rows = lay_markdown(alloc, &markdown, &skin, Some(COLUMNS as usize))?;
     let rows = u16::try_from(rows.len()).unwrap_or(u16::MAX);
     let area = Area::new(0, 0, COLUMNS, rows);

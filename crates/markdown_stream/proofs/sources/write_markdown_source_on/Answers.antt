@@ -1,6 +1,5 @@
 use Rattle.std.proofs.Common.{◌≡◌, [], false, inl, inr, length, take, refl, ap, rules, arith}
 use Rattle.std.proofs.lemmas.List.{length-append, length-take-le}
-use Rattle.markdown_layout.specs.WrittenPages.{markdown_skin}
 use Rattle.mad_stream.proofs.SourceLemmas.{block_come, none_waits, some_came, some_wait}
 use Rattle.markdown_stream.proofs.SourceLemmas.{block_stopped, read_out, source_ended, source_failed, source_more, source_start, text_ended}
 use Rattle.markdown_stream.proofs.sources.write_markdown_source_on.Goals as goal
@@ -21,7 +20,7 @@ returns-then-count-eq0 g c =
     let few = c.loop-block.invariant.few in
     let size = c.loop-block.invariant.size in
     let h =
-    source_ended (markdown_skin c.args.skin.now) c.args.width (g.I.Source.seen c.args.input.now) (g.O.Out.seen c.args.out.now) c.loop-block.stream (take c.loop-block.waiting c.loop-block.block) c.loop-block._block (g.I.Source.seen c.loop-block.input) (g.I.Source.seen c.fill.new.self) (g.O.Out.seen c.loop-block.out) c.fill.new.buffer c.in-Ok.count c.loop-block.invariant.so_far filled.handed_out c.if-count-eq0.true in
+    source_ended c.args.skin.now c.args.width (g.I.Source.seen c.args.input.now) (g.O.Out.seen c.args.out.now) c.loop-block.stream (take c.loop-block.waiting c.loop-block.block) c.loop-block._block (g.I.Source.seen c.loop-block.input) (g.I.Source.seen c.fill.new.self) (g.O.Out.seen c.loop-block.out) c.fill.new.buffer c.in-Ok.count c.loop-block.invariant.so_far filled.handed_out c.if-count-eq0.true in
     record { streams = read_out _ _ _ _ _ _ c.loop-block.stream _ _ _ _ _ h (inl (filled.ended c.if-count-eq0.true (search rules))) (none_waits c.loop-block.waiting c.loop-block.block) (some_wait c.loop-block.waiting c.loop-block.block (omega arith)) c.end_source.ensures }
 
 pub returns-in_err-used : goal.returns-in_err-used
@@ -40,7 +39,7 @@ returns-then-is_wrong g c =
     let few = c.loop-block.invariant.few in
     let size = c.loop-block.invariant.size in
     let k =
-    source_more (markdown_skin c.args.skin.now) c.args.width (g.I.Source.seen c.args.input.now) (g.O.Out.seen c.args.out.now) c.loop-block.stream c.feed_block.new.stream (take c.loop-block.waiting c.loop-block.block) (take c.in-Ok.count c.fill.new.buffer) _ _ c.in_ok-used.used c.loop-block._block c.in_ok-used.is_wrong
+    source_more c.args.skin.now c.args.width (g.I.Source.seen c.args.input.now) (g.O.Out.seen c.args.out.now) c.loop-block.stream c.feed_block.new.stream (take c.loop-block.waiting c.loop-block.block) (take c.in-Ok.count c.fill.new.buffer) _ _ c.in_ok-used.used c.loop-block._block c.in_ok-used.is_wrong
     (g.I.Source.seen c.loop-block.input) (g.I.Source.seen c.fill.new.self) (g.O.Out.seen c.loop-block.out) (g.O.Out.seen c.feed_block.new.out) c.loop-block.invariant.so_far filled.handed_out (some_came c.fill.new.buffer c.in-Ok.count filled.within c.if-count-eq0.false)
     (block_come c.loop-block.block c.fill.new.buffer _ c.loop-block.waiting c.in-Ok.count (omega arith) filled.within) c.in_ok-used.ensures refl in
     record { streams = text_ended c.end_source-then-is_wrong.result false _ _ _ _ c.feed_block.new.stream _ _ _ _ _ k.0 (λ is. absurd (cc)) (λ _. inr (k.1 c.if-is_wrong.true)) c.end_source-then-is_wrong.ensures }
@@ -53,7 +52,7 @@ loop-block-preserved g c =
     let fed = c.in_ok-used.ensures in
     let come = block_come c.loop-block.block c.fill.new.buffer _ c.loop-block.waiting c.in-Ok.count (omega arith) filled.within in
     let k =
-    source_more (markdown_skin c.args.skin.now) c.args.width (g.I.Source.seen c.args.input.now) (g.O.Out.seen c.args.out.now) c.loop-block.stream c.feed_block.new.stream (take c.loop-block.waiting c.loop-block.block) (take c.in-Ok.count c.fill.new.buffer) _ _ c.in_ok-used.used c.loop-block._block c.in_ok-used.is_wrong
+    source_more c.args.skin.now c.args.width (g.I.Source.seen c.args.input.now) (g.O.Out.seen c.args.out.now) c.loop-block.stream c.feed_block.new.stream (take c.loop-block.waiting c.loop-block.block) (take c.in-Ok.count c.fill.new.buffer) _ _ c.in_ok-used.used c.loop-block._block c.in_ok-used.is_wrong
     (g.I.Source.seen c.loop-block.input) (g.I.Source.seen c.fill.new.self) (g.O.Out.seen c.loop-block.out) (g.O.Out.seen c.feed_block.new.out) c.loop-block.invariant.so_far filled.handed_out (some_came c.fill.new.buffer c.in-Ok.count filled.within c.if-count-eq0.false)
     come fed c.keep_from.ensures.kept in
     let unfed = fed.short c.if-is_wrong.false in

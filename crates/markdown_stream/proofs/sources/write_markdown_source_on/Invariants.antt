@@ -1,5 +1,4 @@
 use Rattle.std.proofs.Common.{◌≡◌, ◌≤◌, length, take}
-use Rattle.markdown_layout.specs.WrittenPages.{markdown_skin}
 use Rattle.markdown_stream.proofs.SourceLemmas.{SourceSoFar}
 use Rattle.markdown_stream.proofs.sources.write_markdown_source_on.Given as goal
 
@@ -7,5 +6,5 @@ abbrev pub invariant-loop-block : goal.invariant-loop-block
 invariant-loop-block g l = record {
   few : l.waiting ≤ 3;
   size : length l.block ≡ 16384;
-  so_far : SourceSoFar (markdown_skin l.fn.skin) l.fn.width (g.I.Source.seen l.fn.input) (g.O.Out.seen l.fn.out) l.stream (take l.waiting l.block) l._block (g.I.Source.seen l.input) (g.O.Out.seen l.out);
+  so_far : SourceSoFar l.fn.skin l.fn.width (g.I.Source.seen l.fn.input) (g.O.Out.seen l.fn.out) l.stream (take l.waiting l.block) l._block (g.I.Source.seen l.input) (g.O.Out.seen l.out);
 }

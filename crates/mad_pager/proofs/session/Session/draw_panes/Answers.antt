@@ -9,4 +9,4 @@ returns g c =
     let s = state_of c.args.self.now in
     let skin = c.args.self.now.skin.now in
     let name = c.args.self.now.name.now in
-    took_in_turn (g.O.Out.seen c.args.out.now) (g.O.Out.seen c.draw_lines.new.out) (g.O.Out.seen c.draw_last_row.new.out) (AreLinesShown skin s) (IsLastRow name s) (ArePanesDrawn skin name s) (screen_shown skin name s c.requires) c.in_ok-draw_lines.ensures c.in_ok-draw_last_row.ensures
+    took_in_turn (g.O.Out.seen c.args.out.now) (g.O.Out.seen c.draw_lines.new.out) (g.O.Out.seen c.draw_last_row.new.out) (AreLinesShown skin s) (IsLastRow skin name s) (ArePanesDrawn skin name s) (screen_shown skin name s c.requires) c.in_ok-draw_lines.ensures c.in_ok-draw_last_row.ensures

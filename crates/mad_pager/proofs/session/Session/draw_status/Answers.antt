@@ -14,4 +14,4 @@ draw_line-requires-clause-one g c = ap (λ (a : Area). a.height) c.last_row-area
 pub returns : goal.returns
 returns g c =
     let self = c.args.self.now in
-    status_drawn self.name.now c.as_str.result.now (state_of self) c.status_skin-skin.result c.in_ok-line.line c.last_row-area.result (g.O.Out.seen c.args.out.now) (g.O.Out.seen c.draw_line.new.out) c.status_skin-skin.ensures (c.as_str.ensures.value ∙ c.in_ok-words.ensures) c.in_ok-line.ensures c.last_row-area.ensures c.in_ok-draw_line.ensures
+    status_drawn self.skin.now self.name.now c.as_str.result.now (state_of self) c.status_skin-skin.result c.in_ok-line.line c.last_row-area.result (g.O.Out.seen c.args.out.now) (g.O.Out.seen c.draw_line.new.out) c.status_skin-skin.ensures (c.as_str.ensures.value ∙ c.in_ok-words.ensures) c.in_ok-line.ensures c.last_row-area.ensures c.in_ok-draw_line.ensures
