@@ -76,7 +76,8 @@ def functions(source: str) -> Iterator[Function]:
         clauses, ended = [], lines[at - 1].endswith(("{", "{}", ";"))
         while not ended and at < len(lines):
             line = lines[at].strip()
-            if line in ("{", "{}"):
+            is_open = bool(clauses) and clauses[-1].count("{") > clauses[-1].count("}")
+            if line in ("{", "{}") or line.endswith("{") and not is_open and not line.startswith(("ensures", "requires")):
                 break
             if line.startswith(("ensures", "requires")):
                 clauses.append(line)
