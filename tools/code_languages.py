@@ -77,10 +77,10 @@ class Language:
 
 def named(word: str, names: list[str]) -> str:
     """The name of the sources that a word of a file is."""
-    for name in names:
-        if re.sub(r"(?<!^)([A-Z])", r"_\1", name).lower() == word:
-            return name
-    raise ValueError(f"{word} is none of {', '.join(names)}")
+    words = {re.sub(r"(?<!^)([A-Z])", r"_\1", name).lower(): name for name in names}
+    if word not in words:
+        raise ValueError(f"{word} is none of {', '.join(words)}")
+    return words[word]
 
 
 class Parts:
