@@ -1,6 +1,9 @@
+pub mod BecomeLemmas
 pub mod CharacterLemmas
+pub mod DressedLemmas
 pub mod LineLemmas
 pub mod OutputLemmas
 pub mod PageLemmas
 pub mod ShownPageLemmas
+pub mod SkinTextLemmas
 pub mod TableSectionLemmas

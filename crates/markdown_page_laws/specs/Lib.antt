@@ -2,4 +2,5 @@ pub mod KeptCharacters
 pub mod KeptMarkdown
 pub mod KeptOutput
 pub mod KeptPages
+pub mod SkinTexts
 pub mod TableSections

@@ -4,6 +4,7 @@
 ghost use Rattle.markdown_page_laws.specs.KeptMarkdown.{MarkdownIsKept, PagesShow};
 ghost use Rattle.markdown_page_laws.specs.KeptOutput.{AreasShow, DrawingShows, WritingShows};
 ghost use Rattle.markdown_page_laws.specs.KeptPages.{PagesKeep};
+ghost use Rattle.markdown_page_laws.specs.SkinTexts.{SkinsKeepText, TextIsTold};
 ghost use Rattle.markdown_page_laws.specs.TableSections.{TablesMayBeLists};
 
 /// The rows of a page keep the flagged characters of the sections that are shown, in order and on the fewest rows.
@@ -21,7 +22,8 @@ pub fn tables_may_be_lists()
     ensures { TablesMayBeLists }
 {}
 
-/// The rows of a text of Markdown show each character of its sections that isn't whitespace once, in order. Else they show labels of lists alone.
+/// The rows of a text of Markdown show each character of its sections that isn't whitespace once, in order. Else they show labels of lists and rules
+/// below headings alone.
 pub fn markdown_is_kept()
     ensures { MarkdownIsKept }
 {}
@@ -31,4 +33,10 @@ pub fn output_is_kept()
     ensures written { WritingShows }
     ensures drawn { DrawingShows }
     ensures shown { AreasShow }
+{}
+
+/// A skin changes no character of a text of Markdown, nor their order, but for its marks and for blanks.
+pub fn skins_keep_text()
+    ensures told { TextIsTold }
+    ensures alike { SkinsKeepText }
 {}
