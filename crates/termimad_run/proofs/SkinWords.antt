@@ -122,7 +122,7 @@ pub done_call : (words : List (List ℕ)) (old new : Devices) → RunsTo {T = Un
 done_call words old new (inl h) asks = never words _ _ h.wrote.call asks
 done_call words old new (inr h) asks = never words _ _ h.call asks
 
-keys_of : Option (PageSkin × List (List ℕ)) → List (List ℕ)
+abbrev keys_of : Option (PageSkin × List (List ℕ)) → List (List ℕ)
 keys_of None = []
 keys_of (Some given) = given.1
 
