@@ -1,6 +1,7 @@
 -- Pages in the skin without styles are text alone.
 use Rattle.std.proofs.Common.{◌≡◌, ◌≢◌, inl, inr, ℕ, zero, suc, ◌+◌, ◌-◌, ◌==◌, ◌/◌, ◌%◌, nat_lt, not, ◌&&◌, ◌||◌, Bool, true, false, List, [], ◌∷◌, ◌++◌, map, length, take, drop, Option, Some, None, unwrap_or, replicate, decimal, if◌then◌else◌, refl, ap, ap₂, sym, ◌∙◌, subst, arith}
-use Rattle.std.specs.Prelude.{encode_utf8, slice_get, min}
+use Rattle.std.specs.Char.{encode_utf8}
+use Rattle.std.specs.Prelude.{slice_get, min}
 use Rattle.std.specs.Fmt.{digit_glyph, digits_onto, digits}
 use Rattle.std.specs.Int.RustNames.{bit_or}
 use Rattle.std.specs.List.{AllByRecursion, flat_map, list_all, repeat}
