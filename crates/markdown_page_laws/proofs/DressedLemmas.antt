@@ -1,5 +1,5 @@
 -- The rows of Markdown, with the rules and signs of its headings, show its sections.
-use Rattle.std.proofs.Common.{◌≡◌, inl, inr, ℕ, ◌-◌, ◌^◌, ◌<◌, ◌≤◌, nat_lt, Bool, true, false, List, [], ◌∷◌, ◌++◌, map, Option, Some, None, if◌then◌else◌, refl, ap, sym, ◌∙◌, subst, append-nil, append_assoc, ⊎_elim}
+use Rattle.std.proofs.Common.{◌≡◌, inl, inr, ℕ, ◌-◌, ◌^◌, ◌<◌, ◌≤◌, nat_lt, ◌==◌, Bool, true, false, not, ◌&&◌, List, [], ◌∷◌, ◌++◌, map, length, Option, Some, None, if◌then◌else◌, refl, ap, sym, ◌∙◌, subst, append-nil, append_assoc, ⊎_elim}
 use Rattle.std.specs.List.{AllByRecursion, flat_map}
 use Rattle.std.proofs.lemmas.List.{map-append}
 use Rattle.std.proofs.lemmas.List.Concat.{flat_map-append}
@@ -11,8 +11,8 @@ use Rattle.mad_format.specs.declared.line.FmtLine.{FmtLine}
 use Rattle.mad_format.specs.declared.line.FmtLine.TheVariants.{HorizontalRule}
 use Rattle.mad_sections.specs.Gutters.{room_at}
 use Rattle.mad_sections.specs.Sections.{SectionContent}
-use Rattle.mad_sections.specs.TableTexts.{are_table, rows_in, has_room}
-use Rattle.mad_sections.specs.Unfolded.{lacks_room, unfolded_in, unfolded}
+use Rattle.mad_sections.specs.TableTexts.{are_table, has_room, rows_in}
+use Rattle.mad_sections.specs.Unfolded.{unfolded_in, unfolded}
 use Rattle.mad_sections.specs.declared.gutters.Gutter.{Gutter}
 use Rattle.mad_sections.specs.declared.gutters.Gutter.TheVariants.{Below, Signs}
 use Rattle.mad_sections.proofs.Choices.{by_bool}
@@ -107,10 +107,7 @@ stays_by : (whole_words ascii : Bool) (width : ℕ) (s : SectionContent) (list :
 stays_by whole_words ascii width s None is apart = ap (λ (l : Option (List Gutter)). unfolded_in whole_words (Some (room_at ascii width s.gutters)) l s) is
 stays_by whole_words ascii width s (Some gutters) is apart =
     let room : ℕ = room_at ascii width s.gutters in
-    stays_when whole_words ascii width s gutters is (lacks room)
-  where
-    lacks : (room : ℕ) → lacks_room whole_words room s.lines ≡ false
-    lacks room = rw apart refl
+    stays_when whole_words ascii width s gutters is (ap (λ (t : Bool). t && not (length (rows_in s.lines) == 0) && not (has_room whole_words room s.lines)) apart)
 
 -- the lines that are shown of a heading are its own
 heading_lines : (whole_words ascii : Bool) (width : ℕ) (s : SectionContent) (level : ℕ) → heading_level s.lines ≡ Some level → lines_of (unfolded whole_words ascii (Some width) s) ≡ s.lines

@@ -34,7 +34,8 @@ TextIsTold = (skin : PageSkin) (source : List ℕ) (width : ℕ) (rows : List Ro
 abbrev pub ShowAlike : List LineContent → List FmtLine → List FmtLine → Type 0
 ShowAlike [] rows others = (rows ≡ []) × (others ≡ [])
 ShowAlike (line ∷ lines) rows others =
-    (own more : List FmtLine) × (rows ≡ own ++ more) × (like likes : List FmtLine) × (others ≡ like ++ likes) × ((i : ℕ) → solid_at i own ≡ solid_at i like) × ShowAlike lines more likes
+    (own : List FmtLine) × (more : List FmtLine) × (rows ≡ own ++ more) × (like : List FmtLine) × (likes : List FmtLine) × (others ≡ like ++ likes)
+    × ((i : ℕ) → solid_at i own ≡ solid_at i like) × ShowAlike lines more likes
 
 -- The rows of a text in two skins show the same, at each width from three columns on and of fewer than 2^64 - 1, where both or neither has boxes of ASCII characters.
 abbrev pub SkinsKeepText : Type 0
