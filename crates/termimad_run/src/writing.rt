@@ -58,9 +58,7 @@ pub(crate) fn write_as_it_comes<I: Source, O: Out>(
     ensures { ComesAs skin.now (command_of_pieces pieces) (I.seen input.old) (O.seen out.old) result (I.seen input.new) (O.seen out.new) }
 {
     match pieces {
-        Pieces::Stream(width) => {
-            write_source_on(alloc, input, out, &skin.text, Some(width))
-        }
+        Pieces::Stream(width) => { write_source_on(alloc, input, out, &skin.text, Some(width)) }
         Pieces::Markdown(width) => {
             write_markdown_source_on(alloc, input, out, skin, Some(width))
         }
