@@ -7,9 +7,11 @@ ghost use Rattle.mad_mark_runs.specs.Values.{AreRising, end_from, values_of};
 use std::alloc::AllocError;
 
 /// Counted characters that have the same mark: those from the end of the run before up to this number.
-#[derive(Clone, Copy)]
+#[derive(Clone, Copy, PartialEq, Debug)]
 pub struct MarkRun {
+    /// The mark; 0 is none.
     pub value: usize,
+    /// How many counted characters stand before the next run.
     pub end: usize,
 }
 

@@ -7,13 +7,15 @@
 //! 3. `texts`: a text, cut where the mark changes, each part in the style that its mark makes of another.
 //! 4. `fronts`: what is in front of a composite's compounds and what is after them (as `mad_rows` has it for itself).
 //! 5. `compounds`: compounds with marks. `composites`: a composite in its row. `lines`: a row of a table, and any line.
-//! 6. `seen`: what is drawn again of a composite, each character in the style that its row shows it in. `written`: these, put after a string.
-//! 7. [`laws`]: marks change nothing but styles.
+//! 6. `displayed`: a composite in its row as a displayed value, without links.
+//! 7. `seen`: what is drawn again of a composite, each character in the style that its row shows it in. `written`: these, put after a string.
+//! 8. [`laws`]: marks change nothing but styles.
 #![tactic(auto)]
 
 mod composites;
 mod compounds;
 mod cursors;
+mod displayed;
 mod fronts;
 pub mod laws;
 mod lines;
@@ -24,6 +26,7 @@ mod texts;
 mod written;
 
 pub use cursors::MarkCursor;
+pub use displayed::MarkedComposite;
 pub use lines::{MarkedSkin, append_marked_line};
 pub use links::mark_link;
 pub use paints::{Paint, openings_of};

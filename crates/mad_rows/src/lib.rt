@@ -25,8 +25,8 @@ pub use lines::{PlacedLine, PlacedLines, PlacedRow};
 pub use page_styles::PageStyles;
 pub use read_rows::{append_read, is_aligned_left};
 pub use row_skin::{
-    FlagStyles, HeaderStyles, OrderedItemStyles, RowSkin, item_style_at, style_of_compound,
-    style_of_kind,
+    FlagStyles, HeaderStyles, OrderedItemStyles, RowSkin, ToneStyles, item_style_at, sets_nothing,
+    style_of_compound, style_of_kind,
 };
 pub use row_writing::{TextRows, append_line, append_lines};
 pub use rows::{RowPlace, composite_blanks, know_row, know_styles, line_blanks, row_blanks};

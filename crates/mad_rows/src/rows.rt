@@ -5,7 +5,7 @@ ghost use Rattle.std.specs.Option.{option_copied};
 ghost use Rattle.mad_draw.specs.Pieces.{AreKnown};
 ghost use Rattle.std.specs.List.{AllByRecursion, sum_by};
 ghost use Rattle.mad_rows.specs.Rows.{row_pieces, inner_blanks, inner_columns, outer_blanks, blanks_beside, margins_of, row_blanks, line_blanks, composite_blanks, table_blanks, cell_blanks, row_columns, rule_chars};
-ghost use Rattle.mad_rows.specs.RowStyles.{AreKnownParts, AreKnownSigns, AreKnownStyles, IsKnownItem, IsKnownLine};
+ghost use Rattle.mad_rows.specs.RowStyles.{AreKnownParts, AreKnownSigns, AreKnownStyles, IsKnownItem, IsKnownLine, IsKnownTone};
 ghost use Rattle.mad_wrap.specs.WrapLines.{capped};
 
 use crate::page_styles::PageStyles;
@@ -14,7 +14,7 @@ use mad_draw::RuleChars;
 use mad_format::{FmtComposite, FmtLine, RelativePosition, rule_columns};
 use mad_md::Alignment;
 use mad_measure::Spacing;
-use mad_style::{LineStyle, OrderedItemStyle, TableBorderChars};
+use mad_style::{CompoundStyle, LineStyle, OrderedItemStyle, TableBorderChars};
 
 /// Where a composite is in a row, in columns.
 #[derive(Clone, Copy)]
@@ -219,6 +219,7 @@ pub fn know_styles(skin: &RowSkin)
     know_parts(*skin);
     know_all(&skin.headers);
     know_all(&skin.ordered_item_styles);
+    know_all(skin.tone_styles());
 }
 
 // So they are in the styles of its parts.
@@ -249,6 +250,12 @@ impl KnownStyle for LineStyle {
 
 impl KnownStyle for OrderedItemStyle {
     ghost known = { λ style. IsKnownItem style };
+
+    fn know(self) {}
+}
+
+impl KnownStyle for CompoundStyle {
+    ghost known = { λ style. IsKnownTone style };
 
     fn know(self) {}
 }

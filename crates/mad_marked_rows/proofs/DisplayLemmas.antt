@@ -1,0 +1,118 @@
+-- A text with marks as it is displayed, character by character.
+use Rattle.std.proofs.Common.{◌≡◌, ℕ, ◌+◌, ◌<◌, ◌≤◌, Bool, true, false, cond, List, [], ◌∷◌, ◌++◌, map, length, drop, get_or, refl, sym, ap, ◌∙◌, append_assoc, append-nil}
+use Rattle.std.specs.Fmt.{Formatter, HasWritten}
+use Rattle.std.specs.Prelude.{encode_utf8_all, chars}
+use Rattle.std.specs.Char.{encode_utf8}
+use Rattle.std.proofs.Output.{has_written_append}
+use Rattle.std.proofs.StrCases.{chars_of_empty}
+use Rattle.std.proofs.lemmas.List.{at_drop_more, drop_all}
+use Rattle.mad_md.specs.Flagged.{Flags, flagged_of}
+use Rattle.mad_md.specs.declared.compound.Compound.{Compound}
+use Rattle.mad_term.specs.declared.styles.ContentStyle.{ContentStyle}
+use Rattle.mad_term.specs.Styles.{closing_bytes, opening_bytes}
+use Rattle.mad_draw.specs.Pieces.{pieces_bytes}
+use Rattle.mad_draw.proofs.PieceLemmas.{bytes_both}
+use Rattle.mad_style.specs.declared.line_styles.LineStyle.{LineStyle}
+use Rattle.mad_rows.specs.declared.row_skin.RowSkin.{RowSkin}
+use Rattle.mad_mark_runs.specs.declared.mark_runs.MarkRun.{MarkRun}
+use Rattle.mad_marks.specs.RowMarks.{counted}
+use Rattle.mad_marked_rows.specs.MarkedRows.{marked_compound, marked_compounds}
+use Rattle.mad_marked_rows.specs.MarkedTexts.{first_char, mark_value, number_next, Letter, letters_of, goes_on, LetterPart, parts_from, part_char, part_piece, next_value, text_pieces}
+
+-- ---- what is written so far
+
+-- some of a text was written, and this is left
+pub record PartlyWritten {W : Type 0} (took : W → List ℕ → W → Type 0) (f : Formatter W) (left whole : List ℕ) (g : Formatter W) : Type 0 where
+  pub wrote : List ℕ
+  pub has : HasWritten took f wrote g
+  pub joins : wrote ++ left ≡ whole
+
+-- the front of what is left was written
+pub wrote_more : {W : Type 0} (took : W → List ℕ → W → Type 0) (f g h : Formatter W) (left own rest whole : List ℕ) → PartlyWritten took f left whole g → HasWritten took g own h → left ≡ own ++ rest → PartlyWritten took f rest whole h
+wrote_more took f g h left own rest whole so_far one is = record {
+  wrote = so_far.wrote ++ own;
+  has = has_written_append took f so_far.wrote g own h so_far.has one;
+  joins = append_assoc so_far.wrote own rest ∙ ap (λ (l : List ℕ). so_far.wrote ++ l) (sym is) ∙ so_far.joins;
+}
+
+-- ---- a text
+
+-- what is left of a text, where a part of this value is open
+abbrev pub left_of : (ℕ → ContentStyle → ContentStyle) → ContentStyle → ℕ → List Letter → List ℕ
+left_of paint style v [] = closing_bytes (paint v style)
+left_of paint style v (c ∷ cs) = part_char paint style v c.value c.char ++ left_of paint style (next_value v c.value c.char) cs
+
+more_text : (cs : List ℕ) (c : ℕ) (rest : List ℕ) → encode_utf8_all (cs ++ c ∷ []) ++ rest ≡ encode_utf8_all cs ++ (encode_utf8 c ++ rest)
+more_text [] c rest = ap (λ l. l ++ rest) (append-nil (encode_utf8 c))
+more_text (d ∷ cs) c rest =
+    append_assoc (encode_utf8 d) (encode_utf8_all (cs ++ c ∷ [])) rest ∙ ap (λ l. encode_utf8 d ++ l) (more_text cs c rest) ∙ sym (append_assoc (encode_utf8 d) (encode_utf8_all cs) (encode_utf8 c ++ rest))
+
+from_part : (paint : ℕ → ContentStyle → ContentStyle) (style : ContentStyle) (p : LetterPart) (cs : List Letter)
+    → pieces_bytes (map (part_piece paint style) (parts_from p cs)) ≡ opening_bytes (paint p.value style) ++ (encode_utf8_all p.chars ++ left_of paint style p.value cs)
+from_part paint style p [] = append-nil _
+from_part paint style p (c ∷ cs) = by_part (goes_on p.value c.value c.char)
+  where
+    on : LetterPart
+    on = record { value = p.value; chars = p.chars ++ c.char ∷ [] }
+    other : LetterPart
+    other = record { value = c.value; chars = c.char ∷ [] }
+    by_part : (t : Bool) → pieces_bytes (map (part_piece paint style) (cond t (parts_from on cs) (p ∷ parts_from other cs)))
+        ≡ opening_bytes (paint p.value style) ++ (encode_utf8_all p.chars ++ (cond t (encode_utf8 c.char) (closing_bytes (paint p.value style) ++ first_char paint style c.value c.char) ++ left_of paint style (cond t p.value c.value) cs))
+    by_part true = from_part paint style on cs ∙ ap (λ l. opening_bytes (paint p.value style) ++ l) (more_text p.chars c.char (left_of paint style p.value cs))
+    by_part false =
+        let open_ = opening_bytes (paint p.value style) in
+        let text = encode_utf8_all p.chars in
+        let close = closing_bytes (paint p.value style) in
+        let first = opening_bytes (paint c.value style) in
+        let left = left_of paint style c.value cs in
+        let rest : pieces_bytes (map (part_piece paint style) (parts_from other cs)) ≡ (first ++ encode_utf8 c.char) ++ left =
+        from_part paint style other cs ∙ ap (λ l. first ++ (l ++ left)) (append-nil (encode_utf8 c.char)) ∙ sym (append_assoc first (encode_utf8 c.char) left) in
+        ap (λ l. (open_ ++ (text ++ close)) ++ l) rest ∙ append_assoc open_ (text ++ close) ((first ++ encode_utf8 c.char) ++ left) ∙ ap (λ l. open_ ++ l) (append_assoc text close ((first ++ encode_utf8 c.char) ++ left))
+        ∙ ap (λ l. open_ ++ (text ++ l)) (sym (append_assoc close (first ++ encode_utf8 c.char) left))
+
+-- a text that begins with a character
+pub text_begins : (paint : ℕ → ContentStyle → ContentStyle) (runs : List MarkRun) (style : ContentStyle) (text rest : List ℕ) (n c v m : ℕ) → chars text ≡ c ∷ chars rest → v ≡ mark_value runs n c → m ≡ number_next n c
+    → pieces_bytes (text_pieces paint runs style n (chars text)) ≡ first_char paint style v c ++ left_of paint style v (letters_of runs m (chars rest))
+text_begins paint runs style text rest n c v m chars_are v_is m_is =
+    let w = mark_value runs n c in
+    let later = letters_of runs (number_next n c) (chars rest) in
+    ap (λ (cs : List ℕ). pieces_bytes (text_pieces paint runs style n cs)) chars_are
+    ∙ from_part paint style (record { value = w; chars = c ∷ [] }) later
+    ∙ ap (λ l. opening_bytes (paint w style) ++ (l ++ left_of paint style w later)) (append-nil (encode_utf8 c))
+    ∙ sym (append_assoc (opening_bytes (paint w style)) (encode_utf8 c) (left_of paint style w later))
+    ∙ ap (λ (k : ℕ). first_char paint style k c ++ left_of paint style k later) (sym v_is)
+    ∙ ap (λ (k : ℕ). first_char paint style v c ++ left_of paint style v (letters_of runs k (chars rest))) (sym m_is)
+
+-- a character more
+pub text_goes : (paint : ℕ → ContentStyle → ContentStyle) (runs : List MarkRun) (style : ContentStyle) (rest next : List ℕ) (n c v u w m : ℕ) → chars rest ≡ c ∷ chars next → u ≡ mark_value runs n c → m ≡ number_next n c → w ≡ next_value v u c
+    → left_of paint style v (letters_of runs n (chars rest)) ≡ part_char paint style v u c ++ left_of paint style w (letters_of runs m (chars next))
+text_goes paint runs style rest next n c v u w m chars_are u_is m_is w_is =
+    ap (λ (cs : List ℕ). left_of paint style v (letters_of runs n cs)) chars_are
+    ∙ ap (λ (k : ℕ). part_char paint style v k c ++ left_of paint style (next_value v k c) (letters_of runs (number_next n c) (chars next))) (sym u_is)
+    ∙ ap (λ (k : ℕ). part_char paint style v u c ++ left_of paint style k (letters_of runs (number_next n c) (chars next))) (sym w_is)
+    ∙ ap (λ (k : ℕ). part_char paint style v u c ++ left_of paint style w (letters_of runs k (chars next))) (sym m_is)
+
+-- the end
+pub text_ends : (paint : ℕ → ContentStyle → ContentStyle) (runs : List MarkRun) (style : ContentStyle) (rest : List ℕ) (n v : ℕ) → length rest ≡ 0 → left_of paint style v (letters_of runs n (chars rest)) ≡ closing_bytes (paint v style)
+text_ends paint runs style rest n v none = ap (λ (cs : List ℕ). left_of paint style v (letters_of runs n cs)) (chars_of_empty rest none)
+
+-- a text without characters
+pub no_text : (paint : ℕ → ContentStyle → ContentStyle) (runs : List MarkRun) (style : ContentStyle) (text : List ℕ) (n : ℕ) → length text ≡ 0 → [] ≡ pieces_bytes (text_pieces paint runs style n (chars text))
+no_text paint runs style text n none = sym (ap (λ (cs : List ℕ). pieces_bytes (text_pieces paint runs style n cs)) (chars_of_empty text none))
+
+-- ---- compounds
+
+-- a compound more
+pub compound_goes : (paint : ℕ → ContentStyle → ContentStyle) (has : Flags → Bool) (runs : List MarkRun) (skin : RowSkin) (style : LineStyle) (ks : List Compound) (i : ℕ) (d : Compound) (n m : ℕ) → i < length ks → m ≡ n + counted has (flagged_of (get_or ks i d))
+    → pieces_bytes (marked_compounds paint has runs skin style n (drop i ks)) ≡ pieces_bytes (marked_compound paint has runs skin style n (get_or ks i d)) ++ pieces_bytes (marked_compounds paint has runs skin style m (drop (i + 1) ks))
+compound_goes paint has runs skin style ks i d n m inside m_is =
+    let k = get_or ks i d in
+    at_drop_more (λ l. pieces_bytes (marked_compounds paint has runs skin style n l)) ks i d inside
+    ∙ bytes_both (marked_compound paint has runs skin style n k) (marked_compounds paint has runs skin style (n + counted has (flagged_of k)) (drop (i + 1) ks))
+    ∙ ap (λ (x : ℕ). pieces_bytes (marked_compound paint has runs skin style n k) ++ pieces_bytes (marked_compounds paint has runs skin style x (drop (i + 1) ks))) (sym m_is)
+
+-- where none is left
+pub compounds_end : {W : Type 0} (took : W → List ℕ → W → Type 0) (f g : Formatter W) (paint : ℕ → ContentStyle → ContentStyle) (has : Flags → Bool) (runs : List MarkRun) (skin : RowSkin) (style : LineStyle) (ks : List Compound) (i n : ℕ) (whole : List ℕ) → length ks ≤ i
+    → (so_far : PartlyWritten took f (pieces_bytes (marked_compounds paint has runs skin style n (drop i ks))) whole g) → so_far.wrote ≡ whole
+compounds_end took f g paint has runs skin style ks i n whole past so_far =
+    sym (append-nil so_far.wrote) ∙ ap (λ l. so_far.wrote ++ pieces_bytes (marked_compounds paint has runs skin style n l)) (sym (drop_all i ks past)) ∙ so_far.joins
