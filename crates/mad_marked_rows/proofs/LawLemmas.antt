@@ -103,11 +103,11 @@ shown_both : (ps qs : List RowPiece) → AreShownPieces ps → AreShownPieces qs
 shown_both [] qs a b = b
 shown_both (p ∷ ps) qs a b = (a.0, shown_both ps qs a.1 b)
 
-shown_left : (ps qs : List RowPiece) → AreShownPieces (ps ++ qs) → AreShownPieces ps
+pub shown_left : (ps qs : List RowPiece) → AreShownPieces (ps ++ qs) → AreShownPieces ps
 shown_left [] qs h = tt
 shown_left (p ∷ ps) qs h = (h.0, shown_left ps qs h.1)
 
-shown_right : (ps qs : List RowPiece) → AreShownPieces (ps ++ qs) → AreShownPieces qs
+pub shown_right : (ps qs : List RowPiece) → AreShownPieces (ps ++ qs) → AreShownPieces qs
 shown_right [] qs h = h
 shown_right (p ∷ ps) qs h = shown_right ps qs h.1
 

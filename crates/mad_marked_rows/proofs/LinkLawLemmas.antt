@@ -139,7 +139,7 @@ known_after xs ps qs f h = known_both xs ps (known_left xs qs h) (f (known_right
 known_before : (ps qs xs : List RowPiece) → (AreKnown qs → AreKnown ps) → AreKnown (qs ++ xs) → AreKnown (ps ++ xs)
 known_before ps qs xs f h = known_both ps xs (f (known_left qs xs h)) (known_right qs xs h)
 
-abbrev KeepsKnown : (ℕ → ContentStyle → ContentStyle) → Type 0
+abbrev pub KeepsKnown : (ℕ → ContentStyle → ContentStyle) → Type 0
 KeepsKnown paint = (v : ℕ) (style : ContentStyle) → IsStyle style → IsStyle (paint v style)
 
 parts_known : (paint : ℕ → ContentStyle → ContentStyle) (style : ContentStyle) (ps : List LetterPart) → KeepsKnown paint → IsStyle style → AreKnown (map (part_piece paint style) ps)
@@ -178,7 +178,7 @@ cells_known paint has runs skin ns (c ∷ cs) keeps h =
     known_both own (marked_cells paint has runs skin (drop 1 ns) cs) (first.0, composite_known paint has runs skin None (0, 0) false (slice_index ns 0) c keeps first.1)
     (cells_known paint has runs skin (drop 1 ns) cs keeps (known_right (cell_pieces skin c) (flat_map (cell_pieces skin) cs) h))
 
-line_known : (paint : ℕ → ContentStyle → ContentStyle) (has : CompositeKind → Flags → Bool) (runs : List MarkRun) (skin : RowSkin) (outer : Option ℕ) (filled : Bool) (numbers : List ℕ) (line : FmtLine) → KeepsKnown paint → AreKnown (line_pieces skin outer filled line)
+pub line_known : (paint : ℕ → ContentStyle → ContentStyle) (has : CompositeKind → Flags → Bool) (runs : List MarkRun) (skin : RowSkin) (outer : Option ℕ) (filled : Bool) (numbers : List ℕ) (line : FmtLine) → KeepsKnown paint → AreKnown (line_pieces skin outer filled line)
     → AreKnown (marked_line paint has runs skin outer filled numbers line)
 line_known paint has runs skin outer filled numbers (Normal l) keeps h = composite_known paint has runs skin outer (margins_of skin outer l) filled (slice_index numbers 0) l keeps h
 line_known paint has runs skin outer filled numbers (TableRow row) keeps h =

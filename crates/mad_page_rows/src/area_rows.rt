@@ -93,9 +93,11 @@ pub fn push_blanks(bytes: &mut String, skin: &RowSkin, width: usize) -> Result<(
 }
 
 // The numbers of the colors of a row's line are bytes, behind its gutters.
+#[tactic(auto, using(crate::proofs::TonedLemmas::behind_known))]
 fn know_behind(skin: &RowSkin, front: Front, line: &FmtLine, width: usize)
     ensures { AreKnown (behind_pieces skin.now (Some width) true (row_behind (front_content front.entry) line.now)) }
 {
+    know_styles(skin);
     let rest = columns_left(skin, front.gutters, width);
     know_row(&line_skin(skin, front.gutters), Some(line), rest);
 }
