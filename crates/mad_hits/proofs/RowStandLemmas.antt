@@ -1,12 +1,17 @@
 -- All hits of a row stand in it, those of a table's row too.
-use Rattle.std.proofs.Common.{◌≡◌, ℕ, ◌+◌, ◌-◌, ◌^◌, ◌<◌, true, false, List, [], ◌∷◌, ◌++◌, map, length, Option, Some, None, refl, ap, sym, ◌∙◌, subst, arith, append_assoc}
+use Rattle.std.proofs.Common.{◌≡◌, ℕ, ◌+◌, ◌-◌, ◌^◌, ◌<◌, true, false, List, [], ◌∷◌, ◌++◌, drop, map, take, length, Option, Some, None, refl, ap, sym, ◌∙◌, subst, arith, append_assoc}
 use Rattle.std.specs.Prelude.{chars, slice_get}
 use Rattle.std.specs.List.{AllByRecursion, flat_map}
-use Rattle.std.proofs.lemmas.List.{append-nil, map-append}
+use Rattle.std.proofs.lemmas.List.{append-nil, drop-map, map-append, take-map}
 use Rattle.std.proofs.lemmas.Option.{same_Some}
 use Rattle.mad_measure.proofs.AllLemmas.{all_joined}
 use Rattle.mad_style.specs.declared.styled_chars.StyledChar.{StyledChar}
-use Rattle.mad_draw.specs.Pieces.{AreShownPieces, IsShownPiece, RowPiece, pieces_columns, spaces}
+use Rattle.mad_screen.specs.Glyph.{Glyph}
+use Rattle.mad_screen.specs.Grid.{plain_pen}
+use Rattle.mad_draw.specs.PennedCells.{penned_cells}
+use Rattle.mad_draw.specs.Pieces.{AreShownPieces, IsShownPiece, RowPiece, penned_chars, pieces_columns, spaces}
+use Rattle.mad_marked_rows.specs.Told.{told_cell, told_cells}
+use Rattle.mad_page_rows.proofs.TonedLemmas.{row_told}
 use Rattle.mad_draw.proofs.PieceLemmas.{columns-both, spaces_columns}
 use Rattle.mad_format.specs.declared.composite.FmtComposite.{FmtComposite}
 use Rattle.mad_format.specs.declared.line.FmtLine.{FmtLine}
@@ -20,7 +25,8 @@ use Rattle.mad_pages.specs.Fronts.{front_at, row_behind}
 use Rattle.mad_sections.specs.Gutters.{columns_of}
 use Rattle.mad_wrap.specs.WrapLines.{capped}
 use Rattle.mad_search.specs.Searches.{row_text}
-use Rattle.mad_hits.specs.HitLaws.{DrawnHitsStand, HasIndent, HitsChangeNoCharacter, IsCounted, IsCountedCell, StandsWithin}
+use Rattle.mad_hits.specs.Drawn.{marked_columns}
+use Rattle.mad_hits.specs.HitLaws.{cell_chars, DrawnHitsStand, HasIndent, HitsChangeNoCharacter, IsCounted, IsCountedCell, StandsWithin}
 use Rattle.mad_hits.specs.Hits.{AreTextHits, AreTextsHits, Marked, marked_at, placed_cells, placed_texts, text_column}
 use Rattle.mad_hits.specs.Overs.{overs_above, overs_below}
 use Rattle.mad_hits.specs.FrontHits.{hit_behind}
@@ -176,6 +182,28 @@ amid_stand skin width rest nf sought lines starts row hits (TableRule rule) f b 
 amid_stand skin width rest nf sought lines starts row hits HorizontalRule f b is narrow wide counted shown h =
     let it = own_of skin rest sought lines starts row hits HorizontalRule is h in none_stand _ (capped nf) it.0 hits it.1 it.2
 
+-- a row shows the same characters with tones
+
+same_chars : (gs : List Glyph) → cell_chars (map (told_cell (λ pen. plain_pen)) gs) ≡ cell_chars gs
+same_chars [] = refl
+same_chars (g ∷ gs) = ap (λ (cs : List (List ℕ)). g.chars ∷ cs) (same_chars gs)
+
+chars_same : (row other : List RowPiece) → told_cells (λ pen. plain_pen) row ≡ told_cells (λ pen. plain_pen) other → cell_chars (penned_cells (penned_chars row)) ≡ cell_chars (penned_cells (penned_chars other))
+chars_same row other e = sym (same_chars (penned_cells (penned_chars row))) ∙ ap cell_chars e ∙ same_chars (penned_cells (penned_chars other))
+
+part_chars : (k n : ℕ) (gs : List Glyph) → cell_chars (take k (drop n gs)) ≡ take k (drop n (cell_chars gs))
+part_chars k n gs = sym (take-map k (drop n gs)) ∙ ap (take k) (sym (drop-map n gs))
+
+-- so where a hit stands in it without, it does so with them
+stands_toned : (width : ℕ) (row other : List RowPiece) → told_cells (λ pen. plain_pen) row ≡ told_cells (λ pen. plain_pen) other → (hits : List Marked) → AllByRecursion (StandsWithin width other) hits → AllByRecursion (StandsWithin width row) hits
+stands_toned width row other e [] h = tt
+stands_toned width row other e (hit ∷ hits) h = (
+  λ within whole.
+    part_chars (marked_columns hit) hit.column (penned_cells (penned_chars row)) ∙ ap (λ (cs : List (List ℕ)). take (marked_columns hit) (drop hit.column cs)) (chars_same row other e)
+    ∙ sym (part_chars (marked_columns hit) hit.column (penned_cells (penned_chars other))) ∙ h.0 within whole,
+  stands_toned width row other e hits h.1,
+)
+
 pub hits_change_no_character : HitsChangeNoCharacter
 hits_change_no_character skin width sought lines front starts row hits line is narrow faces_shown counted shown h =
     let inner : RowSkin = line_skin skin front.gutters in
@@ -183,9 +211,10 @@ hits_change_no_character skin width sought lines front starts row hits line is n
     let f : List RowPiece = faces skin front.gutters front.fresh in
     let b : List RowPiece = backs skin front.gutters in
     let sides = faces_fill skin front.gutters front.fresh faces_shown counted.typed in
-    let same : page_row_pieces skin (Some width) true (row_behind front line) ≡ f ++ (line_pieces inner (Some rest) true line ++ b) = refl in
+    let told = row_told (λ pen. plain_pen) skin (Some width) true (row_behind front line) (λ v style. refl) shown in
     let row_shown : AreShownPieces (f ++ (line_pieces inner (Some rest) true line ++ b)) = all_joined IsShownPiece f _ sides.front.shown (all_joined IsShownPiece _ b shown sides.back.shown) in
-    amid_stand inner width rest (fronts skin front.gutters) sought lines starts row hits line f b is narrow sides.front.columns counted.counts row_shown h
+    stands_toned width (page_row_pieces skin (Some width) true (row_behind front line)) (f ++ (line_pieces inner (Some rest) true line ++ b)) told (map (hit_behind (capped (fronts skin front.gutters))) hits)
+    (amid_stand inner width rest (fronts skin front.gutters) sought lines starts row hits line f b is narrow sides.front.columns counted.counts row_shown h)
 
 pub drawn_hits_stand : DrawnHitsStand
 drawn_hits_stand skin width sought lines fs starts y [] bytes narrow faces_shown marked = tt

@@ -18,6 +18,7 @@ use Rattle.mad_hits.specs.Hits.{Marked}
 use Rattle.mad_hits.specs.FrontHits.{AreRowsMarked, hit_behind}
 use Rattle.mad_hits.specs.Parts.{AreRowHits}
 use Rattle.mad_page_rows.specs.FaceLaws.{AreFacesShown, IsTypedGutter, fronts}
+use Rattle.mad_page_rows.specs.ToneLaws.{without_marks}
 use Rattle.mad_page_rows.specs.Faces.{behind_pieces, has_ascii_boxes, line_skin, page_row_pieces}
 use Rattle.mad_pages.specs.Fronts.{FrontContent, front_at, row_behind}
 use Rattle.mad_pages.specs.declared.fronts.Front.{Front}
@@ -72,18 +73,18 @@ StandInRow skin width front line hits =
 -- ---- laws
 
 -- Marking hits changes no character of any cell of a row: those of its own text and its parts of those that go over a break stand in it, behind
--- what is in front of its line. The row has as many columns as the hits were found for.
+-- what is in front of its line. The row has as many columns as the hits were found for. Its line is shown, as it is without tones.
 abbrev pub HitsChangeNoCharacter : Type 0
 HitsChangeNoCharacter =
     (skin : RowSkin) (width : ℕ) (sought : List ℕ) (lines : List FmtLine) (front : FrontContent) (starts : List ℕ) (row : ℕ) (hits : List Marked) (line : FmtLine) → slice_get lines row ≡ Some line → width < 2 ^ 16
-    → AreFacesShown skin → IsCountedRow skin front line → AreShownPieces (behind_pieces skin (Some width) true (row_behind front line))
+    → AreFacesShown skin → IsCountedRow skin front line → AreShownPieces (behind_pieces skin (Some width) true (without_marks (row_behind front line)))
     → AreRowHits (line_skin skin front.gutters) (width - columns_of (has_ascii_boxes skin) front.gutters) sought lines starts row hits → StandInRow skin width front line hits
 
 -- each of the hits that these bytes show stands in its row
 abbrev pub RowsStand : (skin : RowSkin) (width : ℕ) (sought : List ℕ) (lines : List FmtLine) (fs : List Front) (starts : List ℕ) (y : ℕ) (rows bytes : List ℕ) → AreRowsMarked skin width sought lines fs starts y rows bytes → Type 0
 RowsStand skin width sought lines fs starts y [] bytes marked = Unit {0}
 RowsStand skin width sought lines fs starts y (row ∷ rows) bytes marked =
-    ((line : FmtLine) → slice_get lines row ≡ Some line → IsCountedRow skin (front_at fs row) line → AreShownPieces (behind_pieces skin (Some width) true (row_behind (front_at fs row) line))
+    ((line : FmtLine) → slice_get lines row ≡ Some line → IsCountedRow skin (front_at fs row) line → AreShownPieces (behind_pieces skin (Some width) true (without_marks (row_behind (front_at fs row) line)))
     → StandInRow skin width (front_at fs row) line marked.3.hits)
     × RowsStand skin width sought lines fs starts (y + 1) rows marked.1 marked.4
 

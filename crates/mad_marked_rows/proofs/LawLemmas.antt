@@ -52,10 +52,10 @@ compounds_told tell paint has runs skin style n (k ∷ ks) nothing utf8 =
     ∙ sym (told_joined tell (compound_piece skin style k ∷ []) (map (compound_piece skin style) ks))
 
 -- pieces amid others
-told_after : (tell : Look → Look) (xs ps qs : List RowPiece) → told_chars tell ps ≡ told_chars tell qs → told_chars tell (xs ++ ps) ≡ told_chars tell (xs ++ qs)
+pub told_after : (tell : Look → Look) (xs ps qs : List RowPiece) → told_chars tell ps ≡ told_chars tell qs → told_chars tell (xs ++ ps) ≡ told_chars tell (xs ++ qs)
 told_after tell xs ps qs e = told_joined tell xs ps ∙ ap (λ l. told_chars tell xs ++ l) e ∙ sym (told_joined tell xs qs)
 
-told_before : (tell : Look → Look) (ps qs xs : List RowPiece) → told_chars tell ps ≡ told_chars tell qs → told_chars tell (ps ++ xs) ≡ told_chars tell (qs ++ xs)
+pub told_before : (tell : Look → Look) (ps qs xs : List RowPiece) → told_chars tell ps ≡ told_chars tell qs → told_chars tell (ps ++ xs) ≡ told_chars tell (qs ++ xs)
 told_before tell ps qs xs e = told_joined tell ps xs ∙ ap (λ l. l ++ told_chars tell xs) e ∙ sym (told_joined tell qs xs)
 
 composite_told : (tell : Look → Look) (paint : ℕ → ContentStyle → ContentStyle) (has : CompositeKind → Flags → Bool) (runs : List MarkRun) (skin : RowSkin) (outer : Option ℕ) (margins : ℕ × ℕ) (filled : Bool) (n : ℕ) (l : FmtComposite) → TellsNothing tell paint
@@ -79,7 +79,7 @@ row_cells_told tell paint has runs skin ns (c ∷ cs) nothing utf8 =
     (told_after tell (vertical_piece skin ∷ []) _ _ (composite_told tell paint has runs skin None (0, 0) false (slice_index ns 0) c nothing utf8.0))
     ∙ told_after tell (cell_pieces skin c) _ _ (row_cells_told tell paint has runs skin (drop 1 ns) cs nothing utf8.1)
 
-chars_told : (tell : Look → Look) (paint : ℕ → ContentStyle → ContentStyle) (has : CompositeKind → Flags → Bool) (runs : List MarkRun) (skin : RowSkin) (outer : Option ℕ) (filled : Bool) (numbers : List ℕ) (line : FmtLine) → TellsNothing tell paint → AreTexts line
+pub chars_told : (tell : Look → Look) (paint : ℕ → ContentStyle → ContentStyle) (has : CompositeKind → Flags → Bool) (runs : List MarkRun) (skin : RowSkin) (outer : Option ℕ) (filled : Bool) (numbers : List ℕ) (line : FmtLine) → TellsNothing tell paint → AreTexts line
     → told_chars tell (marked_line paint has runs skin outer filled numbers line) ≡ told_chars tell (line_pieces skin outer filled line)
 chars_told tell paint has runs skin outer filled numbers (Normal l) nothing utf8 = composite_told tell paint has runs skin outer (margins_of skin outer l) filled (slice_index numbers 0) l nothing utf8.0
 chars_told tell paint has runs skin outer filled numbers (TableRow row) nothing utf8 =

@@ -1,12 +1,13 @@
 -- Lines with their tones.
 use Rattle.std.proofs.Common.{◌≡◌, ℕ, zero, suc, ◌-◌, Bool, true, List, [], ◌∷◌, ◌++◌, map, Option, Some, None, refl, subst}
 use Rattle.std.proofs.lemmas.Option.{same_Some}
-use Rattle.std.specs.Prelude.{slice_get, if◌then◌else◌}
+use Rattle.std.specs.Prelude.{slice_get, ◌||◌, if◌then◌else◌}
 use Rattle.std.specs.List.{AllByRecursion}
 use Rattle.std.specs.Str.{IsUtf8}
 use Rattle.mad_md.specs.declared.compound.Compound.{Compound}
 use Rattle.mad_term.specs.Styles.{IsStyle}
 use Rattle.mad_term.specs.declared.styles.ContentStyle.{ContentStyle}
+use Rattle.mad_screen.specs.Glyph.{Look}
 use Rattle.mad_style.specs.declared.compound_styles.CompoundStyle.{CompoundStyle}
 use Rattle.mad_style.specs.declared.line_styles.LineStyle.{LineStyle}
 use Rattle.mad_draw.specs.Pieces.{RowPiece, AreKnown, AreShownPieces, FillsRow, spaces}
@@ -21,10 +22,13 @@ use Rattle.mad_mark_runs.specs.declared.mark_runs.MarkRun.{MarkRun}
 use Rattle.mad_marks.specs.LineMarks.{has_mark}
 use Rattle.mad_marked_rows.specs.Paints.{paint_by, painted}
 use Rattle.mad_marked_rows.specs.RowLaws.{AreTexts}
-use Rattle.mad_marked_rows.proofs.LawLemmas.{line_fills, shown_left, shown_right}
+use Rattle.mad_marked_rows.specs.Told.{told_chars, TellsNothing}
+use Rattle.mad_marked_rows.proofs.LawLemmas.{chars_told, line_fills, shown_left, shown_right, told_after, told_before}
+use Rattle.mad_marked_rows.proofs.ToldLemmas.{same_cells}
 use Rattle.mad_marked_rows.proofs.LinkLawLemmas.{KeepsKnown, line_known}
 use Rattle.mad_pages.specs.Fronts.{FrontContent, row_behind}
-use Rattle.mad_page_rows.specs.Faces.{behind_pieces, has_ascii_boxes, line_skin, toned_pieces}
+use Rattle.mad_page_rows.specs.Faces.{backs, behind_pieces, columns_behind, faces, has_ascii_boxes, in_box, line_skin, page_row_pieces, toned_pieces}
+use Rattle.mad_page_rows.specs.ToneLaws.{TonesChangeNothing, without_marks}
 use Rattle.mad_sections.specs.Gutters.{columns_of}
 
 -- ---- texts
@@ -53,6 +57,31 @@ toned_fills width (run ∷ runs) (tone ∷ tones) n skin outer filled (Normal l)
 toned_fills width (run ∷ runs) (tone ∷ tones) n skin outer filled (TableRow row) h = h
 toned_fills width (run ∷ runs) (tone ∷ tones) n skin outer filled (TableRule rule) h = h
 toned_fills width (run ∷ runs) (tone ∷ tones) n skin outer filled HorizontalRule h = h
+
+-- ---- what is told of a row
+
+toned_told : (tell : Look → Look) (runs : List MarkRun) (tones : List CompoundStyle) (n : ℕ) (skin : RowSkin) (outer : Option ℕ) (filled : Bool) (line : FmtLine) → TellsNothing tell (paint_by tones)
+    → AreShownPieces (line_pieces skin outer filled line) → told_chars tell (toned_pieces runs tones n skin outer filled line) ≡ told_chars tell (line_pieces skin outer filled line)
+toned_told tell [] tones n skin outer filled line nothing h = refl
+toned_told tell (run ∷ runs) [] n skin outer filled line nothing h = refl
+toned_told tell (run ∷ runs) (tone ∷ tones) n skin outer filled (Normal l) nothing h =
+    chars_told tell (paint_by (tone ∷ tones)) has_mark (run ∷ runs) skin outer filled (n ∷ []) (Normal l) nothing (composite_texts skin outer (margins_of skin outer l) filled l h, tt)
+toned_told tell (run ∷ runs) (tone ∷ tones) n skin outer filled (TableRow row) nothing h = refl
+toned_told tell (run ∷ runs) (tone ∷ tones) n skin outer filled (TableRule rule) nothing h = refl
+toned_told tell (run ∷ runs) (tone ∷ tones) n skin outer filled HorizontalRule nothing h = refl
+
+-- THE LAW
+pub row_told : TonesChangeNothing
+row_told tell skin outer filled row nothing h =
+    let gutters = row.gutters in
+    let front : List RowPiece = faces skin gutters row.fresh in
+    let inner : RowSkin = line_skin skin gutters in
+    let columns : Option ℕ = columns_behind (has_ascii_boxes skin) outer gutters in
+    let plain : List RowPiece = line_pieces inner columns (filled || in_box skin gutters) row.line in
+    let toned : List RowPiece = behind_pieces skin outer filled row in
+    same_cells tell (page_row_pieces skin outer filled row) (page_row_pieces skin outer filled (without_marks row))
+    (told_after tell front (toned ++ backs skin gutters) (plain ++ backs skin gutters)
+    (told_before tell toned plain (backs skin gutters) (toned_told tell row.marks (tone_styles skin) row.number inner columns (filled || in_box skin gutters) row.line nothing h)))
 
 -- ---- colors
 

@@ -8,7 +8,7 @@ ghost use Rattle.mad_sections.specs.Sections.{section_content};
 ghost use Rattle.mad_pages.specs.PageLayouts.{BecomesAt};
 ghost use Rattle.mad_pages.specs.PageRows.{RowContent, row_content};
 ghost use Rattle.mad_page_rows.specs.Faces.{columns_behind, faces, has_ascii_boxes, page_row_bytes};
-ghost use Rattle.markdown_layout.specs.Looks.{change_look, changes_look};
+ghost use Rattle.markdown_layout.specs.Looks.{change_look, changes_look, looks_otherwise};
 ghost use Rattle.markdown_layout.specs.WrittenPages.{rows_bytes};
 
 use mad_page_rows::faces::has_boxes;
@@ -60,6 +60,13 @@ fn change_look(gutters: &[Gutter]) -> bool
         rest = next;
     }
     false
+}
+
+// Whether the line of a row may look otherwise than elsewhere: behind such a gutter, or with marks.
+fn looks_otherwise(row: &PageRow) -> bool
+    ensures { result ≡ looks_otherwise (row_content row.now) }
+{
+    change_look(row.gutters) || !row.marks.is_empty()
 }
 
 // A row whose line looks as elsewhere: the faces of its gutters, and its line.
@@ -120,7 +127,7 @@ pub fn append_page_row(
 ) -> Result<(), AllocError>
     ensures { OnOk result (string_bytes rows.new ≡ string_bytes rows.old ++ page_row_bytes skin.now width (row_content row.now)) }
 {
-    if change_look(row.gutters) {
+    if looks_otherwise(row) {
         append_placed_row(rows, row, width, skin)
     } else {
         append_open_row(rows, row, width, skin, commands)

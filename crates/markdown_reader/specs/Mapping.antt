@@ -74,7 +74,7 @@ with_last gutter m = record m { gutters = take (length m.gutters - 1) m.gutters 
 
 -- lines behind the gutters of all open containers; those begin with them of which nothing is shown yet, and the box of code
 abbrev pub section_of : Form → List LineContent → Mapping → SectionContent
-section_of form lines m = record { gutters = leaf_gutters form m.gutters; fresh = length (leaf_gutters form m.gutters) - m.seen; list = items_gutters form m.gutters; lines = lines }
+section_of form lines m = record { gutters = leaf_gutters form m.gutters; fresh = length (leaf_gutters form m.gutters) - m.seen; list = items_gutters form m.gutters; marks = []; lines = lines }
 
 -- one more section, by which something of all open containers is shown
 abbrev pub with_section : Form → List LineContent → Mapping → Mapping
@@ -82,7 +82,7 @@ with_section form lines m = record m { sections = m.sections ++ section_of form 
 
 -- A blank row is behind the gutters of the containers that both neighbours are in, up to the last bar: what is behind that is blank. No blank row is in a box.
 abbrev pub blank_row : Mapping → SectionContent
-blank_row m = record { gutters = up_to_bar (take m.seen m.gutters); fresh = 0; list = None; lines = empty_line Paragraph ∷ [] }
+blank_row m = record { gutters = up_to_bar (take m.seen m.gutters); fresh = 0; list = None; marks = []; lines = empty_line Paragraph ∷ [] }
 
 -- something is shown, and then blank lines came, or one of both is big
 abbrev pub is_spaced : Bool → Bool → Mapping → Bool

@@ -74,6 +74,7 @@ impl MarkdownSection {
             gutters: self.gutters.as_slice(),
             fresh: self.fresh,
             list: self.list_gutters(),
+            marks: &[],
             text: Text { lines },
         })
     }
