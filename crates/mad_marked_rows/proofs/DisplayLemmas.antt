@@ -1,22 +1,28 @@
 -- A text with marks as it is displayed, character by character.
-use Rattle.std.proofs.Common.{◌≡◌, ℕ, ◌+◌, ◌<◌, ◌≤◌, Bool, true, false, cond, List, [], ◌∷◌, ◌++◌, map, length, drop, get_or, refl, sym, ap, ◌∙◌, append_assoc, append-nil}
-use Rattle.std.specs.Fmt.{Formatter, HasWritten}
-use Rattle.std.specs.Prelude.{encode_utf8_all, chars}
+use Rattle.std.proofs.Common.{◌≡◌, ℕ, ◌+◌, ◌<◌, ◌≤◌, Bool, true, false, cond, List, [], ◌∷◌, ◌++◌, Option, map, length, drop, get_or, refl, sym, ap, ◌∙◌, append_assoc, append-nil}
+use Rattle.std.specs.Fmt.{HasWritten, IsPlainFormatter}
+use Rattle.std.specs.declared.fmt.Formatter.{Formatter}
+use Rattle.std.specs.Prelude.{encode_utf8_all, chars, if◌then◌else◌}
 use Rattle.std.specs.Char.{encode_utf8}
-use Rattle.std.proofs.Output.{has_written_append}
+use Rattle.std.proofs.Output.{has_written_append, has_written_of_eq}
 use Rattle.std.proofs.StrCases.{chars_of_empty}
 use Rattle.std.proofs.lemmas.List.{at_drop_more, drop_all}
-use Rattle.mad_md.specs.Flagged.{Flags, flagged_of}
+use Rattle.mad_md.specs.Flagged.{Flags, flagged_of, flags_of, run_of}
 use Rattle.mad_md.specs.declared.compound.Compound.{Compound}
 use Rattle.mad_term.specs.declared.styles.ContentStyle.{ContentStyle}
-use Rattle.mad_term.specs.Styles.{closing_bytes, opening_bytes}
-use Rattle.mad_draw.specs.Pieces.{pieces_bytes}
+use Rattle.mad_term.specs.Styles.{closing_bytes, opening_bytes, piece_bytes}
+use Rattle.mad_draw.specs.Pieces.{RowPiece, pieces_bytes, spaces}
 use Rattle.mad_draw.proofs.PieceLemmas.{bytes_both}
+use Rattle.mad_style.specs.declared.compound_styles.CompoundStyle.{CompoundStyle}
+use Rattle.mad_style.specs.declared.kinds.CompositeKind.{CompositeKind}
 use Rattle.mad_style.specs.declared.line_styles.LineStyle.{LineStyle}
+use Rattle.mad_format.specs.declared.composite.FmtComposite.{FmtComposite}
+use Rattle.mad_rows.specs.RowStyles.{compound_style, line_style}
+use Rattle.mad_rows.specs.Rows.{blanks_beside, compound_piece, inner_blanks, outer_blanks, prefix_pieces}
 use Rattle.mad_rows.specs.declared.row_skin.RowSkin.{RowSkin}
 use Rattle.mad_mark_runs.specs.declared.mark_runs.MarkRun.{MarkRun}
 use Rattle.mad_marks.specs.RowMarks.{counted}
-use Rattle.mad_marked_rows.specs.MarkedRows.{marked_compound, marked_compounds}
+use Rattle.mad_marked_rows.specs.MarkedRows.{marked_composite, marked_compound, marked_compounds}
 use Rattle.mad_marked_rows.specs.MarkedTexts.{first_char, mark_value, number_next, Letter, letters_of, goes_on, LetterPart, parts_from, part_char, part_piece, next_value, text_pieces}
 
 -- ---- what is written so far
@@ -34,6 +40,22 @@ wrote_more took f g h left own rest whole so_far one is = record {
   has = has_written_append took f so_far.wrote g own h so_far.has one;
   joins = append_assoc so_far.wrote own rest ∙ ap (λ (l : List ℕ). so_far.wrote ++ l) (sym is) ∙ so_far.joins;
 }
+
+-- nothing was written
+pub written_nothing : {W : Type 0} (took : W → List ℕ → W → Type 0) (f : Formatter W) → IsPlainFormatter f → HasWritten took f [] f
+written_nothing took f plain = record { wrote = record { parts = []; calls = refl; whole = refl }; plain = plain }
+
+pub wrote_nothing : {W : Type 0} (took : W → List ℕ → W → Type 0) (f : Formatter W) (whole : List ℕ) → IsPlainFormatter f → PartlyWritten took f whole whole f
+wrote_nothing took f whole plain = record { wrote = []; has = written_nothing took f plain; joins = refl }
+
+-- its front was written
+pub wrote_first : {W : Type 0} (took : W → List ℕ → W → Type 0) (f g : Formatter W) (own rest whole : List ℕ) → HasWritten took f own g → whole ≡ own ++ rest → PartlyWritten took f rest whole g
+wrote_first took f g own rest whole one is = record { wrote = own; has = one; joins = sym is }
+
+-- what was left was written
+pub wrote_all : {W : Type 0} (took : W → List ℕ → W → Type 0) (f g h : Formatter W) (left own whole : List ℕ) → PartlyWritten took f left whole g → HasWritten took g own h → left ≡ own → HasWritten took f whole h
+wrote_all took f g h left own whole so_far one is =
+    has_written_of_eq took f (so_far.wrote ++ own) whole h (ap (λ (l : List ℕ). so_far.wrote ++ l) (sym is) ∙ so_far.joins) (has_written_append took f so_far.wrote g own h so_far.has one)
 
 -- ---- a text
 
@@ -116,3 +138,64 @@ pub compounds_end : {W : Type 0} (took : W → List ℕ → W → Type 0) (f g :
     → (so_far : PartlyWritten took f (pieces_bytes (marked_compounds paint has runs skin style n (drop i ks))) whole g) → so_far.wrote ≡ whole
 compounds_end took f g paint has runs skin style ks i n whole past so_far =
     sym (append-nil so_far.wrote) ∙ ap (λ l. so_far.wrote ++ pieces_bytes (marked_compounds paint has runs skin style n l)) (sym (drop_all i ks past)) ∙ so_far.joins
+
+-- a compound that is counted, by what the code found
+pub counted_bytes : (paint : ℕ → ContentStyle → ContentStyle) (has : Flags → Bool) (runs : List MarkRun) (skin : RowSkin) (style : LineStyle) (n : ℕ) (k : Compound) (own : CompoundStyle) (t : Bool) → t ≡ has (flags_of k) → t ≡ true → own ≡ compound_style skin style (run_of k)
+    → pieces_bytes (text_pieces paint runs own.object_style n (chars k.src.now)) ≡ pieces_bytes (marked_compound paint has runs skin style n k)
+counted_bytes paint has runs skin style n k own t test holds own_is =
+    ap (λ (s : CompoundStyle). pieces_bytes (text_pieces paint runs s.object_style n (chars k.src.now))) own_is
+    ∙ ap (λ (u : Bool). pieces_bytes (cond u (text_pieces paint runs (compound_style skin style (run_of k)).object_style n (chars k.src.now)) (compound_piece skin style k ∷ []))) (sym holds ∙ test)
+
+-- one that isn't
+pub bare_bytes : (paint : ℕ → ContentStyle → ContentStyle) (has : Flags → Bool) (runs : List MarkRun) (skin : RowSkin) (style : LineStyle) (n : ℕ) (k : Compound) (own : CompoundStyle) (s : ContentStyle) (text : List ℕ) (t : Bool) → t ≡ has (flags_of k) → t ≡ false
+    → own ≡ compound_style skin style (run_of k) → s ≡ own.object_style → text ≡ k.src.now → piece_bytes s text ≡ pieces_bytes (marked_compound paint has runs skin style n k)
+bare_bytes paint has runs skin style n k own s text t test fails own_is style_is text_is =
+    ap (λ (x : ContentStyle). piece_bytes x text) (style_is ∙ ap (λ (o : CompoundStyle). o.object_style) own_is) ∙ ap (piece_bytes (compound_style skin style (run_of k)).object_style) text_is
+    ∙ sym (append-nil (piece_bytes (compound_style skin style (run_of k)).object_style k.src.now))
+    ∙ ap (λ (u : Bool). pieces_bytes (cond u (text_pieces paint runs (compound_style skin style (run_of k)).object_style n (chars k.src.now)) (compound_piece skin style k ∷ []))) (sym fails ∙ test)
+
+-- ---- characters
+
+pub part_goes : (paint : ℕ → ContentStyle → ContentStyle) (style : ContentStyle) (v other c : ℕ) (t : Bool) → t ≡ goes_on v other c → t ≡ true → encode_utf8 c ≡ part_char paint style v other c
+part_goes paint style v other c t test holds = ap (λ (u : Bool). cond u (encode_utf8 c) (closing_bytes (paint v style) ++ first_char paint style other c)) (sym holds ∙ test)
+
+pub part_changes : (paint : ℕ → ContentStyle → ContentStyle) (style : ContentStyle) (v other c : ℕ) (close : List ℕ) (t : Bool) → t ≡ goes_on v other c → t ≡ false → close ≡ closing_bytes (paint v style) → close ++ first_char paint style other c ≡ part_char paint style v other c
+part_changes paint style v other c close t test fails close_is =
+    ap (λ (l : List ℕ). l ++ first_char paint style other c) close_is ∙ ap (λ (u : Bool). cond u (encode_utf8 c) (closing_bytes (paint v style) ++ first_char paint style other c)) (sym fails ∙ test)
+
+-- ---- a composite
+
+asked_bytes : (right : Bool) (style : CompoundStyle) (n : ℕ) → pieces_bytes (spaces style (if right then n else 0)) ≡ pieces_bytes (if right then spaces style n else [])
+asked_bytes true style n = refl
+asked_bytes false style n = refl
+
+placed_joined : (front inner prefix text after last : List RowPiece) (end : List ℕ) → end ≡ pieces_bytes (after ++ last)
+    → (pieces_bytes (front ++ (inner ++ prefix)) ++ pieces_bytes text) ++ end ≡ pieces_bytes (front ++ (inner ++ (prefix ++ (text ++ (after ++ last)))))
+placed_joined front inner prefix text after last end end_is =
+    let whole : List RowPiece = text ++ (after ++ last) in
+    ap (λ (l : List ℕ). (pieces_bytes (front ++ (inner ++ prefix)) ++ pieces_bytes text) ++ l) end_is
+    ∙ append_assoc (pieces_bytes (front ++ (inner ++ prefix))) (pieces_bytes text) (pieces_bytes (after ++ last))
+    ∙ ap (λ (l : List ℕ). pieces_bytes (front ++ (inner ++ prefix)) ++ l) (sym (bytes_both text (after ++ last)))
+    ∙ sym (bytes_both (front ++ (inner ++ prefix)) whole)
+    ∙ ap pieces_bytes (append_assoc front (inner ++ prefix) whole ∙ ap (λ (l : List RowPiece). front ++ l) (append_assoc inner prefix whole))
+
+placed_bytes : (paint : ℕ → ContentStyle → ContentStyle) (has : CompositeKind → Flags → Bool) (runs : List MarkRun) (skin : RowSkin) (outer : Option ℕ) (margins : ℕ × ℕ) (filled : Bool) (n : ℕ) (l : FmtComposite)
+    → (pieces_bytes (spaces skin.paragraph.compound_style (blanks_beside (line_style skin l.kind).align outer margins filled l).0 ++ (spaces (line_style skin l.kind).compound_style (inner_blanks l).0 ++ prefix_pieces skin l.kind))
+    ++ pieces_bytes (marked_compounds paint (has l.kind) runs skin (line_style skin l.kind) n l.compounds.items))
+    ++ pieces_bytes (spaces (line_style skin l.kind).compound_style (inner_blanks l).1 ++ spaces skin.paragraph.compound_style (blanks_beside (line_style skin l.kind).align outer margins filled l).1)
+    ≡ pieces_bytes (marked_composite paint has runs skin outer margins filled n l)
+placed_bytes paint has runs skin outer margins filled n l =
+    let style = line_style skin l.kind in
+    let blanks = outer_blanks style.align outer margins l in
+    let after : List RowPiece = spaces style.compound_style (inner_blanks l).1 in
+    let last : List RowPiece = if filled then spaces skin.paragraph.compound_style blanks.1 else [] in
+    placed_joined (spaces skin.paragraph.compound_style blanks.0) (spaces style.compound_style (inner_blanks l).0) (prefix_pieces skin l.kind) (marked_compounds paint (has l.kind) runs skin style n l.compounds.items) after last
+    (pieces_bytes (after ++ spaces skin.paragraph.compound_style (if filled then blanks.1 else 0)))
+    (bytes_both after (spaces skin.paragraph.compound_style (if filled then blanks.1 else 0)) ∙ ap (λ (b : List ℕ). pieces_bytes after ++ b) (asked_bytes filled skin.paragraph.compound_style blanks.1) ∙ sym (bytes_both after last))
+
+-- what is in front of its compounds, they, and what is after them, by what the code found
+pub composite_bytes : (paint : ℕ → ContentStyle → ContentStyle) (has : CompositeKind → Flags → Bool) (runs : List MarkRun) (skin : RowSkin) (outer : Option ℕ) (margins : ℕ × ℕ) (filled : Bool) (n : ℕ) (l : FmtComposite) (style : LineStyle) (beside inner : ℕ × ℕ) (ks : List Compound)
+    → style ≡ line_style skin l.kind → beside ≡ blanks_beside style.align outer margins filled l → inner ≡ inner_blanks l → ks ≡ l.compounds.items
+    → (pieces_bytes (spaces skin.paragraph.compound_style beside.0 ++ (spaces style.compound_style inner.0 ++ prefix_pieces skin l.kind)) ++ pieces_bytes (marked_compounds paint (has l.kind) runs skin style n ks))
+    ++ pieces_bytes (spaces style.compound_style inner.1 ++ spaces skin.paragraph.compound_style beside.1) ≡ pieces_bytes (marked_composite paint has runs skin outer margins filled n l)
+composite_bytes paint has runs skin outer margins filled n l style beside inner ks style_is beside_is inner_is ks_are = rw beside_is (rw inner_is (rw style_is (rw ks_are (placed_bytes paint has runs skin outer margins filled n l))))

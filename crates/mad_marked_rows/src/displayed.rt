@@ -1,9 +1,10 @@
 //! A composite with marks as a displayed value: piece by piece, without memory. Its links aren't written.
 
-ghost use Rattle.std.specs.Prelude.{◌≡◌, ◌+◌, Some, IfOk, OnOk};
+ghost use Rattle.std.specs.Fmt.{WritesOnOk};
+ghost use Rattle.std.specs.Prelude.{◌≡◌, ◌+◌, Some, IfOk, OnOk, chars};
 ghost use Rattle.mad_draw.specs.Pieces.{pieces_bytes};
 ghost use Rattle.mad_md.specs.Flagged.{flagged_of};
-ghost use Rattle.mad_marked_rows.specs.MarkedTexts.{mark_value, next_value, number_next, SameFrom};
+ghost use Rattle.mad_marked_rows.specs.MarkedTexts.{mark_value, next_value, number_next, text_pieces, SameFrom};
 ghost use Rattle.mad_marked_rows.specs.Paints.{paint_by};
 ghost use Rattle.mad_marks.specs.LineMarks.{has_mark};
 ghost use Rattle.mad_marks.specs.RowMarks.{counted};
@@ -145,14 +146,14 @@ impl fmt::Display for MarkedCompound<'_, '_> {
     fn fmt<W: fmt::Write>(&self, f: &mut fmt::Formatter<W>) -> fmt::Result {
         let own = self.skin.compound_style(self.style, self.compound);
         if has_mark(self.kind, self.compound) {
-            let text = MarkedText {
-                styles: self.styles,
-                runs: self.runs,
-                number: self.number,
-                style: own.object_style,
-                text: self.compound.src,
-            };
-            text.fmt(f)
+            write_marked(
+                f,
+                self.styles,
+                self.runs,
+                self.number,
+                own.object_style,
+                self.compound.src,
+            )
         } else {
             let piece = own.apply_to(self.compound.src);
             piece.fmt(f)
@@ -160,54 +161,43 @@ impl fmt::Display for MarkedCompound<'_, '_> {
     }
 }
 
-// A text in a style, cut where its mark changes. All that isn't blank of it is counted.
-#[derive(Clone, Copy)]
-struct MarkedText<'a> {
-    styles: &'a [CompoundStyle],
-    runs: &'a [MarkRun],
+// Writes a text in a style, cut where its mark changes. All that isn't blank of it is counted.
+fn write_marked<W: fmt::Write>(
+    f: &mut fmt::Formatter<W>,
+    styles: &[CompoundStyle],
+    runs: &[MarkRun],
     number: usize,
     style: ContentStyle,
-    text: &'a str,
-}
-
-impl fmt::Display for MarkedText<'_> {
-    ghost use Rattle.std.specs.Prelude.{chars};
-    ghost use Rattle.mad_marked_rows.specs.MarkedTexts.{text_pieces};
-
-    ghost output = { λ t. Some (pieces_bytes (text_pieces (paint_by t.styles.now) t.runs.now t.style t.number (chars t.text.now))) };
-
-    fn fmt<W: fmt::Write>(&self, f: &mut fmt::Formatter<W>) -> fmt::Result {
-        let mut cursor = MarkCursor {
-            runs: self.runs,
-            number: self.number,
-        };
-        let mut rest = self.text.chars();
-        let Some(first) = rest.next() else {
-            return Ok(());
-        };
-        let mut value = mark_of_next(&mut cursor, first)?;
-        let begun = FirstChar {
-            styles: self.styles,
-            style: self.style,
+    text: &str,
+) -> fmt::Result
+    ensures { WritesOnOk W.write_str_gives f.old result (pieces_bytes (text_pieces (paint_by styles.now) runs.now style number (chars text.now))) f.new }
+{
+    let mut cursor = MarkCursor { runs, number };
+    let mut rest = text.chars();
+    let Some(first) = rest.next() else {
+        return Ok(());
+    };
+    let mut value = mark_of_next(&mut cursor, first)?;
+    let begun = FirstChar {
+        styles,
+        style,
+        value,
+        c: first,
+    };
+    begun.fmt(f)?;
+    while let Some(c) = rest.next() {
+        let other = mark_of_next(&mut cursor, c)?;
+        let next = PartChar {
+            styles,
+            style,
             value,
-            c: first,
+            other,
+            c,
         };
-        begun.fmt(f)?;
-        while let Some(c) = rest.next() {
-            let other = mark_of_next(&mut cursor, c)?;
-            let next = PartChar {
-                styles: self.styles,
-                style: self.style,
-                value,
-                other,
-                c,
-            };
-            next.fmt(f)?;
-            value = part_after(value, other, c);
-        }
-        let closing = closing_text(style_of_mark(self.styles, value, self.style));
-        f.write_str(closing)
+        next.fmt(f)?;
+        value = part_after(value, other, c);
     }
+    f.write_str(closing_text(style_of_mark(styles, value, style)))
 }
 
 // The mark of the next character, which is passed.

@@ -2,7 +2,7 @@
 
 ghost use Rattle.std.specs.Prelude.{◌≡◌, ◌++◌, IfOk, OnOk, map, replicate};
 ghost use Rattle.code_tones.specs.Tones.{tones_of};
-ghost use Rattle.mad_mark_runs.specs.Values.{AreRising, values_of};
+ghost use Rattle.mad_mark_runs.specs.Values.{AreRising, end_from, joined_from, values_of};
 ghost use Rattle.markdown_marks.specs.Remaining.{remaining};
 ghost use Rattle.markdown_tones.specs.CodeSource.{code_source};
 
@@ -27,6 +27,7 @@ pub fn push_code_tones(
     requires { AreRising 0 runs.old.items }
     ensures rising { AreRising 0 runs.new.items }
     ensures values { OnOk result (values_of runs.new.items ≡ values_of runs.old.items ++ tones_of language (code_source (map remaining lines.now))) }
+    ensures runs { OnOk result (runs.new.items ≡ runs.old.items ++ joined_from (end_from 0 runs.old.items) 0 0 (tones_of language (code_source (map remaining lines.now)))) }
 {
     let source = code_source(alloc, lines)?;
     push_tones(alloc, language, &source, runs)
