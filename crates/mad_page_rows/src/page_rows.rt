@@ -116,28 +116,35 @@ impl fmt::Display for TonedLine<'_, '_> {
     ghost output = { λ l. Some (pieces_bytes (toned_pieces l.marks.now l.tones.now l.number l.skin.now l.outer l.filled l.line.now)) };
 
     fn fmt<W: fmt::Write>(&self, f: &mut fmt::Formatter<W>) -> fmt::Result {
-        match (self.marks, self.tones, self.line) {
-            ([_, ..], [_, ..], FmtLine::Normal(composite)) => {
-                let placed = PlacedComposite::at(self.skin, composite, self.outer, self.filled);
-                let marked = MarkedComposite {
-                    skin: self.skin,
-                    styles: self.tones,
-                    runs: self.marks,
-                    number: self.number,
-                    composite,
-                    place: placed.place,
-                };
-                marked.fmt(f)
-            }
-            _ => {
-                let placed = PlacedLine {
-                    skin: self.skin,
-                    line: self.line,
-                    outer: self.outer,
-                    filled: self.filled,
-                };
-                placed.fmt(f)
-            }
+        let plain = PlacedLine {
+            skin: self.skin,
+            line: self.line,
+            outer: self.outer,
+            filled: self.filled,
+        };
+        match self.marks {
+            [] => plain.fmt(f),
+            [_, ..] => match self.tones {
+                [] => plain.fmt(f),
+                [_, ..] => match self.line {
+                    FmtLine::Normal(composite) => {
+                        let placed =
+                            PlacedComposite::at(self.skin, composite, self.outer, self.filled);
+                        let marked = MarkedComposite {
+                            skin: self.skin,
+                            styles: self.tones,
+                            runs: self.marks,
+                            number: self.number,
+                            composite,
+                            place: placed.place,
+                        };
+                        marked.fmt(f)
+                    }
+                    FmtLine::TableRow(_) | FmtLine::TableRule(_) | FmtLine::HorizontalRule => {
+                        plain.fmt(f)
+                    }
+                },
+            },
         }
     }
 }

@@ -211,6 +211,7 @@ fn steadied_one(alloc: Global, section: MarkdownSection) -> Result<MarkdownSecti
         gutters: section.gutters,
         fresh: section.fresh,
         list: section.list,
+        marks: section.marks,
         lines,
     })
 }
