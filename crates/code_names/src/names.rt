@@ -46,13 +46,7 @@ fn is_before_word(b: u8) -> bool
 fn ends_word(b: u8) -> bool
     ensures { result ≡ ends_word b }
 {
-    b == b' '
-        || b == b'\t'
-        || b == b','
-        || b == b'{'
-        || b == b'}'
-        || b == b':'
-        || b == b';'
+    b == b' ' || b == b'\t' || b == b',' || b == b'{' || b == b'}' || b == b':' || b == b';'
 }
 
 // Whether the first word is this name.

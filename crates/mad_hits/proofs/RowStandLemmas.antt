@@ -199,8 +199,8 @@ stands_toned : (width : ℕ) (row other : List RowPiece) → told_cells (λ pen.
 stands_toned width row other e [] h = tt
 stands_toned width row other e (hit ∷ hits) h = (
   λ within whole.
-    part_chars (marked_columns hit) hit.column (penned_cells (penned_chars row)) ∙ ap (λ (cs : List (List ℕ)). take (marked_columns hit) (drop hit.column cs)) (chars_same row other e)
-    ∙ sym (part_chars (marked_columns hit) hit.column (penned_cells (penned_chars other))) ∙ h.0 within whole,
+      part_chars (marked_columns hit) hit.column (penned_cells (penned_chars row)) ∙ ap (λ (cs : List (List ℕ)). take (marked_columns hit) (drop hit.column cs)) (chars_same row other e)
+      ∙ sym (part_chars (marked_columns hit) hit.column (penned_cells (penned_chars other))) ∙ h.0 within whole,
   stands_toned width row other e hits h.1,
 )
 

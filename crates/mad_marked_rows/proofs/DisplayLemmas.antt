@@ -69,28 +69,30 @@ more_text [] c rest = ap (λ l. l ++ rest) (append-nil (encode_utf8 c))
 more_text (d ∷ cs) c rest =
     append_assoc (encode_utf8 d) (encode_utf8_all (cs ++ c ∷ [])) rest ∙ ap (λ l. encode_utf8 d ++ l) (more_text cs c rest) ∙ sym (append_assoc (encode_utf8 d) (encode_utf8_all cs) (encode_utf8 c ++ rest))
 
+by_part : (paint : ℕ → ContentStyle → ContentStyle) (style : ContentStyle) (p : LetterPart) (c : Letter) (cs : List Letter) (t : Bool)
+    → ((q : LetterPart) → pieces_bytes (map (part_piece paint style) (parts_from q cs)) ≡ opening_bytes (paint q.value style) ++ (encode_utf8_all q.chars ++ left_of paint style q.value cs))
+    → pieces_bytes (map (part_piece paint style) (cond t (parts_from (record { value = p.value; chars = p.chars ++ c.char ∷ [] }) cs) (p ∷ parts_from (record { value = c.value; chars = c.char ∷ [] }) cs)))
+    ≡ opening_bytes (paint p.value style) ++ (encode_utf8_all p.chars ++ (cond t (encode_utf8 c.char) (closing_bytes (paint p.value style) ++ first_char paint style c.value c.char) ++ left_of paint style (cond t p.value c.value) cs))
+by_part paint style p c cs true more =
+    more (record { value = p.value; chars = p.chars ++ c.char ∷ [] }) ∙ ap (λ (l : List ℕ). opening_bytes (paint p.value style) ++ l) (more_text p.chars c.char (left_of paint style p.value cs))
+by_part paint style p c cs false more =
+    let begin = opening_bytes (paint p.value style) in
+    let text = encode_utf8_all p.chars in
+    let close = closing_bytes (paint p.value style) in
+    let first = opening_bytes (paint c.value style) in
+    let left = left_of paint style c.value cs in
+    let other : LetterPart = record { value = c.value; chars = c.char ∷ [] } in
+    let rest : pieces_bytes (map (part_piece paint style) (parts_from other cs)) ≡ (first ++ encode_utf8 c.char) ++ left =
+    more other ∙ ap (λ (l : List ℕ). first ++ (l ++ left)) (append-nil (encode_utf8 c.char)) ∙ sym (append_assoc first (encode_utf8 c.char) left) in
+    ap (λ (l : List ℕ). (begin ++ (text ++ close)) ++ l) rest
+    ∙ append_assoc begin (text ++ close) ((first ++ encode_utf8 c.char) ++ left)
+    ∙ ap (λ (l : List ℕ). begin ++ l) (append_assoc text close ((first ++ encode_utf8 c.char) ++ left))
+    ∙ ap (λ (l : List ℕ). begin ++ (text ++ l)) (sym (append_assoc close (first ++ encode_utf8 c.char) left))
+
 from_part : (paint : ℕ → ContentStyle → ContentStyle) (style : ContentStyle) (p : LetterPart) (cs : List Letter)
     → pieces_bytes (map (part_piece paint style) (parts_from p cs)) ≡ opening_bytes (paint p.value style) ++ (encode_utf8_all p.chars ++ left_of paint style p.value cs)
-from_part paint style p [] = append-nil _
-from_part paint style p (c ∷ cs) = by_part (goes_on p.value c.value c.char)
-  where
-    on : LetterPart
-    on = record { value = p.value; chars = p.chars ++ c.char ∷ [] }
-    other : LetterPart
-    other = record { value = c.value; chars = c.char ∷ [] }
-    by_part : (t : Bool) → pieces_bytes (map (part_piece paint style) (cond t (parts_from on cs) (p ∷ parts_from other cs)))
-        ≡ opening_bytes (paint p.value style) ++ (encode_utf8_all p.chars ++ (cond t (encode_utf8 c.char) (closing_bytes (paint p.value style) ++ first_char paint style c.value c.char) ++ left_of paint style (cond t p.value c.value) cs))
-    by_part true = from_part paint style on cs ∙ ap (λ l. opening_bytes (paint p.value style) ++ l) (more_text p.chars c.char (left_of paint style p.value cs))
-    by_part false =
-        let open_ = opening_bytes (paint p.value style) in
-        let text = encode_utf8_all p.chars in
-        let close = closing_bytes (paint p.value style) in
-        let first = opening_bytes (paint c.value style) in
-        let left = left_of paint style c.value cs in
-        let rest : pieces_bytes (map (part_piece paint style) (parts_from other cs)) ≡ (first ++ encode_utf8 c.char) ++ left =
-        from_part paint style other cs ∙ ap (λ l. first ++ (l ++ left)) (append-nil (encode_utf8 c.char)) ∙ sym (append_assoc first (encode_utf8 c.char) left) in
-        ap (λ l. (open_ ++ (text ++ close)) ++ l) rest ∙ append_assoc open_ (text ++ close) ((first ++ encode_utf8 c.char) ++ left) ∙ ap (λ l. open_ ++ l) (append_assoc text close ((first ++ encode_utf8 c.char) ++ left))
-        ∙ ap (λ l. open_ ++ (text ++ l)) (sym (append_assoc close (first ++ encode_utf8 c.char) left))
+from_part paint style p [] = append-nil (opening_bytes (paint p.value style) ++ (encode_utf8_all p.chars ++ closing_bytes (paint p.value style)))
+from_part paint style p (c ∷ cs) = by_part paint style p c cs (goes_on p.value c.value c.char) (λ q. from_part paint style q cs)
 
 -- a text that begins with a character
 pub text_begins : (paint : ℕ → ContentStyle → ContentStyle) (runs : List MarkRun) (style : ContentStyle) (text rest : List ℕ) (n c v m : ℕ) → chars text ≡ c ∷ chars rest → v ≡ mark_value runs n c → m ≡ number_next n c

@@ -128,8 +128,12 @@ impl fmt::Display for TonedLine<'_, '_> {
                 [] => plain.fmt(f),
                 [_, ..] => match self.line {
                     FmtLine::Normal(composite) => {
-                        let placed =
-                            PlacedComposite::at(self.skin, composite, self.outer, self.filled);
+                        let placed = PlacedComposite::at(
+                            self.skin,
+                            composite,
+                            self.outer,
+                            self.filled,
+                        );
                         let marked = MarkedComposite {
                             skin: self.skin,
                             styles: self.tones,

@@ -6,7 +6,7 @@ use Rattle.std.proofs.lemmas.Str.{IsUtf8-past_char, chars_past_char}
 use Rattle.mad_term.specs.Styles.{closing_bytes}
 use Rattle.mad_marked_rows.specs.Paints.{paint_by}
 use Rattle.mad_marked_rows.proofs.CursorLemmas.{mark_same, number_up, same_joined}
-use Rattle.mad_marked_rows.proofs.DisplayLemmas.{no_text, text_begins, text_ends, text_goes, wrote_all, wrote_first, wrote_more}
+use Rattle.mad_marked_rows.proofs.DisplayLemmas.{no_text, text_begins, text_ends, text_goes, wrote_all, wrote_first, wrote_more, written_nothing}
 use Rattle.mad_marked_rows.proofs.displayed.write_marked.Goals as goal
 
 pub loop-c-init : goal.loop-c-init
@@ -40,7 +40,7 @@ loop-c-preserved g c =
 
 pub returns-in_default : goal.returns-in_default
 returns-in_default g c = λ plain ok.
-    has_written_of_eq _ _ _ _ _ (no_text (paint_by c.args.styles.now) c.args.runs.now c.args.style c.args.text.now c.args.number (ap length (sym c.chars-rest.ensures.rest) ∙ c.in_default.ensures.steps.0.0)) (wrote_nothing _ _ plain)
+    has_written_of_eq _ _ _ _ _ (no_text (paint_by c.args.styles.now) c.args.runs.now c.args.style c.args.text.now c.args.number (ap length (sym c.chars-rest.ensures.rest) ∙ c.in_default.ensures.steps.0.0)) (written_nothing _ _ plain)
 
 pub returns : goal.returns
 returns g c = λ plain ok.
