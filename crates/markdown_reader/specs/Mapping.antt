@@ -39,7 +39,8 @@ pub record LinkSaid : Type 0 where
 
 -- The sections so far with their links, and what the next ones depend on: the gutters of the open containers, the outermost first; of how many of them, the
 -- outermost, something is shown; outside and for each of them the list whose item began last; whether blank lines came before the last item, since it began,
--- and since something was shown last; whether anything was, and whether that wants blank rows beside it.
+-- and since something was shown last; whether anything was, and whether that wants blank rows beside it. Last come the marks
+-- of the next section.
 pub record Mapping : Type 0 where
   pub sections : List SectionContent
   pub links : List LinkSaid
