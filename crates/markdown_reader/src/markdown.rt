@@ -211,7 +211,6 @@ fn steadied_one(alloc: Global, section: MarkdownSection) -> Result<MarkdownSecti
         gutters: section.gutters,
         fresh: section.fresh,
         list: section.list,
-        marks: section.marks,
         lines,
     })
 }
