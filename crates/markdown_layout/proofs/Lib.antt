@@ -1,9 +1,9 @@
-mod DrawnLemmas
 mod LookLemmas
 mod MarkLemmas
 mod WideColumns
 mod WrittenLemmas
 pub mod CellLemmas
+pub mod DrawnLemmas
 pub mod KeptLemmas
 pub mod NestedRowLemmas
 pub mod ShownLemmas
