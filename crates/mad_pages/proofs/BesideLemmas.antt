@@ -354,7 +354,7 @@ rows_are rules ascii width groups paged is row line found =
 
 section_text : (rules : LineRules) (ascii : Bool) (width : Option ℕ) (section : SectionContent) (rows : List RowContent) → IsSectionAt rules ascii width section rows → IsTextAt rules ascii width section (map line_of rows)
 section_text rules ascii width section rows h =
-    subst (λ (lines : List FmtLine). IsTextAt rules ascii width section lines) (sym (ap (map line_of) h.rows_are ∙ lines_behind (shown ascii width section.gutters) section.fresh h.lines)) h.layout
+    subst (λ (lines : List FmtLine). IsTextAt rules ascii width section lines) (sym (ap (map line_of) h.rows_are ∙ lines_behind (shown ascii width section.gutters) section.fresh section.marks 0 h.lines)) h.layout
 
 sections_text : (rules : LineRules) (ascii : Bool) (width : Option ℕ) (sections : List SectionContent) (rows : List RowContent) → EachBecomes (IsSectionAt rules ascii width) sections rows → EachBecomes (IsTextAt rules ascii width) sections (map line_of rows)
 sections_text rules ascii width [] rows h = ap (map line_of) h
