@@ -192,7 +192,7 @@ chars_same : (row other : List RowPiece) → told_cells (λ pen. plain_pen) row 
 chars_same row other e = sym (same_chars (penned_cells (penned_chars row))) ∙ ap cell_chars e ∙ same_chars (penned_cells (penned_chars other))
 
 part_chars : (k n : ℕ) (gs : List Glyph) → cell_chars (take k (drop n gs)) ≡ take k (drop n (cell_chars gs))
-part_chars k n gs = sym (take-map k (drop n gs)) ∙ ap (take k) (sym (drop-map n gs))
+part_chars k n gs = sym (take-map (λ (g : Glyph). g.chars) k (drop n gs)) ∙ ap (take k) (sym (drop-map (λ (g : Glyph). g.chars) n gs))
 
 -- so where a hit stands in it without, it does so with them
 stands_toned : (width : ℕ) (row other : List RowPiece) → told_cells (λ pen. plain_pen) row ≡ told_cells (λ pen. plain_pen) other → (hits : List Marked) → AllByRecursion (StandsWithin width other) hits → AllByRecursion (StandsWithin width row) hits

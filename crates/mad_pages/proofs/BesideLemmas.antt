@@ -1,5 +1,5 @@
 -- Pages that are laid out as lines and fronts, section by section.
-use Rattle.std.proofs.Common.{◌≡◌, ℕ, suc, ◌+◌, ◌<◌, ◌≤◌, Bool, List, [], ◌∷◌, ◌++◌, drop, get_or, map, length, Option, Some, None, refl, ap, sym, ◌∙◌, subst, arith, append_assoc, append-nil, length-append}
+use Rattle.std.proofs.Common.{◌≡◌, ℕ, suc, ◌+◌, ◌<◌, ◌≤◌, Bool, List, [], ◌∷◌, ◌++◌, drop, drop_at, get_or, map, length, Option, Some, None, refl, ap, sym, ◌∙◌, subst, arith, append_assoc, append-nil, length-append}
 use Rattle.std.specs.Prelude.{slice_get, option_map}
 use Rattle.std.specs.List.{flat_map}
 use Rattle.std.proofs.lemmas.Option.{same_Some, slice_get-map}
@@ -154,10 +154,6 @@ pub fronts_whole : (fronts whole : List FrontContent) (gutters : List Gutter) (f
 fronts_whole fronts whole gutters fresh marks n lines i past h =
     sym (append-nil fronts) ∙ ap (λ (ls : List FmtLine). fronts ++ map front_of (behind gutters fresh marks n ls)) (sym (drop_all i lines past)) ∙ h
 
-dropped : {A : Type 0} (xs ys : List A) → drop (length xs) (xs ++ ys) ≡ ys
-dropped [] ys = refl
-dropped (x ∷ xs) ys = dropped xs ys
-
 -- one is there, where its parts and its fronts are
 pub section_added : (rules : LineRules) (ascii : Bool) (width : Option ℕ) (section : SectionContent) (old new : PagedPage) (above : ℕ) (below : List FmtLine)
     → ArePartsAdded rules (room ascii width section.gutters) section.lines old.lines.items old.parts.items new.lines.items new.parts.items → above ≡ length old.lines.items → below ≡ drop above new.lines.items
@@ -165,7 +161,7 @@ pub section_added : (rules : LineRules) (ascii : Bool) (width : Option ℕ) (sec
 section_added rules ascii width section old new above below h above_is below_is fronts =
     let own = behind (shown ascii width section.gutters) section.fresh section.marks 0 h.own in
     let lines : map line_of own ≡ h.own = lines_behind (shown ascii width section.gutters) section.fresh section.marks 0 h.own in
-    let here : below ≡ h.own = below_is ∙ ap (λ (n : ℕ). drop n new.lines.items) above_is ∙ ap (λ (l : List FmtLine). drop (length old.lines.items) l) h.lines ∙ dropped old.lines.items h.own in
+    let here : below ≡ h.own = below_is ∙ ap (λ (n : ℕ). drop n new.lines.items) above_is ∙ ap (λ (l : List FmtLine). drop (length old.lines.items) l) h.lines ∙ drop_at old.lines.items h.own (length old.lines.items) refl in
     record {
       own = own;
       ends = h.ends;

@@ -42,8 +42,9 @@ use Rattle.mad_sections.specs.declared.gutters.Gutter.{Gutter}
 use Rattle.mad_sections.specs.declared.gutters.Gutter.TheVariants as gutter
 use Rattle.mad_sections.specs.declared.gutters.Gutter.TheVariants.{Bar, AlertBar, Bullet, Number, Task, Signs, Below}
 use Rattle.mad_sections.proofs.Choices.{by_bool}
+use Rattle.mad_mark_runs.specs.declared.mark_runs.MarkRun.{MarkRun}
 use Rattle.mad_pages.specs.PageRows.{RowContent}
-use Rattle.mad_page_rows.specs.Faces.{has_ascii_boxes, has_boxes, alert_bar, below_char, box_piece, heading_sign, blanks, code_blanks, code_face, first_face, other_face, face, faces, columns_behind, back_columns, backs, level_above, in_box, ruled, line_skin, behind_pieces, page_row_pieces, page_row_bytes}
+use Rattle.mad_page_rows.specs.Faces.{has_ascii_boxes, has_boxes, alert_bar, below_char, box_piece, heading_sign, blanks, code_blanks, code_face, first_face, other_face, face, faces, columns_behind, back_columns, backs, level_above, in_box, ruled, line_skin, behind_pieces, page_row_pieces, page_row_bytes, toned_pieces}
 use Rattle.mad_page_skin.specs.PlainSkins.{plain_skin}
 use Rattle.markdown_layout.specs.WrittenPages.{dressed_bytes}
 use Rattle.markdown_page_laws.specs.Marks.{Mark, blank, quote_bar, bar_of, bullet, number, after_number, box, signs, rule, rule_below, border, rule_start, rule_over, rule_between, rule_end, mark_text, AreTextAndMarks, runs_in}
@@ -231,6 +232,11 @@ bare_faces : (first : Bool) (gs : List Gutter) → AreBare (flat_map (face plain
 bare_faces first [] = tt
 bare_faces first (g ∷ gs) = bare_both (face plain_rows first g) (flat_map (face plain_rows first) gs) (if_bare first (first_face plain_rows g) (other_face plain_rows g) (bare_first g) (bare_other g)) (bare_faces first gs)
 
+-- the skin has no tones: a line with marks is as without
+bare_toned : (marks : List MarkRun) (n : ℕ) (skin : RowSkin) (outer : Option ℕ) (filled : Bool) (line : FmtLine) → AreBare (line_pieces skin outer filled line) → AreBare (toned_pieces marks [] n skin outer filled line)
+bare_toned [] n skin outer filled line h = h
+bare_toned (run ∷ runs) n skin outer filled line h = h
+
 bare_row : (outer : Option ℕ) (filled : Bool) (row : RowContent) → AreBare (page_row_pieces plain_rows outer filled row)
 bare_row outer filled row =
     let count : ℕ = length row.gutters - row.fresh in
@@ -239,7 +245,8 @@ bare_row outer filled row =
     let own : List RowPiece = behind_pieces plain_rows outer filled row in
     bare_both (faces plain_rows row.gutters row.fresh) (own ++ backs plain_rows row.gutters) (bare_both others firsts (bare_faces false (take count row.gutters)) (bare_faces true (drop count row.gutters)))
     (bare_both own (backs plain_rows row.gutters)
-    (bare_ruled (level_above row.gutters) (columns_behind (has_ascii_boxes plain_rows) outer row.gutters) (filled || in_box plain_rows row.gutters) row.line)
+    (bare_toned row.marks row.number (line_skin plain_rows row.gutters) (columns_behind (has_ascii_boxes plain_rows) outer row.gutters) (filled || in_box plain_rows row.gutters) row.line
+    (bare_ruled (level_above row.gutters) (columns_behind (has_ascii_boxes plain_rows) outer row.gutters) (filled || in_box plain_rows row.gutters) row.line))
     (bare_spaces unstyled (back_columns plain_rows row.gutters) nothing_set))
 
 -- pieces without style are written as their texts
