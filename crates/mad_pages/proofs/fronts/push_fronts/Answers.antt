@@ -1,13 +1,14 @@
-use Rattle.std.proofs.Common.{◌++◌, map}
+use Rattle.std.proofs.Common.{◌++◌, ◌∙◌, ap, map}
 use Rattle.mad_pages.specs.Fronts.{front_content, front_of}
-use Rattle.mad_pages.specs.PageRows.{behind}
+use Rattle.mad_pages.specs.PageRows.{behind, number_behind}
 use Rattle.mad_pages.proofs.BesideLemmas.{front_more, fronts_whole}
 use Rattle.mad_pages.proofs.fronts.push_fronts.Goals as goal
 
 pub loop-line-preserved : goal.loop-line-preserved
 loop-line-preserved c =
     front_more c.loop-line.fronts.items c.push.new.self.items (record { gutters = c.args.gutters; fresh = c.loop-line.here; marks = c.loop-line.left; number = c.loop-line.number }) _ c.marks_from-left.result.now c.in_ok-number.number
-    c.args.lines.now c.loop-line.line-index _ c.loop-line-test.true c.in_ok-push.ensures.items c.in_ok-number.ensures c.marks_from-left.ensures c.loop-line.invariant
+    c.args.lines.now c.loop-line.line-index c.line-item.result c.loop-line-test.true c.in_ok-push.ensures.items
+    (c.in_ok-number.ensures ∙ ap (number_behind c.loop-line.left.now c.loop-line.number) c.line-item.is) c.marks_from-left.ensures c.loop-line.invariant
 
 pub returns : goal.returns
 returns c =
