@@ -1,4 +1,5 @@
 mod DrawnLemmas
+pub mod EndLemmas
 mod LookLemmas
 mod MarkLemmas
 mod WideColumns

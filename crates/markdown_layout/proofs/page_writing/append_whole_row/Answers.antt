@@ -1,7 +1,7 @@
 use Rattle.std.proofs.Common.{◌≡◌, ◌++◌, ℕ, List, OnOk, string_bytes, subst, sym, ◌∙◌}
 use Rattle.mad_pages.specs.PageRows.{row_content}
 use Rattle.markdown_layout.proofs.LookLemmas.{open_row}
-use Rattle.markdown_layout.proofs.page_writing.append_page_row.Goals as goal
+use Rattle.markdown_layout.proofs.page_writing.append_whole_row.Goals as goal
 
 pub returns-else-change_look : goal.returns-else-change_look
 returns-else-change_look c =
