@@ -28,7 +28,7 @@ use Rattle.mad_json.specs.Faults.{SkinFault, at_key, wrong_kind}
 use Rattle.mad_json.specs.ReadsBack.{ReadsBackChar, ReadsBackStyle}
 use Rattle.mad_json.specs.Texts.{and_next, of_text, value_said}
 use Rattle.mad_json.specs.Written.{char_data, style_data}
-use Rattle.mad_page_json.specs.Lookups.{at_fault, headings_under, part_found, parts_under, rules_found, signs_found}
+use Rattle.mad_page_json.specs.Lookups.{at_fault, headings_under, part_found, parts_under, rules_found, choice_found}
 use Rattle.mad_page_json.specs.Named.{named_said}
 use Rattle.mad_page_json.specs.PageReading.{page_of, page_under}
 use Rattle.mad_page_json.specs.PageReadsBack.{PageReadsBack}
@@ -148,12 +148,15 @@ chars_said (named ∷ parts) reads written = (ap of_text (reads.0 written.0 42),
 -- ---- a page
 
 headings_back : (ms : Members) (headings old : HeadingMarks) → headings.rules < 256 → get_member (codes "rules") ms ≡ Some (number (unsigned headings.rules)) → get_member (codes "signs") ms ≡ Some (boolean headings.signs)
-    → headings_under (object ms) old ≡ Ok headings
-headings_back ms headings old small rules signs =
+    → get_member (codes "words") ms ≡ Some (boolean headings.words) → headings_under (object ms) old ≡ Ok headings
+headings_back ms headings old small rules signs words =
     let fits : nat_lt headings.rules 256 ≡ true = grind (arith, nat_tests, small) in
-    ap (λ (found : Option Data). and_next (rules_found found old.rules) (λ r. and_next (signs_found (get_member (codes "signs") ms) old.signs) (λ s. Ok (record { rules = r; signs = s })))) rules
-    ∙ ap (λ (t : Bool). and_next (if t then Ok headings.rules else Err (at_key (codes "rules") wrong_kind)) (λ r. and_next (signs_found (get_member (codes "signs") ms) old.signs) (λ s. Ok (record { rules = r; signs = s })))) fits
-    ∙ ap (λ (found : Option Data). and_next (signs_found found old.signs) (λ s. Ok (record { rules = headings.rules; signs = s }))) signs
+    let wording = λ (r : ℕ) (s : Bool) (found : Option Data). and_next (choice_found (codes "words") found old.words) (λ w. Ok (record { rules = r; signs = s; words = w })) in
+    let signing = λ (r : ℕ) (found : Option Data). and_next (choice_found (codes "signs") found old.signs) (λ s. wording r s (get_member (codes "words") ms)) in
+    ap (λ (found : Option Data). and_next (rules_found found old.rules) (λ r. signing r (get_member (codes "signs") ms))) rules
+    ∙ ap (λ (t : Bool). and_next (if t then Ok headings.rules else Err (at_key (codes "rules") wrong_kind)) (λ r. signing r (get_member (codes "signs") ms))) fits
+    ∙ ap (signing headings.rules) signs
+    ∙ ap (wording headings.rules headings.signs) words
 
 -- a skin whose parts each read back is read from their object
 pub page_back : (skin : PageSkin) (d : Data) → d ≡ page_data skin → AllByRecursion (λ (named : List ℕ × CompoundStyle). ReadsBackStyle named.1) (style_parts skin) → AllByRecursion (λ (named : List ℕ × StyledChar). ReadsBackChar named.1) (char_parts skin)
@@ -164,10 +167,11 @@ page_back skin d is styles chars h old same =
     let ms : Members = with_parts style_data (style_parts skin) second in
     let rules : get_member (codes "rules") ms ≡ Some (number (unsigned skin.headings.rules)) = get_past style_data (codes "rules") (style_parts skin) second refl ∙ get_past char_data (codes "rules") (char_parts skin) first refl in
     let signs : get_member (codes "signs") ms ≡ Some (boolean skin.headings.signs) = get_past style_data (codes "signs") (style_parts skin) second refl ∙ get_past char_data (codes "signs") (char_parts skin) first refl in
+    let words : get_member (codes "words") ms ≡ Some (boolean skin.headings.words) = get_past style_data (codes "words") (style_parts skin) second refl ∙ get_past char_data (codes "words") (char_parts skin) first refl in
     let drawn : AreThere char_data ms (char_parts skin) = all_kept style_data char_data (char_parts skin) (style_parts skin) second refl (all_there char_data (char_parts skin) first refl) in
     let styled : AreThere style_data ms (style_parts skin) = all_there style_data (style_parts skin) second refl in
     ap (page_under old) is
-    ∙ ap (λ r. and_next r (λ headings. and_next (parts_under (styled_char_of 42) (object ms) (char_parts old) []) (λ cs. and_next (parts_under style_of (object ms) (style_parts old) []) (λ ss. Ok (page_of old headings cs ss))))) (headings_back ms skin.headings old.headings h.rules rules signs)
+    ∙ ap (λ r. and_next r (λ headings. and_next (parts_under (styled_char_of 42) (object ms) (char_parts old) []) (λ cs. and_next (parts_under style_of (object ms) (style_parts old) []) (λ ss. Ok (page_of old headings cs ss))))) (headings_back ms skin.headings old.headings h.rules rules signs words)
     ∙ ap (λ r. and_next r (λ cs. and_next (parts_under style_of (object ms) (style_parts old) []) (λ ss. Ok (page_of old skin.headings cs ss)))) (parts_back (styled_char_of 42) char_data ms (char_parts old) (char_parts skin) [] refl (chars_said (char_parts skin) chars h.chars) drawn)
     ∙ ap (λ r. and_next r (λ ss. Ok (page_of old skin.headings (map (λ (named : List ℕ × StyledChar). named.1) (char_parts skin)) ss))) (parts_back style_of style_data ms (style_parts old) (style_parts skin) [] refl (styles_said (style_parts skin) styles h.styles) styled)
     ∙ ap (λ (text : MadSkin). Ok (record skin { text = text })) same

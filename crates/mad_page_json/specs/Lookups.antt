@@ -44,16 +44,19 @@ abbrev pub rules_found : Option Data → ℕ → Result ℕ SkinFault
 rules_found None old = Ok old
 rules_found (Some d) old = rule_count (option_and_then as_u64 (as_number d))
 
--- true or false, if a value says it
-abbrev pub sign_choice : Option Bool → Result Bool SkinFault
-sign_choice None = Err (at_key (codes "signs") wrong_kind)
-sign_choice (Some b) = Ok b
+-- true or false, if a value says it under this key
+abbrev pub choice_said : List ℕ → Option Bool → Result Bool SkinFault
+choice_said key None = Err (at_key key wrong_kind)
+choice_said key (Some b) = Ok b
 
--- whether other headings have signs, as a member says it, or as it was
-abbrev pub signs_found : Option Data → Bool → Result Bool SkinFault
-signs_found None old = Ok old
-signs_found (Some d) old = sign_choice (as_bool d)
+-- true or false, as the member of this key says it, or as it was
+abbrev pub choice_found : List ℕ → Option Data → Bool → Result Bool SkinFault
+choice_found key None old = Ok old
+choice_found key (Some d) old = choice_said key (as_bool d)
 
--- which headings have rules and signs, as an object says it
+-- which headings have rules and signs, and whether words have marks, as an object says it
 abbrev pub headings_under : Data → HeadingMarks → Result HeadingMarks SkinFault
-headings_under d old = and_next (rules_found (get (codes "rules") d) old.rules) (λ rules. and_next (signs_found (get (codes "signs") d) old.signs) (λ signs. Ok (record { rules = rules; signs = signs })))
+headings_under d old =
+    and_next (rules_found (get (codes "rules") d) old.rules) (λ rules.
+    and_next (choice_found (codes "signs") (get (codes "signs") d) old.signs) (λ signs.
+    and_next (choice_found (codes "words") (get (codes "words") d) old.words) (λ words. Ok (record { rules = rules; signs = signs; words = words }))))

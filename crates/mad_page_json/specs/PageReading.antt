@@ -29,7 +29,7 @@ page_under skin d =
 
 -- a key names a part of a page
 abbrev pub is_page_key : PageSkin → List ℕ → Bool
-is_page_key skin key = has_key key (style_parts skin) || (has_key key (char_parts skin) || (bytes_eq key (codes "rules") || bytes_eq key (codes "signs")))
+is_page_key skin key = has_key key (style_parts skin) || (has_key key (char_parts skin) || (bytes_eq key (codes "rules") || (bytes_eq key (codes "signs") || bytes_eq key (codes "words"))))
 
 -- the keys of members that name no part of a page, in byte order
 abbrev pub unknown_in : PageSkin → Members → List (List ℕ)

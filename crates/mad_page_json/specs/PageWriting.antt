@@ -11,9 +11,9 @@ abbrev pub with_parts : {S : Type 0} → (S → Data) → List (List ℕ × S) �
 with_parts shown [] members = members
 with_parts shown (named ∷ parts) members = with_parts shown parts (put named.0 (shown named.1) members)
 
--- members with what says which headings have rules and signs
+-- members with what says which headings have rules and signs, and whether words have marks
 abbrev pub with_headings : HeadingMarks → Members → Members
-with_headings headings members = put (codes "signs") (boolean headings.signs) (put (codes "rules") (number (unsigned headings.rules)) members)
+with_headings headings members = put (codes "words") (boolean headings.words) (put (codes "signs") (boolean headings.signs) (put (codes "rules") (number (unsigned headings.rules)) members))
 
 -- the object of a skin
 abbrev pub page_data : PageSkin → Data

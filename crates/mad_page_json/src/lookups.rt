@@ -3,7 +3,7 @@
 ghost use Rattle.std.specs.Prelude.{◌≡◌, ◌++◌, ◌∷◌, OnOk, [], Result, Ok, IfOk, IfErr, map, option_map};
 ghost use Rattle.serde_json.specs.View.{view};
 ghost use Rattle.mad_json.specs.Faults.{TellsSkin, TellsValue, ValueFault};
-ghost use Rattle.mad_page_json.specs.Lookups.{IsWrongType, at_fault, headings_under, part_under, parts_under, rule_count, rules_found, sign_choice, signs_found};
+ghost use Rattle.mad_page_json.specs.Lookups.{IsWrongType, at_fault, headings_under, part_under, parts_under, rule_count, rules_found, choice_found, choice_said};
 ghost use Rattle.mad_page_json.specs.Named.{named_said};
 
 use crate::named::Named;
@@ -71,7 +71,8 @@ fn error_at<S>(alloc: Global, key: &str, error: ValueError) -> SkinError
     }
 }
 
-/// Which headings have rules and signs, as an object says it: `rules` is a number below 256, `signs` is true or false.
+/// Which headings have rules and signs, and whether words have marks, as an object says it: `rules` is a number below 256, `signs` and `words` are
+/// true or false.
 ///
 /// # Errors
 ///
@@ -85,8 +86,13 @@ pub fn read_headings(
     ensures err { IfErr result (λ e. TellsSkin e (headings_under (view value.now) old)) }
 {
     let rules = rules_of(alloc, value.get("rules"), old.rules)?;
-    let signs = signs_of(alloc, value.get("signs"), old.signs)?;
-    Ok(HeadingMarks { rules, signs })
+    let signs = choice_of(alloc, "signs", value.get("signs"), old.signs)?;
+    let words = choice_of(alloc, "words", value.get("words"), old.words)?;
+    Ok(HeadingMarks {
+        rules,
+        signs,
+        words,
+    })
 }
 
 // How many levels of headings have rules.
@@ -115,26 +121,26 @@ fn rule_count(alloc: Global, count: Option<u64>) -> Result<u8, SkinError>
     }
 }
 
-// Whether other headings have signs.
-fn signs_of(alloc: Global, found: Option<&Value>, old: bool) -> Result<bool, SkinError>
-    ensures ok { IfOk result (λ signs. signs_found (option_map (λ value. view value.now) found.entry) old ≡ Ok signs) }
-    ensures err { IfErr result (λ e. TellsSkin e (signs_found (option_map (λ value. view value.now) found.entry) old)) }
+// True or false, as the member of a key says it, or as it was.
+fn choice_of(alloc: Global, key: &str, found: Option<&Value>, old: bool) -> Result<bool, SkinError>
+    ensures ok { IfOk result (λ choice. choice_found key.now (option_map (λ value. view value.now) found.entry) old ≡ Ok choice) }
+    ensures err { IfErr result (λ e. TellsSkin e (choice_found key.now (option_map (λ value. view value.now) found.entry) old)) }
 {
     match found {
-        Some(value) => sign_choice(alloc, value.as_bool()),
+        Some(value) => choice_said(alloc, key, value.as_bool()),
         None => Ok(old),
     }
 }
 
-// True or false, if a value says it.
-fn sign_choice(alloc: Global, choice: Option<bool>) -> Result<bool, SkinError>
-    ensures ok { IfOk result (λ signs. sign_choice choice ≡ Ok signs) }
-    ensures err { IfErr result (λ e. TellsSkin e (sign_choice choice)) }
+// True or false, if the value of a key says it.
+fn choice_said(alloc: Global, key: &str, choice: Option<bool>) -> Result<bool, SkinError>
+    ensures ok { IfOk result (λ said. choice_said key.now choice ≡ Ok said) }
+    ensures err { IfErr result (λ e. TellsSkin e (choice_said key.now choice)) }
 {
-    let Some(signs) = choice else {
-        return Err(wrong_type(alloc, "signs"));
+    let Some(said) = choice else {
+        return Err(wrong_type(alloc, key));
     };
-    Ok(signs)
+    Ok(said)
 }
 
 /// The error of a member of another kind than its part.

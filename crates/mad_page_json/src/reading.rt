@@ -109,4 +109,5 @@ fn is_page_key(skin: &PageSkin, key: &str) -> bool
         || has_key(&char_parts(skin), key)
         || key == "rules"
         || key == "signs"
+        || key == "words"
 }

@@ -70,7 +70,7 @@ fn object_of(members: Map<String, Value>) -> Value
     Value::Object(members)
 }
 
-// Which headings have rules and signs.
+// Which headings have rules and signs, and whether words have marks.
 fn put_headings(
     alloc: Global,
     members: &mut Map<String, Value>,
@@ -79,7 +79,8 @@ fn put_headings(
     ensures { OnOk result (members_view members.new.entries ≡ with_headings headings (members_view members.old.entries)) }
 {
     put(members, alloc, "rules", Value::from(headings.rules))?;
-    put(members, alloc, "signs", Value::from(headings.signs))
+    put(members, alloc, "signs", Value::from(headings.signs))?;
+    put(members, alloc, "words", Value::from(headings.words))
 }
 
 // Parts under their keys.

@@ -75,7 +75,7 @@ dark_page_skin =
     record {
       text = dark_text;
       page = dark_signs;
-      headings = record { rules = 2; signs = false };
+      headings = record { rules = 2; signs = false; words = false };
       link = colored_as 75 attribute.Underlined;
       sign = drawn 248 0x25A3;
       picture = colored 248;

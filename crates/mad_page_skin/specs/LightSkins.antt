@@ -75,7 +75,7 @@ light_page_skin =
     record {
       text = light_text;
       page = light_signs;
-      headings = record { rules = 2; signs = false };
+      headings = record { rules = 2; signs = false; words = false };
       link = colored_as 26 attribute.Underlined;
       sign = drawn 240 0x25A3;
       picture = colored 240;

@@ -34,14 +34,14 @@ unstyled_code =
 abbrev pub page_row_skin : PageSkin → RowSkin
 page_row_skin skin = record (row_skin skin.text) { link = skin.link; whole_words = true; page = skin.page }
 
--- The skin of a page by that of the smaller grammar: links look as there, headings have neither rules nor signs, and what is new has no style. In a
--- pager numbers of links, hits and the last row are reversed.
+-- The skin of a page by that of the smaller grammar: links look as there, headings have neither rules nor signs, words no marks, and what is new has no
+-- style. In a pager numbers of links, hits and the last row are reversed.
 abbrev pub page_skin_of : MadSkin → PageSkin
 page_skin_of text =
     record {
       text = text;
       page = page_styles text;
-      headings = record { rules = 0; signs = false };
+      headings = record { rules = 0; signs = false; words = false };
       link = (with_links (row_skin text)).link;
       sign = styled_char unstyled 0x25A3;
       picture = unstyled;

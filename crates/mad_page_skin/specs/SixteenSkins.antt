@@ -71,7 +71,7 @@ sixteen_page_skin =
     record {
       text = sixteen_text;
       page = sixteen_signs;
-      headings = record { rules = 2; signs = false };
+      headings = record { rules = 2; signs = false; words = false };
       link = attributed attribute.Underlined;
       sign = drawn 6 0x25A3;
       picture = attributed attribute.Italic;

@@ -26,6 +26,7 @@ impl PageSkin {
             headings: HeadingMarks {
                 rules: 2,
                 signs: false,
+                words: false,
             },
             link: colored_as(75, Attribute::Underlined),
             sign: drawn(248, '▣'),

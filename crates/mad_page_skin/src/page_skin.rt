@@ -22,7 +22,7 @@ pub struct PageSkin {
     pub text: MadSkin,
     /// How what a page shows beside its text looks.
     pub page: PageStyles,
-    /// Which headings have rules below, and which have signs in front.
+    /// Which headings have rules below, and which have signs in front; whether marks stand at words.
     pub headings: HeadingMarks,
     /// What the text of a link adds to its line's style.
     pub link: CompoundStyle,
@@ -46,7 +46,7 @@ pub struct PageSkin {
 
 impl PageSkin {
     /// The skin of a page that looks as a skin of the smaller grammar does: links are underlined, where a flag of a compound adds anything, and
-    /// headings have neither rules nor signs.
+    /// headings have neither rules nor signs, and words no marks.
     pub fn of(text: &MadSkin) -> PageSkin
         ensures skin { result ≡ page_skin_of text.now }
         ensures rows { page_row_skin result ≡ with_links (record (row_skin text.now) { whole_words = true }) }
@@ -60,6 +60,7 @@ impl PageSkin {
             headings: HeadingMarks {
                 rules: 0,
                 signs: false,
+                words: false,
             },
             link: rows.link,
             sign: StyledChar::nude(PICTURE),

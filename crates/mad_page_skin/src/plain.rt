@@ -10,7 +10,7 @@ use mad_rows::PageStyles;
 use mad_style::{ROUNDED_TABLE_BORDER_CHARS, ScrollBarStyle, StyledChar};
 
 impl PageSkin {
-    /// The skin without styles: rules below the first two levels of headings, signs in front of all others.
+    /// The skin without styles: rules below the first two levels of headings, signs in front of all others, and marks at words.
     pub fn plain() -> PageSkin
         ensures { result ≡ plain_skin }
     {
@@ -19,6 +19,7 @@ impl PageSkin {
             headings: HeadingMarks {
                 rules: 2,
                 signs: true,
+                words: true,
             },
             ..PageSkin::of(&plain_text())
         }

@@ -24,6 +24,7 @@ impl PageSkin {
             headings: HeadingMarks {
                 rules: 2,
                 signs: false,
+                words: false,
             },
             link: attributed(Attribute::Underlined),
             sign: drawn(6, '▣'),
