@@ -1,5 +1,6 @@
 """What the module's calls do, by its own examples and by 1,000 random calls: `TERMIMAD_LIBRARY=.. python3 -m unittest` in this folder."""
 import doctest
+import io
 import pathlib
 import random
 import tempfile
@@ -46,31 +47,63 @@ class Tables(unittest.TestCase):
         with self.assertRaises(termimad.WrongNumber):
             termimad.table([["a"]], 40, aligns=[4])
 
+    def test_dicts_and_files_of_csv(self):
+        wanted = termimad.table([["a", "b"], ["1", "x|y"], ["2", ""]], 40)
+        self.assertEqual(termimad.table([{"a": 1, "b": "x|y"}, {"a": 2}], 40), wanted)
+        with tempfile.TemporaryDirectory() as folder:
+            path = pathlib.Path(folder) / "a.csv"
+            path.write_text('a,b\n1,"x|y"\n2,\n')
+            self.assertEqual(termimad.table(path, 40), wanted)
+
 
 class Texts(unittest.TestCase):
     """Texts and their rows."""
 
     def test_rows_are_what_is_written(self):
-        text = termimad.Text("# head\n\na *b*\nc")
-        self.assertEqual("\n".join(text.rows(20)) + "\n", termimad.markdown("# head\n\na *b*\nc", 20))
+        page = termimad.Markdown("# head\n\na *b*\nc")
+        self.assertEqual("\n".join(page.rows(20)) + "\n", termimad.markdown("# head\n\na *b*\nc", 20))
 
     def test_lines_stand_for_themselves(self):
-        self.assertEqual(termimad.Text("a\nb", lines=True).rows(20), ["a", "b"])
-        self.assertEqual(termimad.Text("a\nb").rows(20), ["a b"])
+        self.assertEqual(termimad.Lines("a\nb").rows(20), ["a", "b"])
+        self.assertEqual(termimad.Markdown("a\nb").rows(20), ["a b"])
 
     def test_a_path_stands_for_its_file(self):
         with tempfile.TemporaryDirectory() as folder:
             path = pathlib.Path(folder) / "a.md"
             path.write_text("é *b*")
             self.assertEqual(termimad.markdown(path, 20), termimad.markdown("é *b*", 20))
+            self.assertEqual(termimad.Markdown(path).rows(20), ["é b"])
 
-    def test_refusals_by_name(self):
-        with self.assertRaises(termimad.NotUtf8):
+    def test_only_a_terminal_gets_styles(self):
+        file = io.StringIO()
+        termimad.Markdown("# head").show(20, file=file)
+        self.assertNotIn("\x1b", file.getvalue())
+        termimad.Markdown("# head").show(20, "dark", file)
+        self.assertIn("\x1b", file.getvalue())
+
+    def test_skins_by_dicts(self):
+        self.assertEqual(termimad.markdown("**a**", 20, {"bold": "red"}), termimad.markdown("**a**", 20, '{"bold": "red"}'))
+
+    def test_code_is_one_block(self):
+        shown = termimad.code("```\n# no heading", "markdown").rows(40)
+        self.assertEqual([row.strip() for row in shown], ["```", "# no heading"])
+
+    def test_refusals_name_the_argument(self):
+        with self.assertRaisesRegex(termimad.NotUtf8, "markdown"):
             termimad.text(b"\xff", 20)
-        with self.assertRaises(termimad.WrongSkin):
+        with self.assertRaisesRegex(termimad.WrongSkin, "nothing"):
             termimad.text("a", 20, "nothing")
-        with self.assertRaises(termimad.WrongNumber):
+        with self.assertRaisesRegex(termimad.WrongNumber, "width=65536"):
             termimad.text("a", 65536)
+
+    def test_rows_of_rich_are_those_of_the_page(self):
+        try:
+            from rich.console import Console
+        except ImportError:
+            self.skipTest("no rich here")
+        file = io.StringIO()
+        Console(file=file, width=30).print(termimad.Markdown("# head\n\n- one *two*"))
+        self.assertEqual([row.rstrip() for row in file.getvalue().splitlines()], [row.rstrip() for row in termimad.Markdown("# head\n\n- one *two*").rows(30)])
 
     def test_random_calls(self):
         draw = random.Random(7)

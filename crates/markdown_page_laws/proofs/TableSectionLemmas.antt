@@ -28,15 +28,17 @@ use Rattle.markdown_lines.specs.Tables as tables
 use Rattle.markdown_lines.specs.Tables.{after_cell, cells, shown_cells, row_said, alignments, body, ruled, table_lines}
 use Rattle.markdown_lines.specs.Texts.{behind_mark}
 use Rattle.markdown_lines.specs.declared.glyphs.Glyph.{Glyph}
+use Rattle.markdown_gutters.specs.Forms.{is_big}
+use Rattle.markdown_gutters.specs.Lists.{is_item}
+use Rattle.markdown_gutters.specs.Signs.{after_box, box_of, after_line, alert_of}
+use Rattle.markdown_gutters.specs.declared.forms.Form.{Form}
+use Rattle.markdown_gutters.specs.declared.forms.Form.TheVariants.{Words, Large, Listed, Boxed}
 use Rattle.markdown_reader.specs.Definitions.{definitions_of}
-use Rattle.markdown_reader.specs.Mapping.{Mapping, nothing_shown, is_item, new_gutter, with_last, is_big, is_spaced, spaced, blank_row, linked, section_of, put, passed, list_ended, begun, item_ended, ended_by, text_of, words, addresses_in, words_shown, task_by, alert_line, alert_by, paragraph_by, heading_style, table_addresses, code_shown, leaf_shown, shown_part, shown_parts}
+use Rattle.markdown_reader.specs.Mapping.{Mapping, nothing_shown, new_gutter, with_last, is_spaced, spaced, blank_row, linked, section_of, put, passed, list_ended, begun, item_ended, ended_by, text_of, words, addresses_in, words_shown, task_by, alert_line, alert_by, paragraph_by, heading_style, table_addresses, code_shown, leaf_shown, shown_part, shown_parts}
 use Rattle.markdown_reader.specs.Markdown.{printable_sections}
-use Rattle.markdown_reader.specs.Signs.{after_box, box_of, after_line, alert_of}
 use Rattle.markdown_reader.specs.Steady.{steady_section, steady_sections}
 use Rattle.markdown_page_laws.specs.TableSections.{IsNoRow, HaveNoRow, IsTableOrNone, TablesMayBeLists}
 use Rattle.mad_sections.specs.TableTexts.{are_table}
-use Rattle.markdown_reader.specs.declared.forms.Form.{Form}
-use Rattle.markdown_reader.specs.declared.forms.Form.TheVariants.{Words, Large, Listed, Boxed}
 
 -- ---- lines of leaves
 

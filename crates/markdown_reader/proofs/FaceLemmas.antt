@@ -22,11 +22,13 @@ use Rattle.markdown_lines.specs.Leaf.{html_lines}
 use Rattle.markdown_lines.specs.Links.{Defined}
 use Rattle.markdown_lines.specs.Restyled.{restyled, empty_line}
 use Rattle.markdown_lines.specs.Tables.{table_lines}
+use Rattle.markdown_gutters.specs.Forms.{is_big}
+use Rattle.markdown_gutters.specs.Lists.{is_number, item_gutter, is_item, up_to_bar, number_in, last_list}
+use Rattle.markdown_gutters.specs.Signs.{after_box, box_of, after_line, alert_of}
+use Rattle.markdown_gutters.specs.declared.forms.Form.{Form}
+use Rattle.markdown_gutters.specs.declared.forms.Form.TheVariants.{Words, Large, Listed, Boxed}
 use Rattle.markdown_reader.specs.Faces.{items_in, faces_in, faces_of, begun_by, items_of, waiting, FacesOnce}
-use Rattle.markdown_reader.specs.Mapping.{Mapping, nothing_shown, is_number, item_gutter, is_item, up_to_bar, new_gutter, with_last, is_big, is_spaced, spaced, blank_row, section_of, with_section, added, put, passed, list_ended, begun, number_in, last_list, nothing_since, item_ended, ended_by, closed, ended, words, addresses_in, words_shown, task_by, alert_line, alert_by, paragraph_by, heading_style, table_addresses, leaf_shown, shown_part, shown_parts}
-use Rattle.markdown_reader.specs.declared.forms.Form.{Form}
-use Rattle.markdown_reader.specs.declared.forms.Form.TheVariants.{Words, Large, Listed, Boxed}
-use Rattle.markdown_reader.specs.Signs.{after_box, box_of, after_line, alert_of}
+use Rattle.markdown_reader.specs.Mapping.{Mapping, nothing_shown, new_gutter, with_last, is_spaced, spaced, blank_row, section_of, with_section, added, put, passed, list_ended, begun, nothing_since, item_ended, ended_by, closed, ended, words, addresses_in, words_shown, task_by, alert_line, alert_by, paragraph_by, heading_style, table_addresses, leaf_shown, shown_part, shown_parts}
 
 by_bool : (P : Bool → Type 0) (b : Bool) → (b ≡ true → P true) → (b ≡ false → P false) → P b
 by_bool P true on off = on refl

@@ -18,6 +18,11 @@ use Rattle.markdown_leaves.specs.Told.{parts_of}
 use Rattle.markdown_leaves.specs.declared.parts.Kind.{Kind}
 use Rattle.markdown_leaves.specs.declared.parts.Kind.TheVariants.{Nothing, Paragraph as ParagraphKind, Heading, Indented, Fenced, Html, Table, Rule, Definitions}
 use Rattle.markdown_lines.specs.Tables.{cell_text, after_cell, cells_addresses, row_addresses, rows_links, table_lines}
+use Rattle.markdown_gutters.specs.Forms.{is_big}
+use Rattle.markdown_gutters.specs.Lists.{is_item}
+use Rattle.markdown_gutters.specs.Signs.{after_box, box_of, after_line, alert_of}
+use Rattle.markdown_gutters.specs.declared.forms.Form.{Form}
+use Rattle.markdown_gutters.specs.declared.forms.Form.TheVariants.{Words, Large, Listed, Boxed}
 use Rattle.markdown_reader.specs.Definitions.{label_of, with_definition, defined_or, defined_in, leaf_defined, part_defined, parts_defined, nothing_defined, definitions_of}
 use Rattle.markdown_reader.specs.Markdown.{unmarked_links}
 use Rattle.mad_md.specs.Lines.{LineContent, horizontal_rule}
@@ -30,10 +35,7 @@ use Rattle.markdown_lines.specs.Leaf.{html_lines}
 use Rattle.markdown_lines.specs.Links as line_links
 use Rattle.markdown_lines.specs.Links.{Defined, definition_address, address_or_none, address_by, address_in, address_of, leaf_addresses, links_at}
 use Rattle.markdown_lines.specs.Restyled.{restyled}
-use Rattle.markdown_reader.specs.Mapping.{LinkSaid, Mapping, nothing_shown, is_item, new_gutter, with_last, is_big, is_spaced, spaced, link_at, put, passed, list_ended, begun, item_ended, ended_by, words, addresses_in, text_of as leaf_text, words_shown, task_by, alert_line, alert_by, paragraph_by, heading_style, address_said, table_addresses, leaf_shown, shown_part, shown_parts}
-use Rattle.markdown_reader.specs.declared.forms.Form.{Form}
-use Rattle.markdown_reader.specs.declared.forms.Form.TheVariants.{Words, Large, Listed, Boxed}
-use Rattle.markdown_reader.specs.Signs.{after_box, box_of, after_line, alert_of}
+use Rattle.markdown_reader.specs.Mapping.{LinkSaid, Mapping, nothing_shown, new_gutter, with_last, is_spaced, spaced, link_at, put, passed, list_ended, begun, item_ended, ended_by, words, addresses_in, text_of as leaf_text, words_shown, task_by, alert_line, alert_by, paragraph_by, heading_style, address_said, table_addresses, leaf_shown, shown_part, shown_parts}
 use Rattle.markdown_reader.proofs.LinesPrinted.{text_printed}
 use Rattle.markdown_lines.specs.Printed.{is_obeyed}
 use Rattle.markdown_reader.specs.Printed.{ArePrintedLinks}

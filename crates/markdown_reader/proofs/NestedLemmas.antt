@@ -21,12 +21,14 @@ use Rattle.markdown_lines.specs.Leaf.{html_lines}
 use Rattle.markdown_lines.specs.Links.{Defined}
 use Rattle.markdown_lines.specs.Restyled.{restyled, empty_line}
 use Rattle.markdown_lines.specs.Tables.{table_lines}
-use Rattle.markdown_reader.specs.Mapping.{Mapping, nothing_shown, is_number, item_gutter, is_item, new_gutter, with_last, is_big, leaf_gutters, items_gutters, is_spaced, spaced, blank_row, section_of, added, put, passed, list_ended, begun, number_in, last_list, nothing_since, with_section, item_ended, ended_by, closed, words, addresses_in, words_shown, task_by, alert_line, alert_by, paragraph_by, heading_style, table_addresses, leaf_shown, shown_part, shown_parts}
+use Rattle.markdown_gutters.specs.Forms.{is_big, leaf_gutters, items_gutters}
+use Rattle.markdown_gutters.specs.Lists.{is_number, item_gutter, is_item, number_in, last_list}
+use Rattle.markdown_gutters.specs.Signs.{after_box, box_of, after_line, alert_of}
+use Rattle.markdown_gutters.specs.declared.forms.Form.{Form}
+use Rattle.markdown_gutters.specs.declared.forms.Form.TheVariants.{Words, Large, Listed, Boxed}
+use Rattle.markdown_reader.specs.Mapping.{Mapping, nothing_shown, new_gutter, with_last, is_spaced, spaced, blank_row, section_of, added, put, passed, list_ended, begun, nothing_since, with_section, item_ended, ended_by, closed, words, addresses_in, words_shown, task_by, alert_line, alert_by, paragraph_by, heading_style, table_addresses, leaf_shown, shown_part, shown_parts}
 use Rattle.markdown_reader.specs.ListedSections.{MayBeListed, SectionsMayBeListed}
 use Rattle.markdown_reader.specs.Nested.{Opened, opened_by, opened_in, IsOf, AreOf, AreNested, new_ones, IsBehindAll, IsBlankRow, AddsNested, SectionsNest, form_of, form_by}
-use Rattle.markdown_reader.specs.declared.forms.Form.{Form}
-use Rattle.markdown_reader.specs.declared.forms.Form.TheVariants.{Words, Large, Listed, Boxed}
-use Rattle.markdown_reader.specs.Signs.{after_box, box_of, after_line, alert_of}
 
 by_bool : (P : Bool → Type 0) (b : Bool) → (b ≡ true → P true) → (b ≡ false → P false) → P b
 by_bool P true on off = on refl

@@ -27,13 +27,15 @@ use Rattle.markdown_lines.specs.Links.{Defined}
 use Rattle.markdown_lines.specs.Printed.{is_obeyed, ArePrinted}
 use Rattle.markdown_lines.specs.Restyled.{restyled, empty_line}
 use Rattle.markdown_lines.specs.Tables.{table_lines}
+use Rattle.markdown_gutters.specs.Forms.{is_big}
+use Rattle.markdown_gutters.specs.Lists.{is_item}
+use Rattle.markdown_gutters.specs.Signs.{after_box, box_of, after_line, alert_word, alert_of}
+use Rattle.markdown_gutters.specs.declared.forms.Form.{Form}
+use Rattle.markdown_gutters.specs.declared.forms.Form.TheVariants.{Words, Large, Listed, Boxed}
 use Rattle.markdown_reader.specs.Definitions.{definitions_of}
-use Rattle.markdown_reader.specs.Mapping.{Mapping, nothing_shown, is_item, new_gutter, with_last, is_big, is_spaced, spaced, blank_row, linked, section_of, put, passed, list_ended, begun, item_ended, ended_by, text_of, words, addresses_in, words_shown, task_by, alert_line, alert_by, paragraph_by, heading_style, table_addresses, code_shown, leaf_shown, shown_part, shown_parts}
+use Rattle.markdown_reader.specs.Mapping.{Mapping, nothing_shown, new_gutter, with_last, is_spaced, spaced, blank_row, linked, section_of, put, passed, list_ended, begun, item_ended, ended_by, text_of, words, addresses_in, words_shown, task_by, alert_line, alert_by, paragraph_by, heading_style, table_addresses, code_shown, leaf_shown, shown_part, shown_parts}
 use Rattle.markdown_reader.specs.Markdown.{printable_sections}
 use Rattle.markdown_reader.specs.Printed.{ArePrintedSections}
-use Rattle.markdown_reader.specs.declared.forms.Form.{Form}
-use Rattle.markdown_reader.specs.declared.forms.Form.TheVariants.{Words, Large, Listed, Boxed}
-use Rattle.markdown_reader.specs.Signs.{after_box, box_of, after_line, alert_word, alert_of}
 use Rattle.markdown_reader.proofs.GlyphsPrinted.{nothing_printed, cons_printed, leaf_printed}
 use Rattle.markdown_reader.proofs.LinesPrinted.{html_printed, restyled_printed, code_lines_printed, table_printed}
 

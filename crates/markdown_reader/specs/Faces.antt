@@ -5,7 +5,8 @@ use Rattle.markdown_leaves.specs.Parts.{PartContent, begins}
 use Rattle.mad_sections.specs.Sections.{SectionContent}
 use Rattle.mad_sections.specs.declared.gutters.Gutter.{Gutter}
 use Rattle.markdown_lines.specs.Links.{Defined}
-use Rattle.markdown_reader.specs.Mapping.{Mapping, nothing_shown, is_item, shown_parts}
+use Rattle.markdown_gutters.specs.Lists.{is_item}
+use Rattle.markdown_reader.specs.Mapping.{Mapping, nothing_shown, shown_parts}
 
 -- how many gutters are items'
 abbrev pub items_in : List Gutter → ℕ

@@ -1,6 +1,5 @@
 -- What the parts of a text are shown as: sections behind gutters.
-use Rattle.std.specs.Prelude.{ℕ, ◌+◌, ◌-◌, Bool, true, false, ◌||◌, ◌&&◌, ◌==◌, nat_lt, List, [], ◌∷◌, ◌++◌, map, length, take, drop, min, slice_index_or, Option, Some, None, if◌then◌else◌}
-use Rattle.std.specs.List.{suffix_len}
+use Rattle.std.specs.Prelude.{ℕ, ◌-◌, Bool, true, false, ◌||◌, ◌&&◌, ◌==◌, nat_lt, List, [], ◌∷◌, ◌++◌, map, length, take, drop, min, Option, Some, None, if◌then◌else◌}
 use Rattle.std.specs.Str.Lossy.{utf8_lossy}
 use Rattle.markdown_marks.specs.Headings.{without_end}
 use Rattle.markdown_marks.specs.Remaining.{Remaining}
@@ -17,17 +16,19 @@ use Rattle.mad_md.specs.declared.composite.CompositeStyle.TheVariants.{Paragraph
 use Rattle.mad_sections.specs.Sections.{SectionContent}
 use Rattle.mad_sections.specs.declared.gutters.Alert.{Alert}
 use Rattle.mad_sections.specs.declared.gutters.Gutter.{Gutter}
-use Rattle.mad_sections.specs.declared.gutters.Gutter.TheVariants.{Bar, AlertBar, Bullet, Number, Task, Code}
+use Rattle.mad_sections.specs.declared.gutters.Gutter.TheVariants.{Bar, AlertBar, Bullet, Task}
 use Rattle.markdown_lines.specs.Code.{code_lines}
 use Rattle.markdown_lines.specs.Leaf.{leaf_rows, html_lines}
 use Rattle.markdown_lines.specs.Links as line_links
 use Rattle.markdown_lines.specs.Links.{Defined, leaf_addresses}
 use Rattle.markdown_lines.specs.Restyled.{restyled, empty_line}
 use Rattle.markdown_lines.specs.Tables.{table_lines, table_links}
-use Rattle.markdown_reader.specs.Signs.{after_box, box_of, after_line, alert_word, alert_of}
-use Rattle.markdown_reader.specs.declared.forms.Form.{Form}
-use Rattle.markdown_reader.specs.declared.forms.Form.TheVariants.{Words, Large, Listed, Boxed}
-use Rattle.markdown_reader.specs.declared.lists.Counted.{Counted}
+use Rattle.markdown_gutters.specs.Forms.{is_big, leaf_gutters, items_gutters}
+use Rattle.markdown_gutters.specs.Lists.{no_list, last_list, number_in, list_after, item_gutter, is_item, up_to_bar, last_gutter}
+use Rattle.markdown_gutters.specs.Signs.{after_box, box_of, after_line, alert_word, alert_of}
+use Rattle.markdown_gutters.specs.declared.forms.Form.{Form}
+use Rattle.markdown_gutters.specs.declared.forms.Form.TheVariants.{Words, Large, Listed, Boxed}
+use Rattle.markdown_gutters.specs.declared.lists.Counted.{Counted}
 
 -- a link: the number of a section, and the address to which the link leads
 pub record LinkSaid : Type 0 where
@@ -49,56 +50,17 @@ pub record Mapping : Type 0 where
   pub some : Bool
   pub big : Bool
 
--- ---- lists
-
--- no list, or one that has ended
-abbrev pub no_list : Counted
-no_list = record { sign = 0; next = 0 }
-
 -- before the text nothing is shown, and no container is open
 abbrev pub nothing_shown : Mapping
 nothing_shown = record { sections = []; links = []; gutters = []; seen = 0; lists = no_list ∷ []; item_apart = false; since = false; apart = false; some = false; big = false }
 
--- the list in the innermost open container
-abbrev pub last_list : List Counted → Counted
-last_list lists = slice_index_or lists (length lists - 1) no_list
+-- ---- lists
 
 -- the lists of the containers around it, and this one there
 abbrev pub with_list : List Counted → Counted → List Counted
 with_list lists list = take (length lists - 1) lists ++ list ∷ []
 
--- the number of an item: the next one of its list, or the one that it has, if it begins a list
-abbrev pub number_in : Counted → ℕ → ℕ → ℕ
-number_in list sign number = if list.sign == sign then list.next else number
-
--- the list after an item: its next number is one more, but fits 32 bits
-abbrev pub list_after : ℕ → ℕ → Counted
-list_after sign number = record { sign = sign; next = min (number + 1) 4294967295 }
-
 -- ---- gutters
-
--- an item that has this sign has a number
-abbrev pub is_number : ℕ → Bool
-is_number sign = (sign == 46) || (sign == 41)
-
--- the gutter that an item has: its number, or a bullet
-abbrev pub item_gutter : ℕ → ℕ → Gutter
-item_gutter sign number = if is_number sign then Number number else Bullet
-
--- it is an item's, so its other face is blank
-abbrev pub is_item : Gutter → Bool
-is_item Bullet = true
-is_item (Number number) = true
-is_item (Task done) = true
-is_item _ = false
-
--- without the items behind the last bar
-abbrev pub up_to_bar : List Gutter → List Gutter
-up_to_bar gutters = take (length gutters - suffix_len is_item gutters) gutters
-
--- the gutter of the innermost open container, if there is one
-abbrev pub last_gutter : List Gutter → Option Gutter
-last_gutter gutters = if length gutters == 0 then None else Some (slice_index_or gutters (length gutters - 1) Bar)
 
 -- the gutter of the innermost open container, if nothing of that is shown yet
 abbrev pub new_gutter : Mapping → Option Gutter
@@ -109,21 +71,6 @@ abbrev pub with_last : Gutter → Mapping → Mapping
 with_last gutter m = record m { gutters = take (length m.gutters - 1) m.gutters ++ gutter ∷ [] }
 
 -- ---- sections
-
--- all but words wants blank rows beside it
-abbrev pub is_big : Form → Bool
-is_big Words = false
-is_big _ = true
-
--- the gutters in front of a leaf: those of the open containers, and of code its box
-abbrev pub leaf_gutters : Form → List Gutter → List Gutter
-leaf_gutters Boxed gutters = gutters ++ Code ∷ []
-leaf_gutters _ gutters = gutters
-
--- of a table those of its items, if it is shown as a list: a bullet stands behind those of the open containers
-abbrev pub items_gutters : Form → List Gutter → Option (List Gutter)
-items_gutters Listed gutters = Some (gutters ++ Bullet ∷ [])
-items_gutters _ gutters = None
 
 -- lines behind the gutters of all open containers; those begin with them of which nothing is shown yet, and the box of code
 abbrev pub section_of : Form → List LineContent → Mapping → SectionContent

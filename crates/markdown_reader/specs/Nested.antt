@@ -11,9 +11,11 @@ use Rattle.mad_sections.specs.declared.gutters.Gutter.{Gutter}
 use Rattle.mad_sections.specs.declared.gutters.Gutter.TheVariants.{Bar, AlertBar, Bullet, Number, Task}
 use Rattle.markdown_lines.specs.Links.{Defined}
 use Rattle.markdown_lines.specs.Restyled.{empty_line}
-use Rattle.markdown_reader.specs.Mapping.{Mapping, nothing_shown, is_number, up_to_bar, leaf_gutters, items_gutters, shown_part, shown_parts}
-use Rattle.markdown_reader.specs.declared.forms.Form.{Form}
-use Rattle.markdown_reader.specs.declared.forms.Form.TheVariants.{Words, Large, Listed, Boxed}
+use Rattle.markdown_gutters.specs.Forms.{leaf_gutters, items_gutters}
+use Rattle.markdown_gutters.specs.Lists.{is_number, up_to_bar}
+use Rattle.markdown_gutters.specs.declared.forms.Form.{Form}
+use Rattle.markdown_gutters.specs.declared.forms.Form.TheVariants.{Words, Large, Listed, Boxed}
+use Rattle.markdown_reader.specs.Mapping.{Mapping, nothing_shown, shown_part, shown_parts}
 
 -- a container that is open, and how many sections there were when it began
 pub record Opened : Type 0 where

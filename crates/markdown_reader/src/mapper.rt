@@ -11,21 +11,21 @@ ghost use Rattle.markdown_lines.specs.LinksOf.{defined_of};
 ghost use Rattle.markdown_lines.specs.Restyled.{restyled};
 ghost use Rattle.markdown_lines.specs.Shown.{shown};
 ghost use Rattle.markdown_lines.specs.Tables.{table_lines};
-ghost use Rattle.markdown_reader.specs.Signs.{alert_of, box_of};
+ghost use Rattle.markdown_gutters.specs.Signs.{alert_of, box_of};
 ghost use Rattle.markdown_reader.specs.Mapping.{nothing_shown, with_list, new_gutter, with_last, with_section, blank_row, is_spaced, spaced, linked, added, put, passed, list_ended, quote_begun, numbered, begun, item_ended, ended_by, closed, ended, text_of, words_shown, task_by, alert_line, alert_by, paragraph_by, heading_style, heading_shown, code_shown, table_addresses, leaf_shown, shown_part, shown_parts};
 ghost use Rattle.markdown_reader.specs.MappingOf.{mapping_of};
 ghost use Rattle.markdown_reader.specs.SectionsSaid.{lines_said, link_said, section_said};
 
-use crate::forms::{Form, is_big, items_gutters, leaf_gutters};
-use crate::lists::{
-    Counted, first_gutters, is_item, item_gutter, last_gutter, last_list, list_after, no_list,
-    number_in, up_to_bar,
-};
 use crate::sections::{Link, MarkdownSection, addresses_of, push_links};
-use crate::signs::{after_box, after_line, alert_of, alert_word, box_of};
 use mad_md::CompositeStyle;
 use mad_sections::{Alert, Gutter};
 use markdown_blocks::Container;
+use markdown_gutters::forms::{Form, is_big, items_gutters, leaf_gutters};
+use markdown_gutters::lists::{
+    Counted, first_gutters, is_item, item_gutter, last_gutter, last_list, list_after, no_list,
+    number_in, up_to_bar,
+};
+use markdown_gutters::signs::{after_box, after_line, alert_of, alert_word, box_of};
 use markdown_leaves::defining::joined;
 use markdown_leaves::{Kind, Part};
 use markdown_lines::code::push_code_lines;

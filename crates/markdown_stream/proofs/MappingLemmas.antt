@@ -19,10 +19,12 @@ use Rattle.markdown_lines.specs.Leaf.{html_lines}
 use Rattle.markdown_lines.specs.Links.{Defined}
 use Rattle.markdown_lines.specs.Restyled.{restyled, empty_line}
 use Rattle.markdown_lines.specs.Tables.{table_lines}
-use Rattle.markdown_reader.specs.Mapping.{LinkSaid, Mapping, is_item, new_gutter, with_last, is_big, is_spaced, spaced, blank_row, link_at, linked, section_of, with_section, added, put, passed, list_ended, begun, closed, item_ended, nothing_since, ended_by, ended, words, addresses_in, words_shown, task_by, alert_line, alert_by, paragraph_by, heading_style, table_addresses, leaf_shown, shown_part, shown_parts}
-use Rattle.markdown_reader.specs.Signs.{after_box, box_of, after_line, alert_of}
-use Rattle.markdown_reader.specs.declared.forms.Form.{Form}
-use Rattle.markdown_reader.specs.declared.forms.Form.TheVariants.{Words, Large, Listed, Boxed}
+use Rattle.markdown_gutters.specs.Forms.{is_big}
+use Rattle.markdown_gutters.specs.Lists.{is_item}
+use Rattle.markdown_gutters.specs.Signs.{after_box, box_of, after_line, alert_of}
+use Rattle.markdown_gutters.specs.declared.forms.Form.{Form}
+use Rattle.markdown_gutters.specs.declared.forms.Form.TheVariants.{Words, Large, Listed, Boxed}
+use Rattle.markdown_reader.specs.Mapping.{LinkSaid, Mapping, new_gutter, with_last, is_spaced, spaced, blank_row, link_at, linked, section_of, with_section, added, put, passed, list_ended, begun, closed, item_ended, nothing_since, ended_by, ended, words, addresses_in, words_shown, task_by, alert_line, alert_by, paragraph_by, heading_style, table_addresses, leaf_shown, shown_part, shown_parts}
 use Rattle.markdown_stream.specs.Laws.{SectionsComeInTurn}
 use Rattle.markdown_stream.specs.Streaming.{taken, link_after, shown_after}
 

@@ -76,8 +76,7 @@ fn write_whole(
                 .write_parts_on(rt.alloc(), &mut out, &text, Some(columns))?;
         }
         Grammar::Markdown => {
-            let skin = PageSkin::of(skin);
-            write_markdown_on(rt.alloc(), &mut out, &skin, text, Some(columns))?;
+            write_markdown_on(rt.alloc(), &mut out, skin, text, Some(columns))?;
         }
     }
     out.flush()?;

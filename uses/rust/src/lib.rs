@@ -212,6 +212,41 @@ pub fn markdown(text: &str, width: usize, skin: &str) -> Result<String, Refused>
     })
 }
 
+/// A page of Markdown as people write it, which `{}` and `to_string` lay out. Where it is refused, that is [`fmt::Error`]; [`markdown`] says why.
+///
+/// ```no_run
+/// # use termimad_proved::Page;
+/// print!("{}", Page { text: "# Help\n\n- *one*", width: 80, skin: "dark" });
+/// ```
+#[derive(Clone, Copy, Debug)]
+pub struct Page<'t> {
+    /// The text.
+    pub text: &'t str,
+    /// Its columns, 65535 at most.
+    pub width: usize,
+    /// The skin of a page.
+    pub skin: &'t str,
+}
+
+impl fmt::Display for Page<'_> {
+    fn fmt(&self, f: &mut fmt::Formatter<'_>) -> fmt::Result {
+        let rows = markdown(self.text, self.width, self.skin).map_err(|_| fmt::Error)?;
+        f.write_str(&rows)
+    }
+}
+
+/// A text of code as a page of one block of that language, which is the word behind a fence, such as `rust`.
+pub fn code(text: &str, language: &str, width: usize, skin: &str) -> Result<String, Refused> {
+    let fence = "`".repeat(longest_run(text) + 3);
+    let end = if text.is_empty() || text.ends_with('\n') { "" } else { "\n" };
+    markdown(&format!("{fence}{language}\n{text}{end}{fence}\n"), width, skin)
+}
+
+// The backquotes of the longest run of them.
+fn longest_run(text: &str) -> usize {
+    text.split(|c| c != '`').map(str::len).max().unwrap_or(0)
+}
+
 /// The rows of a text that a reader gives, as soon as they are complete: in all, what [`text`] makes of the whole.
 ///
 /// Each item is the rows of one or more parts. After an error there is no other item.

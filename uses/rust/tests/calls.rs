@@ -1,6 +1,8 @@
 //! What the calls answer, and how they refuse.
 
-use termimad_proved::{fit, markdown, printable, rows, rows_as_read, table, text, Align, Refused};
+use termimad_proved::{
+    code, fit, markdown, printable, rows, rows_as_read, table, text, Align, Page, Refused,
+};
 
 #[test]
 fn marks_in_a_table_of_data_are_text() {
@@ -40,4 +42,17 @@ fn pieces_make_the_whole() {
 #[test]
 fn a_line_is_cut_where_it_is_asked() {
     assert_eq!(fit("a long line", 6, Align::Left, "").unwrap(), "a lon…");
+}
+
+#[test]
+fn a_page_is_displayed() {
+    let page = Page { text: "# head\n\n- *one*", width: 20, skin: "none" };
+    assert_eq!(Ok(page.to_string()), markdown(page.text, 20, "none"));
+}
+
+#[test]
+fn code_is_one_block() {
+    let shown = code("```\n# no heading", "markdown", 40, "none").unwrap();
+    let rows: Vec<&str> = shown.lines().map(str::trim).collect();
+    assert_eq!(rows, ["```", "# no heading"]);
 }

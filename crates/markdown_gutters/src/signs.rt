@@ -2,7 +2,7 @@
 
 ghost use Rattle.std.specs.Prelude.{◌≡◌, ◌≤◌, ◌+◌, length, take, drop, slice_index};
 ghost use Rattle.std.specs.Str.{str_eq_ignore_ascii_case};
-ghost use Rattle.markdown_reader.specs.Signs.{is_tick, ends_line, after_box, has_box, box_of, line_len, first_line, after_line, alert_word, alert_in, alert_of};
+ghost use Rattle.markdown_gutters.specs.Signs.{is_tick, ends_line, after_box, has_box, box_of, line_len, first_line, after_line, alert_word, alert_in, alert_of};
 
 use mad_sections::Alert;
 use markdown_marks::bytes::{first, is_blank_byte, without_blanks};
@@ -16,7 +16,7 @@ fn byte_at(text: &[u8], index: usize) -> u8
 }
 
 /// The bytes after so many.
-pub(crate) fn back(text: &[u8], count: usize) -> &[u8]
+pub fn back(text: &[u8], count: usize) -> &[u8]
     ensures { result.now ≡ drop count text.entry.now }
 {
     if count < text.len() {
@@ -27,7 +27,7 @@ pub(crate) fn back(text: &[u8], count: usize) -> &[u8]
 }
 
 /// So many of the first bytes.
-pub(crate) fn front(text: &[u8], count: usize) -> &[u8]
+pub fn front(text: &[u8], count: usize) -> &[u8]
     ensures { result.now ≡ take count text.entry.now }
 {
     if count < text.len() {
@@ -53,7 +53,7 @@ fn ends_line(text: &[u8]) -> bool
 }
 
 /// What is behind the box of a task, and the blanks after it.
-pub(crate) fn after_box(text: &[u8]) -> &[u8]
+pub fn after_box(text: &[u8]) -> &[u8]
     ensures { result.now ≡ after_box text.entry.now }
 {
     without_blanks(back(text, 3))
@@ -71,7 +71,7 @@ fn has_box(text: &[u8]) -> bool
 }
 
 /// Whether the box of a task is in front of a text, and then whether it is ticked.
-pub(crate) fn box_of(text: &[u8]) -> Option<bool>
+pub fn box_of(text: &[u8]) -> Option<bool>
     ensures { result ≡ box_of text.now }
 {
     if has_box(text) {
@@ -109,14 +109,14 @@ fn first_line(text: &[u8]) -> &[u8]
 }
 
 /// The lines after the first.
-pub(crate) fn after_line(text: &[u8]) -> &[u8]
+pub fn after_line(text: &[u8]) -> &[u8]
     ensures { result.now ≡ after_line text.entry.now }
 {
     back(text, line_len(text) + 1)
 }
 
 /// What an alert shows.
-pub(crate) fn alert_word(alert: Alert) -> &'static str
+pub fn alert_word(alert: Alert) -> &'static str
     ensures { result.now ≡ alert_word alert }
 {
     match alert {
@@ -158,7 +158,7 @@ fn alert_in(line: &[u8]) -> Option<Alert>
 }
 
 /// The alert that the first line of a text is, alone in it.
-pub(crate) fn alert_of(text: &[u8]) -> Option<Alert>
+pub fn alert_of(text: &[u8]) -> Option<Alert>
     ensures { result ≡ alert_of text.now }
 {
     alert_in(first_line(text))

@@ -1,5 +1,5 @@
-use Rattle.markdown_reader.proofs.GutterLemmas.{AreItems}
-use Rattle.markdown_reader.proofs.lists.up_to_bar.Given as goal
+use Rattle.markdown_gutters.proofs.GutterLemmas.{AreItems}
+use Rattle.markdown_gutters.proofs.lists.up_to_bar.Given as goal
 
 abbrev pub invariant-loop-len : goal.invariant-loop-len
 invariant-loop-len l = AreItems l.gutters l.len

@@ -4,7 +4,7 @@ use Rattle.std.proofs.Math.Seq.{take-length}
 use Rattle.std.specs.List.{suffix_len}
 use Rattle.std.proofs.lemmas.List.Sums.{suffix_len-take_yes, suffix_len-take_no}
 use Rattle.mad_sections.specs.declared.gutters.Gutter.{Gutter}
-use Rattle.markdown_reader.specs.Mapping.{is_item}
+use Rattle.markdown_gutters.specs.Lists.{is_item}
 
 -- so far all behind these are items
 pub record AreItems (gutters : List Gutter) (len : ℕ) : Type 0 where

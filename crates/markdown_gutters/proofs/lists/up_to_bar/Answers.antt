@@ -1,10 +1,10 @@
 use Rattle.std.proofs.Common.{◌≡◌, ℕ, ◌-◌, ◌∙◌, length, take, sym, ap, arith}
 use Rattle.std.specs.List.{suffix_len}
 use Rattle.mad_sections.specs.declared.gutters.Gutter.TheVariants.{Bar}
-use Rattle.markdown_reader.specs.Mapping.{is_item}
-use Rattle.markdown_reader.proofs.GutterLemmas.{items_stop, items_none}
-use Rattle.markdown_reader.proofs.lists.up_to_bar.Goals as goal
-use Rattle.markdown_reader.proofs.lists.up_to_bar.Goals.{then-loop-len-test+else-is_item, else-loop-len-test}
+use Rattle.markdown_gutters.specs.Lists.{is_item}
+use Rattle.markdown_gutters.proofs.GutterLemmas.{items_stop, items_none}
+use Rattle.markdown_gutters.proofs.lists.up_to_bar.Goals as goal
+use Rattle.markdown_gutters.proofs.lists.up_to_bar.Goals.{then-loop-len-test+else-is_item, else-loop-len-test}
 
 pub returns : goal.returns
 returns c =

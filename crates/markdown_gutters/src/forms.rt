@@ -1,7 +1,7 @@
 //! How a leaf stands on a page.
 
 ghost use Rattle.std.specs.Prelude.{◌≡◌, IfOk, option_map};
-ghost use Rattle.markdown_reader.specs.Mapping.{is_big, leaf_gutters, items_gutters};
+ghost use Rattle.markdown_gutters.specs.Forms.{is_big, leaf_gutters, items_gutters};
 
 use mad_sections::Gutter;
 use std::alloc::{AllocError, Global};
@@ -20,7 +20,7 @@ pub enum Form {
 }
 
 /// Whether it wants blank rows beside it.
-pub(crate) fn is_big(form: Form) -> bool
+pub fn is_big(form: Form) -> bool
     ensures { result ≡ is_big form }
 {
     match form {
@@ -30,7 +30,11 @@ pub(crate) fn is_big(form: Form) -> bool
 }
 
 /// The gutters in front of a leaf, by those of the open containers.
-pub(crate) fn leaf_gutters(
+///
+/// # Errors
+///
+/// Out of memory is the only error.
+pub fn leaf_gutters(
     alloc: Global,
     form: Form,
     gutters: &[Gutter],
@@ -46,7 +50,11 @@ pub(crate) fn leaf_gutters(
 }
 
 /// Of a table the gutters of its items, if it is shown as a list.
-pub(crate) fn items_gutters(
+///
+/// # Errors
+///
+/// Out of memory is the only error.
+pub fn items_gutters(
     alloc: Global,
     form: Form,
     gutters: &[Gutter],

@@ -1,7 +1,7 @@
 //! Numbers of items, counted in their lists, and gutters of containers.
 
 ghost use Rattle.std.specs.Prelude.{◌≡◌, take};
-ghost use Rattle.markdown_reader.specs.Mapping.{no_list, last_list, number_in, list_after, is_number, item_gutter, is_item, up_to_bar, last_gutter};
+ghost use Rattle.markdown_gutters.specs.Lists.{no_list, last_list, number_in, list_after, is_number, item_gutter, is_item, up_to_bar, last_gutter};
 
 use mad_sections::Gutter;
 
@@ -13,14 +13,14 @@ pub struct Counted {
 }
 
 /// No list, or one that has ended.
-pub(crate) fn no_list() -> Counted
+pub fn no_list() -> Counted
     ensures { result ≡ no_list }
 {
     Counted { sign: 0, next: 0 }
 }
 
 /// The list in the innermost open container.
-pub(crate) fn last_list(lists: &[Counted]) -> Counted
+pub fn last_list(lists: &[Counted]) -> Counted
     ensures { result ≡ last_list lists.now }
 {
     match lists {
@@ -30,14 +30,14 @@ pub(crate) fn last_list(lists: &[Counted]) -> Counted
 }
 
 /// The number of an item: the next one of its list, or the one that it has, if it begins a list.
-pub(crate) fn number_in(list: Counted, sign: u8, number: u32) -> u32
+pub fn number_in(list: Counted, sign: u8, number: u32) -> u32
     ensures { result ≡ number_in list sign number }
 {
     if list.sign == sign { list.next } else { number }
 }
 
 /// A list after an item.
-pub(crate) fn list_after(sign: u8, number: u32) -> Counted
+pub fn list_after(sign: u8, number: u32) -> Counted
     ensures { result ≡ list_after sign number }
 {
     Counted {
@@ -53,7 +53,7 @@ fn is_number(sign: u8) -> bool
 }
 
 /// The gutter of an item.
-pub(crate) fn item_gutter(sign: u8, number: u32) -> Gutter
+pub fn item_gutter(sign: u8, number: u32) -> Gutter
     ensures { result ≡ item_gutter sign number }
 {
     if is_number(sign) {
@@ -64,7 +64,7 @@ pub(crate) fn item_gutter(sign: u8, number: u32) -> Gutter
 }
 
 /// Whether it is an item's.
-pub(crate) fn is_item(gutter: Gutter) -> bool
+pub fn is_item(gutter: Gutter) -> bool
     ensures { result ≡ is_item gutter }
 {
     match gutter {
@@ -75,7 +75,7 @@ pub(crate) fn is_item(gutter: Gutter) -> bool
 }
 
 /// Without the items behind the last bar.
-pub(crate) fn up_to_bar(gutters: &[Gutter]) -> &[Gutter]
+pub fn up_to_bar(gutters: &[Gutter]) -> &[Gutter]
     ensures { result.now ≡ up_to_bar gutters.entry.now }
 {
     let mut len = gutters.len();
@@ -86,7 +86,7 @@ pub(crate) fn up_to_bar(gutters: &[Gutter]) -> &[Gutter]
 }
 
 /// The first so many gutters.
-pub(crate) fn first_gutters(gutters: &[Gutter], count: usize) -> &[Gutter]
+pub fn first_gutters(gutters: &[Gutter], count: usize) -> &[Gutter]
     ensures { result.now ≡ take count gutters.entry.now }
 {
     if count < gutters.len() {
@@ -97,7 +97,7 @@ pub(crate) fn first_gutters(gutters: &[Gutter], count: usize) -> &[Gutter]
 }
 
 /// The last gutter, if there is one.
-pub(crate) fn last_gutter(gutters: &[Gutter]) -> Option<Gutter>
+pub fn last_gutter(gutters: &[Gutter]) -> Option<Gutter>
     ensures { result ≡ last_gutter gutters.now }
 {
     match gutters {

@@ -1,0 +1,132 @@
+"""Pages of Markdown, in the width and the skin that suit the terminal."""
+from __future__ import annotations
+
+import os
+import re
+import select
+import shutil
+import sys
+import time
+from typing import Iterator, List, Optional, TextIO
+
+from ._calls import Skin, Words, raw, result, skin_word
+
+_WIDEST = 65535
+_SECONDS_TO_ANSWER = 1.0
+
+
+def terminal_width() -> int:
+    """The columns of the terminal: `COLUMNS`, its size, or 80."""
+    return min(max(shutil.get_terminal_size((80, 24)).columns, 1), _WIDEST)
+
+
+def columns_of(width: Optional[int]) -> int:
+    """The width that is given, else that of the terminal."""
+    return terminal_width() if width is None else width
+
+
+def skin_for(skin: Skin, file: TextIO) -> Skin:
+    """The skin that is meant. `"auto"` is `"none"` where the file is no terminal or `NO_COLOR` is set; else it goes by `COLORFGBG`, else `"dark"`."""
+    if skin != "auto":
+        return skin
+    if os.environ.get("NO_COLOR") or os.environ.get("TERM") == "dumb" or not file.isatty():
+        return "none"
+    return _skin_over(os.environ.get("COLORFGBG", "").rpartition(";")[2])
+
+
+def background() -> Optional[str]:
+    """Asks the terminal for its background: `"dark"`, `"light"`, or `None` where it tells none within a second. It reads what is typed meanwhile."""
+    try:
+        terminal = os.open("/dev/tty", os.O_RDWR | os.O_NOCTTY)
+    except OSError:
+        return None
+    try:
+        return _background_of(_asked(terminal, b"\x1b]11;?\x1b\\\x1b[c"))
+    finally:
+        os.close(terminal)
+
+
+def _asked(terminal: int, question: bytes) -> bytes:
+    """What a terminal answers, up to the answer that each one gives."""
+    import termios
+    import tty
+
+    before = termios.tcgetattr(terminal)
+    answer, end = b"", time.monotonic() + _SECONDS_TO_ANSWER
+    try:
+        tty.setcbreak(terminal)
+        os.write(terminal, question)
+        while not re.search(rb"\x1b\[\?[0-9;]*c", answer) and select.select([terminal], [], [], max(end - time.monotonic(), 0))[0]:
+            answer += os.read(terminal, 256)
+    finally:
+        termios.tcsetattr(terminal, termios.TCSADRAIN, before)
+    return answer
+
+
+def _background_of(answer: bytes) -> Optional[str]:
+    """What an answer says: light where red, green and blue weigh more than half of white."""
+    found = re.search(rb"\x1b\]11;rgba?:([0-9a-fA-F]+)/([0-9a-fA-F]+)/([0-9a-fA-F]+)", answer)
+    if not found:
+        return None
+    red, green, blue = (int(part, 16) / (16 ** len(part) - 1) for part in found.groups())
+    return "light" if 0.299 * red + 0.587 * green + 0.114 * blue > 0.5 else "dark"
+
+
+def _skin_over(background_number: str) -> str:
+    """The skin over a color of the sixteen."""
+    return "light" if background_number in {"7", "9", "10", "11", "12", "13", "14", "15"} else "dark"
+
+
+class _Shown:
+    """A text that has rows. What it is read as, a class below says."""
+
+    _call = ""
+
+    def __init__(self, source: Words) -> None:
+        self.source = raw(source)
+
+    def rows(self, width: Optional[int] = None, skin: Skin = "none") -> List[str]:
+        """Its rows in `width` columns, by default those of the terminal. A style that begins in a row ends there."""
+        return self._written(width, skin).split("\n")[:-1]
+
+    def show(self, width: Optional[int] = None, skin: Skin = "auto", file: Optional[TextIO] = None) -> None:
+        """Prints its rows, by default on the standard output. Only a terminal gets styles, where the skin is `"auto"`."""
+        out = sys.stdout if file is None else file
+        print(self._written(width, skin_for(skin, out)), end="", file=out)
+
+    def __str__(self) -> str:
+        return self._written(None, "none").rstrip("\n")
+
+    def __rich_console__(self, console: object, options: object) -> Iterator[object]:
+        from rich.text import Text as RichText
+
+        skin = "dark" if getattr(console, "is_terminal", False) and not getattr(console, "no_color", False) else "none"
+        for row in self.rows(options.max_width, skin):
+            yield RichText.from_ansi(row)
+
+    def _written(self, width: Optional[int], skin: Skin) -> str:
+        return result(self._call, {"text": self.source, "skin": skin_word(skin)}, {"width": columns_of(width)})
+
+
+class Markdown(_Shown):
+    """Markdown as people write it: a text, or a path, which stands for the text of its file."""
+
+    _call = "termimad_markdown"
+
+
+class Lines(_Shown):
+    """A text whose lines each stand for themselves, with the marks of the small grammar."""
+
+    _call = "termimad_text"
+
+    def _written(self, width: Optional[int], skin: Skin) -> str:
+        return super()._written(width, "" if skin == "none" else skin)
+
+
+def code(text: Words, language: str = "") -> Markdown:
+    """A text of code, as a page of one block of that language."""
+    body = raw(text)
+    longest = max((len(run) for run in re.findall(rb"`+", body)), default=0)
+    fence = b"`" * max(longest + 1, 3)
+    end = b"" if body.endswith(b"\n") or not body else b"\n"
+    return Markdown(fence + language.encode() + b"\n" + body + end + fence + b"\n")
