@@ -31,7 +31,7 @@ use Rattle.mad_page_skin.specs.PageSkins.{page_row_skin}
 use Rattle.mad_page_skin.specs.PlainSkins.{plain_skin}
 use Rattle.mad_page_skin.specs.SixteenSkins.{sixteen_page_skin}
 use Rattle.mad_page_skin.specs.declared.page_skin.PageSkin.{PageSkin}
-use Rattle.mad_page_skin_laws.specs.PageMarks.{AreTextMarksShown, ArePageMarksShown}
+use Rattle.mad_page_skin_laws.specs.PageMarks.{ArePageMarksShown}
 
 -- ---- characters
 
@@ -135,13 +135,6 @@ prefix_by skin (OrderedListItem level index) h = suffix_shown skin h.item level 
 prefix_by skin Quote h = subst IsColumnChar (sym h.quote) u258c_column
 prefix_by skin _ h = tt
 
-text_shown : (skin : RowSkin) → HasPageMarks skin → AreTextMarksShown skin
-text_shown skin h = record {
-  prefixes = λ kind. prefix_by skin kind h;
-  borders = round_shown skin h.borders;
-  rule = subst IsColumnChar (sym h.rule) u2500_column;
-}
-
 -- ---- pages
 
 beside_shown : (skin : RowSkin) → HasPageMarks skin → AreSignsShown skin.page → AreFacesShown skin
@@ -169,8 +162,8 @@ boxes_shown page first others task done note tip important warning caution = rec
 
 page_shown : (skin : PageSkin) → HasPageMarks (page_row_skin skin) → AreSignsShown skin.page → char_alone skin.sign ≡ 0x25A3 → ArePageMarksShown skin
 page_shown skin h signs picture = record {
-  text = text_shown (page_row_skin skin) h;
-  beside = beside_shown (page_row_skin skin) h signs;
+  rows = record { faces = beside_shown (page_row_skin skin) h signs; borders = round_shown (page_row_skin skin) h.borders; rule = subst IsColumnChar (sym h.rule) u2500_column };
+  prefixes = λ kind. prefix_by (page_row_skin skin) kind h;
   picture = subst IsColumnChar (sym picture) u25a3_column;
 }
 

@@ -8,14 +8,14 @@ use Rattle.mad_page_rows.specs.FaceLaws.{AreFacesShown}
 use Rattle.mad_page_skin.specs.PageSkins.{page_row_skin}
 use Rattle.mad_page_skin.specs.declared.page_skin.PageSkin.{PageSkin}
 
--- the marks of a text: what is in front of its lines, the borders of tables, and rules
-pub record AreTextMarksShown (skin : RowSkin) : Type 0 where
-  pub prefixes : (kind : CompositeKind) → IsPrintablePrefix skin kind
+-- each mark of a skin takes one column: those of gutters, of borders and of rules
+pub record AreMarksShown (skin : RowSkin) : Type 0 where
+  pub faces : AreFacesShown skin
   pub borders : AreBordersShown skin
   pub rule : IsColumnChar (char_alone skin.horizontal_rule)
 
--- the marks of a page: those of its text, what stands beside it, and what is in front of a picture's words
+-- the marks of a page: those of its rows, what is in front of the lines of a text, and what is in front of a picture's words
 pub record ArePageMarksShown (skin : PageSkin) : Type 0 where
-  pub text : AreTextMarksShown (page_row_skin skin)
-  pub beside : AreFacesShown (page_row_skin skin)
+  pub rows : AreMarksShown (page_row_skin skin)
+  pub prefixes : (kind : CompositeKind) → IsPrintablePrefix (page_row_skin skin) kind
   pub picture : IsColumnChar (char_alone skin.sign)

@@ -16,7 +16,7 @@ use Rattle.markdown_layout.specs.DrawnMarkdown.{placed_rows, ArePageOf, ShowsKep
 use Rattle.markdown_layout.specs.KeptPremises.{IsTypedSection, KeepPremises}
 
 -- each row of a page fills its place, and so do spaces
-fills_at : (skin : RowSkin) (width : ℕ) (rows : List PageRow) (y : ℕ) → AllFill skin width (map row_content rows) → FillsRow width (placed_rows skin width rows y)
+pub fills_at : (skin : RowSkin) (width : ℕ) (rows : List PageRow) (y : ℕ) → AllFill skin width (map row_content rows) → FillsRow width (placed_rows skin width rows y)
 fills_at skin width [] y h = record { shown = shown_spaces skin.paragraph.compound_style width; columns = spaces_columns skin.paragraph.compound_style width }
 fills_at skin width (row ∷ rows) zero h = h.0
 fills_at skin width (row ∷ rows) (suc y) h = fills_at skin width rows y h.1

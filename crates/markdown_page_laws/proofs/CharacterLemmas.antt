@@ -20,7 +20,7 @@ use Rattle.mad_sections.specs.UnfoldLaws.{line_text, lines_text}
 use Rattle.mad_layout.specs.FlaggedLines.{marked_parts}
 use Rattle.mad_layout.specs.FlaggedRows.{whole}
 use Rattle.markdown_page_laws.specs.KeptCharacters.{first_texts, other_columns, AreEmpty, KeepCells, cells_of_rows, IsLineKept}
-use Rattle.markdown_page_laws.specs.KeptMarkdown.{solid, texts_in, text_at, IsShownBy, solid_in}
+use Rattle.markdown_page_laws.specs.KeptMarkdown.{solid, texts_in, text_at, solid_at, IsShownBy, solid_in}
 use Rattle.markdown_page_laws.specs.TableSections.{IsNoRow, HaveNoRow}
 
 -- ---- texts
@@ -55,15 +55,11 @@ solid_empty (text ∷ texts) h = ap (λ (t : List FlaggedChar). solid t ++ flat_
 
 -- ---- composites
 
--- the characters of a cell of rows
-abbrev shown_at : ℕ → List FmtLine → List FlaggedChar
-shown_at i rows = flat_map (λ (row : FmtLine). solid (text_at i (texts_in row))) rows
-
-first_of_composites : (rows : List FmtComposite) → shown_at zero (map Normal rows) ≡ flat_map solid (map text_of rows)
+first_of_composites : (rows : List FmtComposite) → solid_at zero (map Normal rows) ≡ flat_map solid (map text_of rows)
 first_of_composites [] = refl
 first_of_composites (row ∷ rows) = ap (λ (l : List FlaggedChar). solid (text_of row) ++ l) (first_of_composites rows)
 
-others_of_composites : (i : ℕ) (rows : List FmtComposite) → shown_at (suc i) (map Normal rows) ≡ []
+others_of_composites : (i : ℕ) (rows : List FmtComposite) → solid_at (suc i) (map Normal rows) ≡ []
 others_of_composites i [] = refl
 others_of_composites i (row ∷ rows) = others_of_composites i rows
 
@@ -96,27 +92,27 @@ cells_shown rules (w ∷ ws) (cell ∷ cells) rows few (own, below, joins, are, 
     ∙ solid_said cell own are.keeps
 cells_shown rules (w ∷ ws) (cell ∷ cells) rows few (own, below, joins, are, empty, more) (suc i) = others_of_cells i rows ∙ cells_shown rules ws cells (other_columns rows) (omega (arith, few)) more i
 
-rows_shown : (i : ℕ) (rows : List FmtTableRow) → shown_at i (map TableRow rows) ≡ flat_map (λ (row : List FmtComposite). solid (text_at i (map text_of row))) (cells_of_rows rows)
+rows_shown : (i : ℕ) (rows : List FmtTableRow) → solid_at i (map TableRow rows) ≡ flat_map (λ (row : List FmtComposite). solid (text_at i (map text_of row))) (cells_of_rows rows)
 rows_shown i [] = refl
 rows_shown i (row ∷ rows) = ap (λ (l : List FlaggedChar). solid (text_at i (map text_of row.cells.items)) ++ l) (rows_shown i rows)
 
 -- ---- lines
 
-text_shown : (said : StyledRuns) (rows : List FmtComposite) → Keeps (whole (marked_parts said)) (map text_of rows) → (i : ℕ) → shown_at i (map Normal rows) ≡ solid (text_at i (cell_text said ∷ []))
+text_shown : (said : StyledRuns) (rows : List FmtComposite) → Keeps (whole (marked_parts said)) (map text_of rows) → (i : ℕ) → solid_at i (map Normal rows) ≡ solid (text_at i (cell_text said ∷ []))
 text_shown said rows keeps zero = first_of_composites rows ∙ solid_said said (map text_of rows) keeps
 text_shown said rows keeps (suc i) = others_of_composites i rows
 
 -- a line that is no row of a table is shown
 none_shown : (rules : LineRules) (room count : ℕ) (line : LineContent) (own : List FmtLine) → IsNoRow line → IsLineKept rules room count line own → IsShownBy line own
-none_shown rules room count (normal said) own none (rows, same, are) i = ap (shown_at i) same ∙ text_shown said rows are.keeps i
+none_shown rules room count (normal said) own none (rows, same, are) i = ap (solid_at i) same ∙ text_shown said rows are.keeps i
 none_shown rules room count (table_row cells) own none kept i = absurd none
-none_shown rules room count (table_rule aligns) own none (rule, same) i = ap (shown_at i) same
-none_shown rules room count horizontal_rule own none same i = ap (shown_at i) same
+none_shown rules room count (table_rule aligns) own none (rule, same) i = ap (solid_at i) same
+none_shown rules room count horizontal_rule own none same i = ap (solid_at i) same
 
 -- where the columns of a table have room, each line is shown
 line_shown : (rules : LineRules) (room count : ℕ) → 4 * count + 1 ≤ room → (line : LineContent) (own : List FmtLine) → IsLineKept rules room count line own → IsShownBy line own
 line_shown rules room count wide (normal said) own kept = none_shown rules room count (normal said) own tt kept
-line_shown rules room count wide (table_row cells) own (rows, same, kept) = λ i. ap (shown_at i) same ∙ rows_shown i rows ∙ cells_shown rules kept.widths cells (cells_of_rows rows) (kept.all wide) kept.cells_kept i
+line_shown rules room count wide (table_row cells) own (rows, same, kept) = λ i. ap (solid_at i) same ∙ rows_shown i rows ∙ cells_shown rules kept.widths cells (cells_of_rows rows) (kept.all wide) kept.cells_kept i
 line_shown rules room count wide (table_rule aligns) own kept = none_shown rules room count (table_rule aligns) own tt kept
 line_shown rules room count wide horizontal_rule own kept = none_shown rules room count horizontal_rule own tt kept
 

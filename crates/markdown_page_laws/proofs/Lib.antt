@@ -1,6 +1,11 @@
+pub mod BecomeLemmas
 pub mod CharacterLemmas
+pub mod DressedLemmas
 pub mod LineLemmas
+pub mod MarkLemmas
 pub mod OutputLemmas
 pub mod PageLemmas
+pub mod PlainPageLemmas
 pub mod ShownPageLemmas
+pub mod SkinTextLemmas
 pub mod TableSectionLemmas

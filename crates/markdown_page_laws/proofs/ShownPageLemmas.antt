@@ -1,4 +1,4 @@
--- The rows of Markdown show its sections.
+-- The rows of a page show its sections.
 use Rattle.std.proofs.Common.{◌≡◌, ◌⊎◌, inl, inr, ℕ, zero, suc, ◌+◌, ◌*◌, ◌≤◌, ◌==◌, min, nat_le, Bool, true, false, not, ◌&&◌, List, [], ◌∷◌, ◌++◌, length, map, drop, take, sum, Option, Some, None, is_some, if◌then◌else◌, refl, ap, sym, ◌∙◌, subst, arith, append-nil}
 use Rattle.std.specs.Char.{is_whitespace}
 use Rattle.std.specs.List.{AllByRecursion, AllZip, flat_map}
@@ -20,13 +20,12 @@ use Rattle.mad_sections.specs.declared.gutters.Gutter.{Gutter}
 use Rattle.mad_sections.proofs.KeptLemmas.{list_when, stays_when}
 use Rattle.mad_sections.proofs.TableLemmas.{widths_count}
 use Rattle.mad_pages.specs.PageRows.{RowContent}
-use Rattle.markdown_reader.specs.Markdown.{markdown_sections}
-use Rattle.markdown_page_laws.specs.KeptMarkdown.{solid, IsShownBy, ShowItem, ShowList, ShowSection, PagesShow, MarkdownIsKept}
+use Rattle.markdown_page_laws.specs.KeptMarkdown.{solid, IsShownBy, ShowItem, ShowList, ShowSection, PagesShow}
 use Rattle.markdown_page_laws.specs.KeptPages.{lines_of_rows, KeepsSection, KeepsShown}
 use Rattle.markdown_page_laws.specs.TableSections.{HaveNoRow, IsTableOrNone}
+use Rattle.markdown_page_laws.proofs.BecomeLemmas.{one_becomes, parts_become}
 use Rattle.markdown_page_laws.proofs.CharacterLemmas.{AreTexts, texts_have_no_row, texts_solid, nones_shown, lines_shown}
 use Rattle.markdown_page_laws.proofs.PageLemmas.{pages_keep}
-use Rattle.markdown_page_laws.proofs.TableSectionLemmas.{tables_may_be_lists}
 
 -- ---- characters of two texts
 
@@ -97,12 +96,27 @@ items_shown rules ascii width heads (cells ∷ table) [] rows said texts kept = 
 items_shown rules ascii width heads (cells ∷ table) (item ∷ items) rows said texts (here, there, joins, one, more) =
     (here, there, joins, item_shown rules ascii width heads cells item here said.0 texts.0 one, items_shown rules ascii width heads table items there said.1 texts.1 more)
 
+items_told : (rules : LineRules) (ascii : Bool) (width : ℕ) (items : List SectionContent) (rows : List RowContent) → AreTextSections items → EachBecomes (KeepsSection rules ascii width) items rows
+    → EachBecomes (λ (item : SectionContent) (own : List RowContent). EachBecomes IsShownBy item.lines (lines_of_rows own)) items rows
+items_told rules ascii width [] rows texts kept = kept
+items_told rules ascii width (item ∷ items) rows texts (here, there, joins, one, more) = (
+  here,
+  there,
+  joins,
+  nones_shown rules (room_at ascii width item.gutters) (columns_count item.lines) item.lines (lines_of_rows here) (texts_have_no_row item.lines texts.0) one.lines,
+  items_told rules ascii width items there texts.1 more,
+)
+
 list_shown : (rules : LineRules) (ascii : Bool) (width : ℕ) (s : SectionContent) (items : List SectionContent) (rows : List RowContent) → IsListOf s items → AreTextSections items → EachBecomes (KeepsSection rules ascii width) items rows
     → ShowList s.lines rows
 list_shown rules ascii width s items rows list texts kept =
     record { heads = list.heads; items = list.rows; whole = list.whole; shown = items_shown rules ascii width list.heads list.rows items rows list.kept texts kept }
 
 -- ---- a section that stays
+
+-- the lines of sections
+abbrev pub lines_of : List SectionContent → List LineContent
+lines_of sections = flat_map (λ (s : SectionContent). s.lines) sections
 
 three_each : (whole_words : Bool) (n : ℕ) (rows : List (List StyledRuns)) → 3 * n ≤ sum (least_widths whole_words n rows)
 three_each whole_words zero rows = omega arith
@@ -156,19 +170,22 @@ stays_with_room whole_words room lines all has =
         ap (λ t. t && not (length (rows_in lines) == 0) && not (has_room whole_words room lines)) all ∙ ap (λ t. not t && not (has_room whole_words room lines)) e ∙ ap (λ t. not t) f in
         cc
 
-one_of : (rules : LineRules) (ascii : Bool) (width : ℕ) (s : SectionContent) (rows : List RowContent) → EachBecomes (KeepsSection rules ascii width) (s ∷ []) rows → KeepsSection rules ascii width s rows
-one_of rules ascii width s rows (own, others, joins, here, none) =
-    subst (KeepsSection rules ascii width s) (sym (joins ∙ ap (λ (l : List RowContent). own ++ l) none ∙ append-nil own)) here
-
 section_shown : (rules : LineRules) (ascii : Bool) (width : ℕ) (s : SectionContent) (rows : List RowContent) → HaveRoom (room_at ascii width s.gutters) s.lines → KeepsSection rules ascii width s rows
     → EachBecomes IsShownBy s.lines (lines_of_rows rows)
 section_shown rules ascii width s rows (inl none) kept = nones_shown rules (room_at ascii width s.gutters) (columns_count s.lines) s.lines (lines_of_rows rows) none kept.lines
 section_shown rules ascii width s rows (inr wide) kept = lines_shown rules (room_at ascii width s.gutters) (columns_count s.lines) s.lines (lines_of_rows rows) wide kept.lines
 
+-- Rows show a section, and the lines that are shown of it, one after the other.
+abbrev pub Shows : LineRules → Bool → ℕ → SectionContent → List RowContent → Type 0
+Shows rules ascii width s rows = ShowSection s rows × EachBecomes IsShownBy (lines_of (unfolded rules.whole_words ascii (Some width) s)) (lines_of_rows rows)
+
 stays_shown : (rules : LineRules) (ascii : Bool) (width : ℕ) (s : SectionContent) (rows : List RowContent) → unfolded rules.whole_words ascii (Some width) s ≡ s ∷ [] → HaveRoom (room_at ascii width s.gutters) s.lines
-    → KeepsShown rules ascii width s rows → ShowSection s rows
+    → KeepsShown rules ascii width s rows → Shows rules ascii width s rows
 stays_shown rules ascii width s rows stays room kept =
-    inl (section_shown rules ascii width s rows room (one_of rules ascii width s rows (subst (λ (all : List SectionContent). EachBecomes (KeepsSection rules ascii width) all rows) stays kept)))
+    let one : KeepsSection rules ascii width s rows =
+    one_becomes (KeepsSection rules ascii width) s rows (subst (λ (all : List SectionContent). EachBecomes (KeepsSection rules ascii width) all rows) stays kept) in
+    let shown = section_shown rules ascii width s rows room one in
+    (inl shown, subst (λ (lines : List LineContent). EachBecomes IsShownBy lines (lines_of_rows rows)) (sym (ap lines_of stays ∙ append-nil s.lines)) shown)
 
 -- ---- sections
 
@@ -183,31 +200,30 @@ no_list s none (inr tabled) = absurd (lost (ap is_some (sym none) ∙ tabled.1))
     lost : false ≡ true → ⊥
     lost e = cc
 
-shown_by : (rules : LineRules) (ascii : Bool) (width : ℕ) (s : SectionContent) (rows : List RowContent) (list : Option (List Gutter)) → s.list ≡ list → IsTableOrNone s → KeepsShown rules ascii width s rows → ShowSection s rows
+shown_by : (rules : LineRules) (ascii : Bool) (width : ℕ) (s : SectionContent) (rows : List RowContent) (list : Option (List Gutter)) → s.list ≡ list → IsTableOrNone s → KeepsShown rules ascii width s rows
+    → Shows rules ascii width s rows
 shown_by rules ascii width s rows None is h kept =
     stays_shown rules ascii width s rows (ap (λ (l : Option (List Gutter)). unfolded_in rules.whole_words (Some (room_at ascii width s.gutters)) l s) is) (inl (no_list s is h)) kept
 shown_by rules ascii width s rows (Some gutters) is h kept =
     let room : ℕ = room_at ascii width s.gutters in
-    by_bool (λ b. lacks_room rules.whole_words room s.lines ≡ b → ShowSection s rows) (lacks_room rules.whole_words room s.lines)
+    let items : List SectionContent = unfolded rules.whole_words ascii (Some width) s in
+    by_bool (λ b. lacks_room rules.whole_words room s.lines ≡ b → Shows rules ascii width s rows) (lacks_room rules.whole_words room s.lines)
     (λ on lacks.
-    let all : as_list room gutters s ≡ unfolded rules.whole_words ascii (Some width) s =
+    let all : as_list room gutters s ≡ items =
     ap (λ (t : Bool). if t then as_list room gutters s else s ∷ []) (sym lacks) ∙ ap (λ (l : Option (List Gutter)). unfolded_in rules.whole_words (Some room) l s) (sym is) in
-    inr (list_shown rules ascii width s (unfolded rules.whole_words ascii (Some width) s) rows (list_when rules.whole_words ascii width s gutters is lacks) (subst AreTextSections all (listed_texts room gutters s)) kept))
+    let texts : AreTextSections items = subst AreTextSections all (listed_texts room gutters s) in (
+      inr (list_shown rules ascii width s items rows (list_when rules.whole_words ascii width s gutters is lacks) texts kept),
+      parts_become IsShownBy (λ (item : SectionContent). item.lines) (λ (row : RowContent). row.line) items rows (items_told rules ascii width items rows texts kept),
+    ))
     (λ off has. stays_shown rules ascii width s rows (stays_when rules.whole_words ascii width s gutters is has) (room_by rules.whole_words room s h has) kept)
     refl
+
+-- the rows of what is shown in the place of a section show it, and the lines that are shown of it
+pub section_shows : (rules : LineRules) (ascii : Bool) (width : ℕ) (s : SectionContent) (rows : List RowContent) → IsTableOrNone s → KeepsShown rules ascii width s rows → Shows rules ascii width s rows
+section_shows rules ascii width s rows h kept = shown_by rules ascii width s rows s.list refl h kept
 
 -- the rows of a page show its sections
 pub pages_show : PagesShow
 pages_show rules ascii width page rows wide bound laid =
-    become_by (KeepsShown rules ascii width) (λ (s : SectionContent) (own : List RowContent). IsTableOrNone s → ShowSection s own) (λ s own kept h. shown_by rules ascii width s own s.list refl h kept) page rows
+    become_by (KeepsShown rules ascii width) (λ (s : SectionContent) (own : List RowContent). IsTableOrNone s → ShowSection s own) (λ s own kept h. (section_shows rules ascii width s own h kept).0) page rows
     (pages_keep rules ascii width page rows wide bound laid)
-
-all_shown : (sections : List SectionContent) (rows : List RowContent) → AllByRecursion IsTableOrNone sections
-    → EachBecomes (λ (s : SectionContent) (own : List RowContent). IsTableOrNone s → ShowSection s own) sections rows → EachBecomes ShowSection sections rows
-all_shown [] rows h shown = shown
-all_shown (s ∷ sections) rows h (here, there, joins, one, more) = (here, there, joins, one h.0, all_shown sections there h.1 more)
-
--- the rows of a text of Markdown show its sections
-pub markdown_is_kept : MarkdownIsKept
-markdown_is_kept source rules ascii width rows wide bound laid =
-    all_shown (markdown_sections source) rows (tables_may_be_lists source) (pages_show rules ascii width (markdown_sections source) rows wide bound laid)

@@ -1,5 +1,5 @@
 -- The rows of a page, and of Markdown, show each character of its sections once, in order.
-use Rattle.std.specs.Prelude.{◌≡◌, ◌≢◌, ◌⊎◌, ℕ, zero, suc, ◌-◌, ◌^◌, ◌<◌, ◌≤◌, Bool, List, [], ◌∷◌, map, Some, if◌then◌else◌}
+use Rattle.std.specs.Prelude.{◌≡◌, ◌≢◌, ◌⊎◌, ℕ, zero, suc, ◌-◌, ◌^◌, ◌<◌, ◌≤◌, nat_lt, Bool, List, [], ◌∷◌, ◌++◌, map, Option, Some, None, if◌then◌else◌}
 use Rattle.std.specs.Char.{is_whitespace}
 use Rattle.std.specs.List.{flat_map}
 use Rattle.mad_md.specs.Flagged.{FlaggedChar}
@@ -8,10 +8,12 @@ use Rattle.mad_format.specs.LineRules.{LineRules}
 use Rattle.mad_format.specs.Lists.{EachBecomes}
 use Rattle.mad_format.specs.Wraps.{text_of}
 use Rattle.mad_format.specs.declared.line.FmtLine.{FmtLine}
-use Rattle.mad_format.specs.declared.line.FmtLine.TheVariants.{Normal, TableRow}
+use Rattle.mad_format.specs.declared.line.FmtLine.TheVariants.{Normal, TableRow, HorizontalRule}
 use Rattle.mad_sections.specs.Sections.{SectionContent}
 use Rattle.mad_sections.specs.TableTexts.{cell_text, rows_in}
 use Rattle.mad_sections.specs.UnfoldLaws.{IsMadeOfBoth, KeepsRow, labels_text, row_text}
+use Rattle.mad_dressing.specs.Dressed.{dressed_page, heading_level}
+use Rattle.mad_dressing.specs.declared.heading_marks.HeadingMarks.{HeadingMarks}
 use Rattle.mad_pages.specs.PageLayouts.{IsPageAt}
 use Rattle.mad_pages.specs.PageRows.{RowContent}
 use Rattle.markdown_page_laws.specs.KeptPages.{lines_of_rows}
@@ -43,12 +45,16 @@ text_at i [] = []
 text_at zero (text ∷ texts) = text
 text_at (suc i) (text ∷ texts) = text_at i texts
 
+-- what rows show in their cells of this number, from the top to the bottom
+abbrev pub solid_at : ℕ → List FmtLine → List FlaggedChar
+solid_at i rows = flat_map (λ (row : FmtLine). solid (text_at i (texts_in row))) rows
+
 -- ---- lines
 
 -- Rows show a line: each of its cells is in the cells of the same number of these rows, from the top to the bottom. Each character that isn't whitespace is there
 -- once, in order, with its flags, and no other is.
 abbrev pub IsShownBy : LineContent → List FmtLine → Type 0
-IsShownBy line rows = (i : ℕ) → flat_map (λ (row : FmtLine). solid (text_at i (texts_in row))) rows ≡ solid (text_at i (texts_said line))
+IsShownBy line rows = (i : ℕ) → solid_at i rows ≡ solid (text_at i (texts_said line))
 
 -- what rows show, from the first to the last
 abbrev pub solid_in : List FmtLine → List FlaggedChar
@@ -78,7 +84,23 @@ abbrev pub PagesShow : Type 0
 PagesShow = (rules : LineRules) (ascii : Bool) (width : ℕ) (page : List SectionContent) (rows : List RowContent) → 3 ≤ width → width < 2 ^ 64 - 1
     → IsPageAt rules ascii (Some width) page rows → EachBecomes (λ (section : SectionContent) (own : List RowContent). IsTableOrNone section → ShowSection section own) page rows
 
--- So those of each text of Markdown show all of its sections.
+-- ---- Markdown with the rules and signs of its headings
+
+-- the rule below a heading of this level, if it is one of the first levels
+abbrev pub rule_at : HeadingMarks → Option ℕ → List FmtLine
+rule_at marks None = []
+rule_at marks (Some level) = if nat_lt level marks.rules then HorizontalRule ∷ [] else []
+
+-- Rows show a section with what stands beside headings: first the section, and below it, if it is such a heading, its rule. Signs are in front of the rows.
+abbrev pub ShowDressed : HeadingMarks → SectionContent → List RowContent → Type 0
+ShowDressed marks section rows =
+    (own : List RowContent) × (below : List RowContent) × (rows ≡ own ++ below) × ShowSection section own × (lines_of_rows below ≡ rule_at marks (heading_level section.lines))
+
+-- rows show a text of Markdown: they fall into those of its sections, one after the other, and show these
+abbrev pub ShowSource : HeadingMarks → List ℕ → List RowContent → Type 0
+ShowSource marks source rows = EachBecomes (ShowDressed marks) (markdown_sections source) rows
+
+-- So those of each text of Markdown show all of its sections, whatever stands beside headings.
 abbrev pub MarkdownIsKept : Type 0
-MarkdownIsKept = (source : List ℕ) (rules : LineRules) (ascii : Bool) (width : ℕ) (rows : List RowContent) → 3 ≤ width → width < 2 ^ 64 - 1
-    → IsPageAt rules ascii (Some width) (markdown_sections source) rows → EachBecomes ShowSection (markdown_sections source) rows
+MarkdownIsKept = (marks : HeadingMarks) (source : List ℕ) (rules : LineRules) (ascii : Bool) (width : ℕ) (rows : List RowContent) → 3 ≤ width → width < 2 ^ 64 - 1
+    → IsPageAt rules ascii (Some width) (dressed_page marks (markdown_sections source)) rows → ShowSource marks source rows

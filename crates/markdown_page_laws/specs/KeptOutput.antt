@@ -6,29 +6,37 @@ use Rattle.mad_term.specs.Trace.{Trace, TookWith}
 use Rattle.mad_term.specs.declared.errors.Error.{Error}
 use Rattle.mad_measure.specs.declared.area.Area.{Area}
 use Rattle.mad_draw.specs.DrawnRows.{AreRowsShown}
-use Rattle.mad_rows.specs.declared.row_skin.RowSkin.{RowSkin}
+use Rattle.mad_rows.specs.RowStyles.{line_rules}
 use Rattle.mad_pages.specs.PageRows.{RowContent, row_content}
 use Rattle.mad_pages.specs.declared.page_rows.PageRow.{PageRow}
+use Rattle.mad_page_rows.specs.Faces.{has_ascii_boxes}
+use Rattle.mad_dressing.specs.Dressed.{dressed_page}
+use Rattle.mad_page_skin.specs.PageSkins.{page_row_skin}
+use Rattle.mad_page_skin.specs.declared.page_skin.PageSkin.{PageSkin}
 use Rattle.markdown_layout.specs.DrawnMarkdown.{placed_rows, area_bytes, DrawsPage, ShowsPage}
-use Rattle.markdown_layout.specs.WrittenPages.{rows_bytes, WritesPage}
-use Rattle.markdown_page_laws.specs.KeptMarkdown.{ShowSection}
+use Rattle.markdown_layout.specs.WrittenPages.{dressed_bytes, WritesDressed}
+use Rattle.markdown_page_laws.specs.KeptMarkdown.{ShowSource}
+use Rattle.markdown_page_laws.specs.KeptPages.{KeepsShown}
 use Rattle.markdown_reader.specs.Markdown.{markdown_sections}
 
--- rows show a text of Markdown: they fall into those of its sections, one after the other, and show these
-abbrev pub ShowSource : List ℕ → List RowContent → Type 0
-ShowSource source rows = EachBecomes ShowSection (markdown_sections source) rows
+-- Rows keep a text of Markdown in its skin: they show it, with the rules below its headings. What is shown is on the fewest rows that its room allows.
+pub record KeepSource (skin : PageSkin) (width : ℕ) (source : List ℕ) (rows : List RowContent) : Type 0 where
+  pub shown : ShowSource skin.headings source rows
+  pub least : EachBecomes (KeepsShown (line_rules (page_row_skin skin)) (has_ascii_boxes (page_row_skin skin)) width) (dressed_page skin.headings (markdown_sections source)) rows
 
--- Who writes a text of Markdown at a width of three columns or more writes rows that show it.
+-- Who writes a text of Markdown at a width of three columns or more writes rows that keep it.
 abbrev pub WritingShows : Type 0
-WritingShows = (skin : RowSkin) (source : List ℕ) (width : ℕ) (old new : Trace) (r : Result (Unit {0}) Error) → 3 ≤ width → width < 2 ^ 64 - 1
-    → WritesPage skin (Some width) (markdown_sections source) old r new → DrawsSome (ShowSource source) (rows_bytes skin (Some width)) old r new
+WritingShows = (skin : PageSkin) (source : List ℕ) (width : ℕ) (old new : Trace) (r : Result (Unit {0}) Error) → 3 ≤ width → width < 2 ^ 64 - 1
+    → WritesDressed skin (Some width) (markdown_sections source) old r new → DrawsSome (KeepSource skin width source) (dressed_bytes skin (Some width)) old r new
 
 -- Who draws one in an area of three columns or more draws the first of such rows.
 abbrev pub DrawingShows : Type 0
-DrawingShows = (skin : RowSkin) (source : List ℕ) (area : Area) (old new : Trace) (r : Result (Unit {0}) Error) → 3 ≤ area.width → area.width < 2 ^ 64 - 1
-    → DrawsPage skin (markdown_sections source) area old r new → DrawsSome (λ (rows : List PageRow). ShowSource source (map row_content rows)) (area_bytes skin area) old r new
+DrawingShows = (skin : PageSkin) (source : List ℕ) (area : Area) (old new : Trace) (r : Result (Unit {0}) Error) → 3 ≤ area.width → area.width < 2 ^ 64 - 1
+    → DrawsPage (page_row_skin skin) (dressed_page skin.headings (markdown_sections source)) area old r new
+    → DrawsSome (λ (rows : List PageRow). KeepSource skin area.width source (map row_content rows)) (area_bytes (page_row_skin skin) area) old r new
 
 -- So what a plain terminal shows in the area are the first of such rows.
 abbrev pub AreasShow : Type 0
-AreasShow = (skin : RowSkin) (source : List ℕ) (area : Area) (old new : Trace) → 3 ≤ area.width → area.width < 2 ^ 64 - 1 → ShowsPage skin (markdown_sections source) area old new
-    → (rows : List PageRow) × ShowSource source (map row_content rows) × TookWith old new (AreRowsShown (placed_rows skin area.width rows) area)
+AreasShow = (skin : PageSkin) (source : List ℕ) (area : Area) (old new : Trace) → 3 ≤ area.width → area.width < 2 ^ 64 - 1
+    → ShowsPage (page_row_skin skin) (dressed_page skin.headings (markdown_sections source)) area old new
+    → (rows : List PageRow) × KeepSource skin area.width source (map row_content rows) × TookWith old new (AreRowsShown (placed_rows (page_row_skin skin) area.width rows) area)

@@ -4,6 +4,9 @@
 ghost use Rattle.markdown_page_laws.specs.KeptMarkdown.{MarkdownIsKept, PagesShow};
 ghost use Rattle.markdown_page_laws.specs.KeptOutput.{AreasShow, DrawingShows, WritingShows};
 ghost use Rattle.markdown_page_laws.specs.KeptPages.{PagesKeep};
+ghost use Rattle.markdown_page_laws.specs.Marks.{OthersAreMarks};
+ghost use Rattle.markdown_page_laws.specs.PlainPages.{PlainHasNoEscape, PlainIsText};
+ghost use Rattle.markdown_page_laws.specs.SkinTexts.{SkinsKeepText, TextIsTold};
 ghost use Rattle.markdown_page_laws.specs.TableSections.{TablesMayBeLists};
 
 /// The rows of a page keep the flagged characters of the sections that are shown, in order and on the fewest rows.
@@ -21,7 +24,8 @@ pub fn tables_may_be_lists()
     ensures { TablesMayBeLists }
 {}
 
-/// The rows of a text of Markdown show each character of its sections that isn't whitespace once, in order. Else they show labels of lists alone.
+/// The rows of a text of Markdown show each character of its sections that isn't whitespace once, in order. Else they show labels of lists and rules
+/// below headings alone.
 pub fn markdown_is_kept()
     ensures { MarkdownIsKept }
 {}
@@ -31,4 +35,21 @@ pub fn output_is_kept()
     ensures written { WritingShows }
     ensures drawn { DrawingShows }
     ensures shown { AreasShow }
+{}
+
+/// Beside the text of its line a row has marks alone: blanks, bars, bullets, numbers, boxes, signs, rules and borders.
+pub fn others_are_marks()
+    ensures { OthersAreMarks }
+{}
+
+/// A skin changes no character of a text of Markdown, nor their order, but for its marks and for blanks.
+pub fn skins_keep_text()
+    ensures told { TextIsTold }
+    ensures alike { SkinsKeepText }
+{}
+
+/// A page in the skin without styles is its texts and newlines alone. It has no ESC, with which each command begins, where its text has none.
+pub fn plain_pages_have_no_styles()
+    ensures text { PlainIsText }
+    ensures no_escape { PlainHasNoEscape }
 {}

@@ -7,10 +7,9 @@ use Rattle.mad_measure.specs.declared.area.Area.{Area}
 use Rattle.mad_style.specs.declared.compound_styles.CompoundStyle.{CompoundStyle}
 use Rattle.mad_draw.specs.BarsApart.{AreShownBeside, FillBeside}
 use Rattle.mad_draw.specs.BesideBar.{IsBarShown}
-use Rattle.mad_draw.specs.Pieces.{RowPiece, FillsRow}
+use Rattle.mad_draw.specs.Pieces.{RowPiece}
 use Rattle.mad_draw.specs.declared.scroll_bars.ScrollBar.{ScrollBar}
 use Rattle.mad_draw.proofs.BorderLemmas.{space_column}
-use Rattle.mad_draw.proofs.PieceLemmas.{shown_spaces, spaces_columns}
 use Rattle.mad_rows.specs.declared.row_skin.RowSkin.{RowSkin}
 use Rattle.mad_pages.specs.PageRows.{row_content}
 use Rattle.mad_pages.specs.declared.page_rows.PageRow.{PageRow}
@@ -19,13 +18,8 @@ use Rattle.mad_page_rows.specs.PageFits.{AllFill, KeepsRoom, sections_at}
 use Rattle.mad_page_rows.proofs.FitLemmas.{pages_fill}
 use Rattle.markdown_layout.specs.DrawnMarkdown.{placed_rows}
 use Rattle.markdown_layout.specs.KeptPremises.{IsTypedSection}
+use Rattle.markdown_layout.proofs.DrawnLemmas.{fills_at}
 use Rattle.markdown_view.specs.MarkdownViews.{ViewContent, IsLaidOut, IsShownBeside, ShowsKeptView, ShowsReadView, bar_of, bar_or_blanks, blank_bar, last_column_of, page_columns, rows_of}
-
--- each row of a page fills its place, and so do spaces
-fills_at : (skin : RowSkin) (width : ℕ) (rows : List PageRow) (y : ℕ) → AllFill skin width (map row_content rows) → FillsRow width (placed_rows skin width rows y)
-fills_at skin width [] y h = record { shown = shown_spaces skin.paragraph.compound_style width; columns = spaces_columns skin.paragraph.compound_style width }
-fills_at skin width (row ∷ rows) zero h = h.0
-fills_at skin width (row ∷ rows) (suc y) h = fills_at skin width rows y h.1
 
 -- the rows from one on fill their places, where all do
 dropped_fill : (skin : RowSkin) (width n : ℕ) (rows : List PageRow) → AllFill skin width (map row_content rows) → AllFill skin width (map row_content (drop n rows))

@@ -1,5 +1,5 @@
 -- A run of the pager: which blocks of keys are read, what is done of them, and what goes out.
-use Rattle.std.specs.Prelude.{◌≡◌, ◌⊎◌, ℕ, ◌-◌, ◌^◌, ◌<◌, ◌==◌, nat_lt, Bool, false, List, [], ◌∷◌, length, map, Some, None, chars, encode_utf8_all, if◌then◌else◌}
+use Rattle.std.specs.Prelude.{◌≡◌, ◌⊎◌, ℕ, ◌-◌, ◌^◌, ◌<◌, ◌==◌, nat_lt, Bool, false, List, [], ◌∷◌, length, map, Some, chars, encode_utf8_all, if◌then◌else◌}
 use Rattle.mad_term.specs.Trace.{Trace, ahead_all, failed, IsAtItsEnd}
 use Rattle.mad_term.specs.declared.errors.Error.{Error}
 use Rattle.mad_term.specs.declared.errors.Error.TheVariants.{IO, InsufficientWidth, Memory}

@@ -1,13 +1,14 @@
 -- The words ask for one skin at most.
-use Rattle.std.proofs.Common.{◌≡◌, ℕ, Bool, List, [], ◌∷◌, length, get_or, ◌⊎◌, Option, Some, None, inl, inr, Ok, Err, refl, ap, sym, ◌∙◌, subst, arith}
+use Rattle.std.proofs.Common.{◌≡◌, ◌≢◌, ℕ, Bool, true, false, List, [], ◌∷◌, length, get_or, ◌⊎◌, Option, Some, None, option_map, inl, inr, Ok, Err, refl, ap, sym, ◌∙◌, subst, arith}
+use Rattle.mad_layout.specs.declared.MadSkin.{MadSkin}
 use Rattle.mad_page_skin.specs.declared.page_skin.PageSkin.{PageSkin}
 use Rattle.termimad_run.specs.declared.call.Command.{Command}
 use Rattle.termimad_run.specs.declared.call.Command.TheVariants.{InArea, AtWidth, AsMarkdown, AsItComes, MarkdownAsItComes, Live, Inline}
 use Rattle.termimad_run.specs.declared.failure.Failure.{Failure}
 use Rattle.termimad_run.specs.declared.failure.Failure.TheVariants.{Io, Usage, NotUtf8, Skin, Memory}
 use Rattle.mad_term.specs.Trace.{Trace}
-use Rattle.termimad_run.specs.GivenSkins.{skin_shown}
-use Rattle.termimad_run.specs.Calls.{IsSkinWord, Asks, AsksRefusedSkin, shows_page}
+use Rattle.termimad_run.specs.GivenSkins.{as_page, made_or_json, made_or_json_page, page_skin_named, skin_named, skin_shown, IsJsonShown}
+use Rattle.termimad_run.specs.Calls.{IsCall, IsSkinWord, Asks, AsksJson, AsksRefusedSkin, shows_page}
 use Rattle.mad_stream.specs.declared.SourceError.{SourceError}
 use Rattle.mad_stream.specs.declared.SourceError.TheVariants as source_error
 use Rattle.termimad_run.specs.Failures.{status_of, streamed_failure}
@@ -120,3 +121,26 @@ refused_exit words failure old new (inr (source, is, h)) asks = absurd (never wo
 pub done_call : (words : List (List ℕ)) (old new : Devices) → RunsTo {T = Unit {0}} words old (Ok (tt {0})) new → AsksRefusedSkin words → ⊥
 done_call words old new (inl h) asks = never words _ _ h.wrote.call asks
 done_call words old new (inr h) asks = never words _ _ h.call asks
+
+abbrev keys_of : Option (PageSkin × List (List ℕ)) → List (List ℕ)
+keys_of None = []
+keys_of (Some given) = given.1
+
+named_page : (named : Option PageSkin) (word : List ℕ) (skin : PageSkin) (unknown : List (List ℕ)) → made_or_json_page named word ≡ Some (skin, unknown) → unknown ≢ [] → named ≡ None
+named_page None word skin unknown h more = refl
+named_page (Some made) word skin unknown h more = absurd (more (sym (ap keys_of h)))
+
+named_text : (named : Option MadSkin) (word : List ℕ) (skin : PageSkin) (unknown : List (List ℕ)) → option_map as_page (made_or_json named word) ≡ Some (skin, unknown) → unknown ≢ [] → named ≡ None
+named_text None word skin unknown h more = refl
+named_text (Some made) word skin unknown h more = absurd (more (sym (ap keys_of h)))
+
+-- a skin that has keys which name no part is JSON text
+json_shown : (is_page : Bool) (word : Option (List ℕ)) (skin : PageSkin) (unknown : List (List ℕ)) → skin_shown is_page word ≡ Some (skin, unknown) → unknown ≢ [] → IsJsonShown is_page word
+json_shown true None skin unknown h more = absurd (more (sym (ap keys_of h)))
+json_shown true (Some word) skin unknown h more = named_page (page_skin_named word) word skin unknown h more
+json_shown false None skin unknown h more = absurd (more (sym (ap keys_of h)))
+json_shown false (Some word) skin unknown h more = named_text (skin_named word) word skin unknown h more
+
+-- so is that of a call that has such keys
+pub json_asked : (words : List (List ℕ)) (command : Command) (skin : PageSkin) (unknown : List (List ℕ)) → IsCall words command skin unknown → unknown ≢ [] → AsksJson words
+json_asked words command skin unknown call more = (command, call.word, call.asks, json_shown (shows_page command) call.word skin unknown call.given more)

@@ -1,4 +1,4 @@
-//! The colors of a pen, as an image has them.
+//! The colors of a pen, as an image has them, on a dark ground or a light one.
 
 ghost use Rattle.std.specs.Prelude.{◌<◌};
 
@@ -10,11 +10,30 @@ use termimad::{Attribute, Color};
 #[derive(Clone, Copy, PartialEq, Eq)]
 pub struct Paint(u8, u8, u8);
 
-/// What characters are drawn in where the terminal has its default color.
-pub const INK: Paint = Paint(216, 216, 216);
+/// The colors of a terminal where a pen has none.
+#[derive(Clone, Copy)]
+pub struct Ground {
+    /// What characters are drawn in.
+    pub ink: Paint,
+    /// What is below them.
+    pub paper: Paint,
+    /// The line around all.
+    pub edge: Paint,
+}
 
-/// What is below them.
-pub const PAPER: Paint = Paint(16, 18, 20);
+/// A dark terminal.
+pub const DARK: Ground = Ground {
+    ink: Paint(216, 216, 216),
+    paper: Paint(22, 24, 28),
+    edge: Paint(60, 64, 70),
+};
+
+/// A light terminal.
+pub const LIGHT: Ground = Ground {
+    ink: Paint(36, 41, 47),
+    paper: Paint(255, 255, 255),
+    edge: Paint(208, 215, 222),
+};
 
 // The named colors, by their numbers.
 const NAMED: [Paint; 16] = [
@@ -44,9 +63,9 @@ impl fmt::Display for Paint {
 }
 
 /// The colors of a pen's characters and of what is below them.
-pub fn paints_of(pen: Pen) -> (Paint, Paint) {
-    let ink = pen.fg.map_or(INK, paint_of);
-    let paper = pen.bg.map_or(PAPER, paint_of);
+pub fn paints_of(pen: Pen, ground: Ground) -> (Paint, Paint) {
+    let ink = pen.fg.and_then(paint_of).unwrap_or(ground.ink);
+    let paper = pen.bg.and_then(paint_of).unwrap_or(ground.paper);
     if pen.codes.has(Attribute::Reverse) {
         (paper, ink)
     } else {
@@ -54,11 +73,12 @@ pub fn paints_of(pen: Pen) -> (Paint, Paint) {
     }
 }
 
-fn paint_of(color: Color) -> Paint {
+// None, where it is the terminal's own.
+fn paint_of(color: Color) -> Option<Paint> {
     match (color, color.number()) {
-        (Color::Rgb { r, g, b }, _) => Paint(r, g, b),
-        (_, Some(number)) => paint_of_number(number),
-        (_, None) => INK,
+        (Color::Rgb { r, g, b }, _) => Some(Paint(r, g, b)),
+        (_, Some(number)) => Some(paint_of_number(number)),
+        (_, None) => None,
     }
 }
 

@@ -2,7 +2,7 @@
 
 ghost use Rattle.std.specs.Prelude.{◌≤◌, ◌^◌};
 
-use crate::picture::paint::{PAPER, paints_of};
+use crate::picture::paint::{Ground, paints_of};
 use std::fmt;
 use termimad::Attribute;
 use termimad::screen::{Cell, Pen, Screen};
@@ -40,12 +40,13 @@ fn top_of(y: u16) -> u32
 #[derive(Clone, Copy)]
 pub struct Picture<'s> {
     screen: &'s Screen,
+    ground: Ground,
 }
 
 impl<'s> Picture<'s> {
-    /// The picture of a screen.
-    pub fn new(screen: &'s Screen) -> Self {
-        Picture { screen }
+    /// The picture of a screen on a ground.
+    pub fn new(screen: &'s Screen, ground: Ground) -> Self {
+        Picture { screen, ground }
     }
 
     // The pen of a cell, and whether its character takes two columns.
@@ -105,9 +106,10 @@ impl fmt::Display for Picture<'_> {
             };
             write!(f, "{row}\n")?;
         }
+        let Ground { paper, edge, .. } = self.ground;
         write!(
             f,
-            "</desc>\n<rect width=\"{width}\" height=\"{height}\" rx=\"6\" fill=\"{PAPER}\"/>\n"
+            "</desc>\n<rect width=\"{width}\" height=\"{height}\" rx=\"6\" fill=\"{paper}\" stroke=\"{edge}\" stroke-width=\"2\"/>\n"
         )?;
         write!(
             f,
@@ -116,7 +118,7 @@ impl fmt::Display for Picture<'_> {
         for y in 0..self.screen.height() {
             for x in 0..self.screen.width() {
                 if self.begins_run(x, y) {
-                    let run = Shapes(self.run_from(x, y));
+                    let run = Shapes(self.run_from(x, y), self.ground);
                     write!(f, "{run}")?;
                 }
             }
@@ -167,20 +169,20 @@ impl fmt::Display for Run<'_> {
     }
 }
 
-// A run as it is drawn: what is below it, if that isn't the picture's own color, and its text.
+// A run as it is drawn on a ground: what is below it, if that isn't the ground's own color, and its text.
 #[derive(Clone, Copy)]
-struct Shapes<'s>(Run<'s>);
+struct Shapes<'s>(Run<'s>, Ground);
 
 impl fmt::Display for Shapes<'_> {
     fn fmt<W: fmt::Write>(&self, f: &mut fmt::Formatter<W>) -> fmt::Result {
-        let run = self.0;
+        let Shapes(run, ground) = *self;
         let Some(cell) = run.screen.cell(run.start, run.y) else {
             return Ok(());
         };
-        let (ink, paper) = paints_of(cell.pen);
+        let (ink, paper) = paints_of(cell.pen, ground);
         let (left, top) = (left_of(run.start), top_of(run.y));
         let width = columns_wide(run.end.saturating_sub(run.start));
-        if paper != PAPER {
+        if paper != ground.paper {
             write!(
                 f,
                 "<rect x=\"{left}\" y=\"{top}\" width=\"{width}\" height=\"{CELL_HEIGHT}\" fill=\"{paper}\"/>\n"

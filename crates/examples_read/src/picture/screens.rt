@@ -3,9 +3,7 @@
 use std::alloc::Global;
 use termimad::pages::{draw_page, lay_markdown};
 use termimad::screen::Screen;
-use termimad::{
-    Area, DressedMarkdown, Error, MadSkin, Markdown, PageSkin, ScriptSource, TestTerminal,
-};
+use termimad::{Area, DressedMarkdown, Error, Markdown, PageSkin, ScriptSource, TestTerminal};
 use termimad_page_run::{Files, Grammar, Sheet, run};
 
 const COLUMNS: u16 = 72;
@@ -16,9 +14,8 @@ const PAGE_ROWS: u16 = 12;
 // What is typed to the pager: a search.
 const KEYS: &[u8] = b"/disk\r";
 
-/// A screen that shows a whole text.
-pub fn text_screen(alloc: Global, text: &str) -> Result<Screen, Error> {
-    let page_skin = PageSkin::of(&MadSkin::default());
+/// A screen that shows a whole text in a skin.
+pub fn text_screen(alloc: Global, text: &str, page_skin: &PageSkin) -> Result<Screen, Error> {
     let skin = page_skin.row_skin();
     let read = Markdown::read(alloc, text)?;
     let markdown = DressedMarkdown::new(alloc, read, page_skin.headings)?;
@@ -30,14 +27,13 @@ pub fn text_screen(alloc: Global, text: &str) -> Result<Screen, Error> {
     Ok(terminal.shown(alloc)?)
 }
 
-/// A screen that shows a pager on a text, after some keys.
-pub fn page_screen(alloc: Global, text: &str) -> Result<Screen, Error> {
-    let skin = MadSkin::default();
+/// A screen that shows a pager on a text in a skin, after some keys.
+pub fn page_screen(alloc: Global, text: &str, skin: &PageSkin) -> Result<Screen, Error> {
     let sheet = Sheet {
         name: "readme.md",
         text,
         grammar: Grammar::Markdown,
-        skin: &skin,
+        skin,
         columns: COLUMNS,
         rows: PAGE_ROWS,
         files: Files::NONE,

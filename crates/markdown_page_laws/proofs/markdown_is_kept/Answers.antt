@@ -1,4 +1,4 @@
-use Rattle.markdown_page_laws.proofs.ShownPageLemmas as lemmas
+use Rattle.markdown_page_laws.proofs.DressedLemmas as lemmas
 use Rattle.markdown_page_laws.proofs.markdown_is_kept.Goals as goal
 
 pub returns : goal.returns

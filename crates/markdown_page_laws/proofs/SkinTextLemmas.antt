@@ -1,0 +1,39 @@
+-- A skin changes no character of a text, nor their order.
+use Rattle.std.proofs.Common.{◌≡◌, ℕ, Bool, List, [], ◌∷◌, sym, ◌∙◌, subst}
+use Rattle.mad_md.specs.Lines.{LineContent}
+use Rattle.mad_format.specs.LineRules.{LineRules}
+use Rattle.mad_format.specs.Lists.{EachBecomes}
+use Rattle.mad_format.specs.declared.line.FmtLine.{FmtLine}
+use Rattle.mad_rows.specs.RowStyles.{line_rules}
+use Rattle.mad_pages.specs.PageRows.{RowContent}
+use Rattle.mad_page_rows.specs.Faces.{has_ascii_boxes}
+use Rattle.mad_dressing.specs.Dressed.{dressed_page}
+use Rattle.mad_page_skin.specs.PageSkins.{page_row_skin}
+use Rattle.markdown_reader.specs.Markdown.{markdown_sections}
+use Rattle.markdown_page_laws.specs.KeptMarkdown.{IsShownBy}
+use Rattle.markdown_page_laws.specs.KeptPages.{lines_of_rows}
+use Rattle.markdown_page_laws.specs.SkinTexts.{lines_shown, lines_at, TextIsTold, ShowAlike, SkinsKeepText}
+use Rattle.markdown_page_laws.proofs.BecomeLemmas.{parts_become}
+use Rattle.markdown_page_laws.proofs.DressedLemmas.{dressed_tells, source_shows}
+use Rattle.markdown_page_laws.proofs.PageLemmas.{pages_keep}
+use Rattle.mad_sections.specs.Sections.{SectionContent}
+
+-- the rows of a text show the lines that are shown of it
+pub text_is_told : TextIsTold
+text_is_told skin source width rows wide bound laid =
+    let rules : LineRules = line_rules (page_row_skin skin) in
+    let ascii : Bool = has_ascii_boxes (page_row_skin skin) in
+    parts_become IsShownBy (lines_shown ascii width) (λ (row : RowContent). row.line) (markdown_sections source) rows
+    (source_shows skin.headings source rules ascii width (λ (s : SectionContent) (own : List RowContent). EachBecomes IsShownBy (lines_shown ascii width s) (lines_of_rows own))
+    (dressed_tells rules ascii width skin.headings) rows (pages_keep rules ascii width (dressed_page skin.headings (markdown_sections source)) rows wide bound laid))
+
+-- what shows the same lines shows the same
+both_alike : (lines : List LineContent) (rows others : List FmtLine) → EachBecomes IsShownBy lines rows → EachBecomes IsShownBy lines others → ShowAlike lines rows others
+both_alike [] rows others h k = (h, k)
+both_alike (line ∷ lines) rows others (own, more, joins, here, there) (like, likes, alike, one, rest) = (own, more, joins, like, likes, alike, (λ i. here i ∙ sym (one i)), both_alike lines more likes there rest)
+
+-- the rows of a text in two skins show the same
+pub skins_keep_text : SkinsKeepText
+skins_keep_text skin other source width rows others wide bound same laid more =
+    both_alike (lines_at (has_ascii_boxes (page_row_skin skin)) width (markdown_sections source)) (lines_of_rows rows) (lines_of_rows others) (text_is_told skin source width rows wide bound laid)
+    (subst (λ (ascii : Bool). EachBecomes IsShownBy (lines_at ascii width (markdown_sections source)) (lines_of_rows others)) (sym same) (text_is_told other source width others wide bound more))

@@ -1,0 +1,45 @@
+-- A skin changes no character of a text, nor their order.
+use Rattle.std.specs.Prelude.{◌≡◌, ℕ, ◌-◌, ◌^◌, ◌<◌, ◌≤◌, Bool, true, List, [], ◌∷◌, ◌++◌, Some}
+use Rattle.std.specs.List.{flat_map}
+use Rattle.mad_md.specs.Lines.{LineContent}
+use Rattle.mad_format.specs.Lists.{EachBecomes}
+use Rattle.mad_format.specs.declared.line.FmtLine.{FmtLine}
+use Rattle.mad_sections.specs.Sections.{SectionContent}
+use Rattle.mad_sections.specs.Unfolded.{unfolded}
+use Rattle.mad_pages.specs.PageRows.{RowContent}
+use Rattle.mad_page_rows.specs.Faces.{has_ascii_boxes}
+use Rattle.mad_page_skin.specs.PageSkins.{page_row_skin}
+use Rattle.mad_page_skin.specs.declared.page_skin.PageSkin.{PageSkin}
+use Rattle.markdown_layout.specs.WrittenPages.{IsDressedAt}
+use Rattle.markdown_page_laws.specs.KeptMarkdown.{solid_at, IsShownBy}
+use Rattle.markdown_page_laws.specs.KeptPages.{lines_of_rows}
+use Rattle.markdown_reader.specs.Markdown.{markdown_sections}
+
+-- The lines that are shown of a section at a width: its own, or those of the list in the place of a table that has no room with its words whole. A skin tells one
+-- thing of them: whether the boxes of tasks, which take some of that room, are of ASCII characters.
+abbrev pub lines_shown : Bool → ℕ → SectionContent → List LineContent
+lines_shown ascii width section = flat_map (λ (shown : SectionContent). shown.lines) (unfolded true ascii (Some width) section)
+
+-- the lines that are shown of sections
+abbrev pub lines_at : Bool → ℕ → List SectionContent → List LineContent
+lines_at ascii width page = flat_map (lines_shown ascii width) page
+
+-- The rows of a text in each skin show these lines, one after the other.
+abbrev pub TextIsTold : Type 0
+TextIsTold = (skin : PageSkin) (source : List ℕ) (width : ℕ) (rows : List RowContent) → 3 ≤ width → width < 2 ^ 64 - 1 → IsDressedAt skin (Some width) (markdown_sections source) rows
+    → EachBecomes IsShownBy (lines_at (has_ascii_boxes (page_row_skin skin)) width (markdown_sections source)) (lines_of_rows rows)
+
+-- Two lists of rows show the same of these lines: they fall into those of each line. In their cells of the same number both have the same characters that aren't
+-- whitespace, in the same order and with the same flags.
+abbrev pub ShowAlike : List LineContent → List FmtLine → List FmtLine → Type 0
+ShowAlike [] rows others = (rows ≡ []) × (others ≡ [])
+ShowAlike (line ∷ lines) rows others =
+    (own : List FmtLine) × (more : List FmtLine) × (rows ≡ own ++ more) × (like : List FmtLine) × (likes : List FmtLine) × (others ≡ like ++ likes)
+    × ((i : ℕ) → solid_at i own ≡ solid_at i like) × ShowAlike lines more likes
+
+-- The rows of a text in two skins show the same, at each width from three columns on and of fewer than 2^64 - 1, where both or neither has boxes of ASCII characters.
+abbrev pub SkinsKeepText : Type 0
+SkinsKeepText = (skin other : PageSkin) (source : List ℕ) (width : ℕ) (rows others : List RowContent) → 3 ≤ width → width < 2 ^ 64 - 1
+    → has_ascii_boxes (page_row_skin skin) ≡ has_ascii_boxes (page_row_skin other)
+    → IsDressedAt skin (Some width) (markdown_sections source) rows → IsDressedAt other (Some width) (markdown_sections source) others
+    → ShowAlike (lines_at (has_ascii_boxes (page_row_skin skin)) width (markdown_sections source)) (lines_of_rows rows) (lines_of_rows others)
