@@ -11,7 +11,7 @@ use Rattle.mad_sections.proofs.Choices.{by_bool}
 use Rattle.mad_dressing.specs.Dressed.{Beside, Put, nothing, rule_below, signs_before, dressed, dressed_by, dressed_by_each, dressed_page, heading_level, beside_at, placed_by, put_with}
 use Rattle.mad_dressing.specs.DressLaws.{AddsMarksAlone, HasMarks, IsRuled, IsSigned, OthersStay, TextStays, all_text, sections_text}
 use Rattle.mad_dressing.specs.WordMarks.{worded}
-use Rattle.mad_dressing.proofs.MarkLemmas.{worded_text}
+use Rattle.mad_dressing.proofs.MarkLemmas.{worded_lines, worded_text}
 use Rattle.mad_dressing.specs.declared.heading_marks.HeadingMarks.{HeadingMarks}
 
 text_by : (beside : Beside) (section : SectionContent) → sections_text (placed_by beside section) ≡ all_text section.lines
@@ -22,6 +22,7 @@ text_by (signs_before gutters) section = append-nil (all_text section.lines)
 -- the text of the sections that are shown is that of the one in whose place they are, with marks at words or as it is
 pub text_stays : TextStays
 text_stays = record {
+  placed = worded_lines;
   marked = λ marks section.
       let own = worded marks.words section in
       subst (HasMarks (all_text section.lines)) (sym (text_by (put_with marks section).beside own)) (worded_text marks.words section);

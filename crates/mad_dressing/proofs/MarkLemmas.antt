@@ -1,7 +1,7 @@
 -- Marks at words leave the text as it is.
 use Rattle.std.proofs.Common.{◌≡◌, ◌<◌, ◌⊎◌, inl, inr, ℕ, Bool, true, false, if◌then◌else◌, ◌&&◌, not, List, [], ◌∷◌, ◌++◌, map, refl, ap, sym, subst, ◌∙◌, arith, append_assoc, append-nil}
 use Rattle.std.specs.Prelude.{chars, codes}
-use Rattle.std.specs.List.{AllByRecursion, flat_map}
+use Rattle.std.specs.List.{AllByRecursion, AllZip, flat_map}
 use Rattle.std.proofs.lemmas.Grind.{flat_map-append}
 use Rattle.std.proofs.lemmas.Str.{chars-IsAscii}
 use Rattle.std.proofs.lemmas.Str.Ascii.{IsAscii-cons, IsAscii-nil}
@@ -11,7 +11,7 @@ use Rattle.mad_sections.specs.Sections.{SectionContent}
 use Rattle.mad_sections.specs.TableTexts.{runs_text}
 use Rattle.mad_sections.specs.UnfoldLaws.{IsMadeOfBoth, row_text}
 use Rattle.mad_sections.specs.declared.gutters.Gutter.{Gutter}
-use Rattle.mad_dressing.specs.DressLaws.{HasMarks, IsMark, all_text, is_mark, said_text}
+use Rattle.mad_dressing.specs.DressLaws.{AreMarkedLines, HasMarks, IsMark, IsMarkedLine, IsMarkedText, all_text, is_mark, said_text}
 use Rattle.mad_dressing.specs.WordMarks.{beginnings, endings, end_flags, end_in_alert, first_flags, is_alert, is_rule, mark_if, marked_flags, marked_line, marked_lines, marked_runs, marked_text, start_flags, worded, begins_strong}
 
 -- ---- texts with marks
@@ -140,6 +140,53 @@ same_text text = subst (λ (t : List FlaggedChar). HasMarks t t) (append-nil tex
 pub worded_text : (words : Bool) (section : SectionContent) → HasMarks (all_text section.lines) (all_text (worded words section).lines)
 worded_text true section = lines_marked (begins_strong section) unflagged section.lines
 worded_text false section = same_text (all_text section.lines)
+
+-- ---- line by line
+
+same_said : (said : StyledRuns) → IsMarkedText said said
+same_said said = record { style = refl; text = same_text (runs_text said.runs) }
+
+same_cells : (cells : List StyledRuns) → AllZip IsMarkedText cells cells
+same_cells [] = tt
+same_cells (cell ∷ cells) = (same_said cell, same_cells cells)
+
+same_line : (line : LineContent) → IsMarkedLine line line
+same_line (normal said) = same_said said
+same_line (table_row cells) = same_cells cells
+same_line (table_rule aligns) = refl
+same_line horizontal_rule = tt
+
+same_lines : (lines : List LineContent) → AreMarkedLines lines lines
+same_lines [] = tt
+same_lines (line ∷ lines) = (same_line line, same_lines lines)
+
+text_marked : (strong : Bool) (before after : Flags) (said : StyledRuns) → IsMarkedText said (marked_text strong before after said)
+text_marked strong before after said =
+    let own = runs_text said.runs in
+    let shown = runs_text (marked_runs strong before after said.runs) in
+    record {
+      style = refl;
+      text = subst (λ (t : List FlaggedChar). HasMarks t shown) (append-nil own) (subst (HasMarks (own ++ [])) (append-nil shown) (runs_marked strong before after said.runs [] [] no_text));
+    }
+
+each_cell_marked : (strong : Bool) (cells : List StyledRuns) → AllZip IsMarkedText cells (map (marked_text strong unflagged unflagged) cells)
+each_cell_marked strong [] = tt
+each_cell_marked strong (cell ∷ cells) = (text_marked strong unflagged unflagged cell, each_cell_marked strong cells)
+
+own_line_marked : (strong : Bool) (before : Flags) (next : List LineContent) (line : LineContent) → IsMarkedLine line (marked_line strong before next line)
+own_line_marked strong before next (normal said) = text_marked strong before (start_flags next) said
+own_line_marked strong before next (table_row cells) = each_cell_marked strong cells
+own_line_marked strong before next (table_rule aligns) = refl
+own_line_marked strong before next horizontal_rule = tt
+
+each_line_marked : (strong : Bool) (before : Flags) (lines : List LineContent) → AreMarkedLines lines (marked_lines strong before lines)
+each_line_marked strong before [] = tt
+each_line_marked strong before (line ∷ lines) = (own_line_marked strong before lines line, each_line_marked (strong && is_rule line) (end_flags strong line) lines)
+
+-- the lines of a section with marks at its words, or as they are
+pub worded_lines : (words : Bool) (section : SectionContent) → AreMarkedLines section.lines (worded words section).lines
+worded_lines true section = each_line_marked (begins_strong section) unflagged section.lines
+worded_lines false section = same_lines section.lines
 
 -- ---- the bar of an alert
 

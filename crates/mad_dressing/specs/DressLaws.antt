@@ -1,8 +1,8 @@
 -- Laws of what is put into a page.
 use Rattle.std.specs.Prelude.{◌≡◌, ◌⊎◌, ◌<◌, ◌≤◌, ◌==◌, ◌||◌, ℕ, Bool, true, false, List, [], ◌∷◌, ◌++◌, Some, None}
-use Rattle.std.specs.List.{AllByRecursion, flat_map}
+use Rattle.std.specs.List.{AllByRecursion, AllZip, flat_map}
 use Rattle.mad_md.specs.Flagged.{FlaggedChar, unflagged}
-use Rattle.mad_md.specs.Lines.{LineContent, normal, table_row}
+use Rattle.mad_md.specs.Lines.{LineContent, StyledRuns, normal, table_row, table_rule, horizontal_rule}
 use Rattle.mad_sections.specs.Sections.{SectionContent}
 use Rattle.mad_sections.specs.TableTexts.{runs_text}
 use Rattle.mad_sections.specs.UnfoldLaws.{IsMadeOfBoth, row_text}
@@ -41,8 +41,27 @@ pub record HasMarks (own shown : List FlaggedChar) : Type 0 where
   pub made : IsMadeOfBoth own marks shown
   pub are_marks : AllByRecursion IsMark marks
 
--- The text of the sections that are shown is that of the one in whose place they are, with marks; where none stand at words, it is that text.
+-- a composite or a cell is another with marks: of the same style, and its text with marks
+pub record IsMarkedText (own shown : StyledRuns) : Type 0 where
+  pub style : own.style ≡ shown.style
+  pub text : HasMarks (runs_text own.runs) (runs_text shown.runs)
+
+-- a line is another with marks: of the same kind, and cell by cell
+abbrev pub IsMarkedLine : LineContent → LineContent → Type 0
+IsMarkedLine (normal own) (normal shown) = IsMarkedText own shown
+IsMarkedLine (table_row cells) (table_row shown) = AllZip IsMarkedText cells shown
+IsMarkedLine (table_rule aligns) (table_rule shown) = aligns ≡ shown
+IsMarkedLine horizontal_rule horizontal_rule = Unit {0}
+IsMarkedLine _ _ = ⊥
+
+-- so it is with each line of a section, in order
+abbrev pub AreMarkedLines : List LineContent → List LineContent → Type 0
+AreMarkedLines lines shown = AllZip IsMarkedLine lines shown
+
+-- The text of the sections that are shown is that of the one in whose place they are, with marks; where none stand at words, it is that text. Marks stand in the
+-- line and the cell of their words.
 pub record TextStays : Type 0 where
+  pub placed : (words : Bool) (section : SectionContent) → AreMarkedLines section.lines (worded words section).lines
   pub marked : (marks : HeadingMarks) (section : SectionContent) → HasMarks (all_text section.lines) (sections_text (dressed marks section))
   pub unmarked : (marks : HeadingMarks) (section : SectionContent) → marks.words ≡ false → sections_text (dressed marks section) ≡ all_text section.lines
 
