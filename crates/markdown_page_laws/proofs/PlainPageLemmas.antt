@@ -43,9 +43,11 @@ use Rattle.mad_sections.specs.declared.gutters.Gutter.TheVariants as gutter
 use Rattle.mad_sections.specs.declared.gutters.Gutter.TheVariants.{Bar, AlertBar, Bullet, Number, Task, Signs, Below}
 use Rattle.mad_sections.proofs.Choices.{by_bool}
 use Rattle.mad_pages.specs.PageRows.{RowContent}
-use Rattle.mad_page_rows.specs.Faces.{has_ascii_boxes, has_boxes, alert_bar, below_char, box_piece, heading_sign, blanks, code_blanks, code_face, first_face, other_face, face, faces, columns_behind, back_columns, backs, level_above, in_box, ruled, line_skin, behind_pieces, page_row_pieces, page_row_bytes}
+use Rattle.mad_page_rows.specs.Faces.{has_ascii_boxes, has_boxes, alert_bar, below_char, box_piece, heading_sign, blanks, code_blanks, code_face, first_face, other_face, face, faces, columns_behind, back_columns, backs, level_above, in_box, ruled, line_skin, behind_pieces, page_row_pieces}
 use Rattle.mad_page_skin.specs.PlainSkins.{plain_skin}
-use Rattle.markdown_layout.specs.WrittenPages.{dressed_bytes}
+use Rattle.markdown_layout.specs.RowEnds.{ended, without_end}
+use Rattle.markdown_layout.specs.WrittenPages.{dressed_bytes, row_bytes}
+use Rattle.markdown_layout.proofs.EndLemmas.{end_off, rows_end}
 use Rattle.markdown_page_laws.specs.Marks.{Mark, blank, quote_bar, bar_of, bullet, number, after_number, box, signs, rule, rule_below, border, rule_start, rule_over, rule_between, rule_end, mark_text, AreTextAndMarks, runs_in}
 use Rattle.markdown_page_laws.specs.PlainPages.{plain_rows, texts_of, PlainIsText, HasNoEscape, SaysNoEscape, PlainHasNoEscape}
 use Rattle.markdown_page_laws.proofs.MarkLemmas.{others_are_marks}
@@ -249,7 +251,9 @@ bare_bytes (p ∷ ps) h = ap₂ (λ (own more : List ℕ). own ++ more) (unstyle
 
 -- so is a row in the skin without styles
 pub plain_is_text : PlainIsText
-plain_is_text width row = ap (λ (bytes : List ℕ). bytes ++ 10 ∷ []) (bare_bytes (page_row_pieces plain_rows width false row) (bare_row width false row))
+plain_is_text width row =
+    let pieces : List RowPiece = page_row_pieces plain_rows width false row in
+    ap (λ (bytes : List ℕ). ended (bytes ++ 10 ∷ [])) (bare_bytes pieces (bare_row width false row)) ∙ ap (λ (bytes : List ℕ). bytes ++ 10 ∷ []) (end_off (texts_of pieces) 10 refl)
 
 -- ---- no ESC
 
@@ -270,6 +274,16 @@ none_by (byte ∷ bytes) h =
 none_repeated : (count : ℕ) (bytes : List ℕ) → HasNoEscape bytes → HasNoEscape (repeat count bytes)
 none_repeated zero bytes h = tt
 none_repeated (suc count) bytes h = none_both bytes (repeat count bytes) h (none_repeated count bytes h)
+
+none_front : (xs ys : List ℕ) → HasNoEscape (xs ++ ys) → HasNoEscape xs
+none_front [] ys h = tt
+none_front (x ∷ xs) ys h = (h.0, none_front xs ys h.1)
+
+-- nor has a row that loses its end
+none_ended : (row : List ℕ) → HasNoEscape row → HasNoEscape (ended row)
+none_ended row h =
+    let cut = rows_end row in
+    none_both (without_end row) (10 ∷ []) (none_front (without_end row) cut.lost (subst HasNoEscape cut.row_is h)) (none_by (10 ∷ []) refl)
 
 none_blank : (count : ℕ) → HasNoEscape (replicate count 32)
 none_blank zero = tt
@@ -361,6 +375,6 @@ pub plain_has_no_escape : PlainHasNoEscape
 plain_has_no_escape width [] said = tt
 plain_has_no_escape width (row ∷ rows) said =
     let pieces : List RowPiece = page_row_pieces plain_rows width false row in
-    let own : HasNoEscape (texts_of pieces ++ 10 ∷ []) =
-    none_both (texts_of pieces) (10 ∷ []) (none_woven (runs_in row.line) pieces (others_are_marks plain_rows width false row).pieces said.0) (none_by (10 ∷ []) refl) in
-    none_both (page_row_bytes plain_rows width row) (dressed_bytes plain_skin width rows) (subst HasNoEscape (sym (plain_is_text width row)) own) (plain_has_no_escape width rows said.1)
+    let own : HasNoEscape (ended (texts_of pieces)) =
+    none_ended (texts_of pieces) (none_woven (runs_in row.line) pieces (others_are_marks plain_rows width false row).pieces said.0) in
+    none_both (row_bytes plain_rows width row) (dressed_bytes plain_skin width rows) (subst HasNoEscape (sym (plain_is_text width row)) own) (plain_has_no_escape width rows said.1)

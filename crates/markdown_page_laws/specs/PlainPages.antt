@@ -1,14 +1,15 @@
 -- Pages in the skin without styles.
-use Rattle.std.specs.Prelude.{◌≡◌, ◌≢◌, ℕ, false, List, [], ◌∷◌, ◌++◌, Option}
+use Rattle.std.specs.Prelude.{◌≡◌, ◌≢◌, ℕ, false, List, Option}
 use Rattle.std.specs.List.{AllByRecursion, flat_map}
 use Rattle.mad_md.specs.Flagged.{Run}
 use Rattle.mad_draw.specs.Pieces.{RowPiece}
 use Rattle.mad_rows.specs.declared.row_skin.RowSkin.{RowSkin}
 use Rattle.mad_pages.specs.PageRows.{RowContent}
-use Rattle.mad_page_rows.specs.Faces.{page_row_pieces, page_row_bytes}
+use Rattle.mad_page_rows.specs.Faces.{page_row_pieces}
 use Rattle.mad_page_skin.specs.PageSkins.{page_row_skin}
 use Rattle.mad_page_skin.specs.PlainSkins.{plain_skin}
-use Rattle.markdown_layout.specs.WrittenPages.{dressed_bytes}
+use Rattle.markdown_layout.specs.RowEnds.{ended}
+use Rattle.markdown_layout.specs.WrittenPages.{dressed_bytes, row_bytes}
 use Rattle.markdown_page_laws.specs.Marks.{runs_in}
 
 -- what rows show of the skin without styles
@@ -19,9 +20,9 @@ plain_rows = page_row_skin plain_skin
 abbrev pub texts_of : List RowPiece → List ℕ
 texts_of ps = flat_map (λ (p : RowPiece). p.text) ps
 
--- In the skin without styles a row is written as the texts of its pieces and a newline: no byte goes out for a style.
+-- In the skin without styles a row is written as the texts of its pieces, without the blanks at their end, and a newline: no byte goes out for a style.
 abbrev pub PlainIsText : Type 0
-PlainIsText = (width : Option ℕ) (row : RowContent) → page_row_bytes plain_rows width row ≡ texts_of (page_row_pieces plain_rows width false row) ++ 10 ∷ []
+PlainIsText = (width : Option ℕ) (row : RowContent) → row_bytes plain_rows width row ≡ ended (texts_of (page_row_pieces plain_rows width false row))
 
 -- no byte is ESC, with which each command of a terminal begins
 abbrev pub HasNoEscape : List ℕ → Type 0
