@@ -48,7 +48,8 @@ pub fn skins_keep_text()
     ensures alike { SkinsKeepText }
 {}
 
-/// A page in the skin without styles is its texts and newlines alone, and no row ends in a blank. It has no ESC, with which each command begins, where its text has none.
+/// A page in the skin without styles is its texts and newlines alone, and no row ends in a blank. It has no ESC, with which each command begins, where
+/// its text has none.
 pub fn plain_pages_have_no_styles()
     ensures text { PlainIsText }
     ensures no_escape { PlainHasNoEscape }
