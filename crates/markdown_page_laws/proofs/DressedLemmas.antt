@@ -19,7 +19,7 @@ use Rattle.mad_sections.proofs.Choices.{by_bool}
 use Rattle.mad_sections.proofs.KeptLemmas.{stays_when}
 use Rattle.mad_dressing.specs.DressLaws.{IsRuled, IsSigned}
 use Rattle.mad_dressing.specs.Dressed.{Beside, nothing, rule_below, signs_before, beside_at, dressed, dressed_page, heading_level, placed_by, rule_behind, signed}
-use Rattle.mad_dressing.specs.WordMarks.{begins_strong, end_flags, is_rule, marked_line, marked_lines, worded}
+use Rattle.mad_dressing.specs.WordMarks.{begins_strong, end_flags, marked_lines, worded}
 use Rattle.mad_dressing.specs.declared.heading_marks.HeadingMarks.{HeadingMarks}
 use Rattle.mad_dressing.proofs.DressLemmas.{adds_marks_alone}
 use Rattle.mad_dressing.proofs.MarkLemmas.{worded_lines}
