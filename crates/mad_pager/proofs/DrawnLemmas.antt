@@ -32,6 +32,7 @@ use Rattle.mad_format.specs.declared.line.FmtLine.{FmtLine}
 use Rattle.mad_layout.specs.Drawable.{AreDrawable}
 use Rattle.mad_layout.specs.Shown.{area_row}
 use Rattle.mad_layout.specs.declared.skin.MadSkin.{MadSkin}
+use Rattle.mad_style.specs.declared.compound_styles.CompoundStyle.{CompoundStyle}
 use Rattle.mad_page_skin.specs.declared.page_skin.PageSkin.{PageSkin}
 use Rattle.mad_rows.specs.declared.row_skin.RowSkin.{RowSkin}
 use Rattle.mad_hits.specs.FrontHits.{AreRowsMarked}
@@ -202,11 +203,11 @@ unshown_exit skin name asks s old new r e is h =
     subst (λ (t : Result Unit Error). MatchResult t (λ _. IsShown skin name asks s old new) (λ d. IsUnshown skin name asks s old d new)) (sym (p.1 ∙ ap Err p.2)) h
 
 -- the hits of the rows on the screen, along what is equal
-pub hits_along : (skin dress : RowSkin) (width columns height rows top : ℕ) (text sought : List ℕ) (shown lines : List FmtLine) (front fronts : List Front) (given starts : List ℕ) (old new : Trace) → dress ≡ skin → width ≡ columns → height ≡ rows → text ≡ sought
-    → shown ≡ lines → front ≡ fronts → given ≡ starts → TookWith old new (AreRowsMarked dress width text shown front given 0 (range_with_len top (min height (length shown - top))))
-    → TookWith old new (AreRowsMarked skin columns sought lines fronts starts 0 (range_with_len top (min rows (length lines - top))))
-hits_along skin dress width columns height rows top text sought shown lines front fronts given starts old new a b d e f g i h =
-    let of : RowSkin → ℕ → ℕ → List ℕ → List FmtLine → List Front → List ℕ → Type 0 = λ k n r s ls fs ts. TookWith old new (AreRowsMarked k n s ls fs ts 0 (range_with_len top (min r (length ls - top)))) in
+pub hits_along : (skin dress : RowSkin) (style : CompoundStyle) (width columns height rows top : ℕ) (text sought : List ℕ) (shown lines : List FmtLine) (front fronts : List Front) (given starts : List ℕ) (old new : Trace) → dress ≡ skin → width ≡ columns → height ≡ rows → text ≡ sought
+    → shown ≡ lines → front ≡ fronts → given ≡ starts → TookWith old new (AreRowsMarked dress style width text shown front given 0 (range_with_len top (min height (length shown - top))))
+    → TookWith old new (AreRowsMarked skin style columns sought lines fronts starts 0 (range_with_len top (min rows (length lines - top))))
+hits_along skin dress style width columns height rows top text sought shown lines front fronts given starts old new a b d e f g i h =
+    let of : RowSkin → ℕ → ℕ → List ℕ → List FmtLine → List Front → List ℕ → Type 0 = λ k n r s ls fs ts. TookWith old new (AreRowsMarked k style n s ls fs ts 0 (range_with_len top (min r (length ls - top)))) in
     subst (λ (k : RowSkin). of k columns rows sought lines fronts starts) a
     (subst (λ (n : ℕ). of dress n rows sought lines fronts starts) b
     (subst (λ (r : ℕ). of dress width r sought lines fronts starts) d

@@ -204,9 +204,9 @@ pub record ArePanesDrawn (skin : PageSkin) (name : List ℕ) (s : State) (bytes 
 abbrev pub rows_shown : State → List ℕ
 rows_shown s = range_with_len s.page.top (min (area_of s).height (length s.laid.lines.items - s.page.top))
 
--- these bytes mark what is sought in these rows, which have the columns that the text is drawn in
+-- these bytes mark what is sought in these rows, which have the columns that the text is drawn in, by the style of hits
 abbrev pub AreHitsDrawn : PageSkin → State → List ℕ → Type 0
-AreHitsDrawn skin s bytes = AreRowsMarked (paged_skin skin) (text_columns skin s) s.sought s.laid.lines.items s.laid.fronts.items s.laid.parts.items 0 (rows_shown s) bytes
+AreHitsDrawn skin s bytes = AreRowsMarked (paged_skin skin) skin.hit (text_columns skin s) s.sought s.laid.lines.items s.laid.fronts.items s.laid.parts.items 0 (rows_shown s) bytes
 
 -- These bytes show a session: first the text and the last row, and then, over the text, what is sought. Each byte of a hit is written in the cells of
 -- the hit alone.

@@ -66,7 +66,7 @@ impl Session<'_> {
         self.page.columns < LEAST_COLUMNS || self.page.rows < LEAST_ROWS
     }
 
-    // Draws the text beside its bar, in the last row what is typed or the status, and last what is sought once more, reversed.
+    // Draws the text beside its bar, in the last row what is typed or the status, and last what is sought once more, in the style of hits.
     fn draw<O: Out>(&self, alloc: Global, out: &mut O) -> Result<(), Error>
         requires { is_small (state_of self.now) ≡ false }
         ensures { OnOk result (TookWith (O.seen out.old) (O.seen out.new) (IsDrawing self.now.skin.now self.now.name.now (state_of self.now))) }
@@ -86,7 +86,7 @@ impl Session<'_> {
         Ok(())
     }
 
-    // Draws what is sought once more, wherever it is on the screen.
+    // Draws what is sought once more in the style of hits, wherever it is on the screen.
     fn draw_hits<O: Out>(&self, alloc: Global, out: &mut O) -> Result<(), Error>
         ensures { OnOk result (TookWith (O.seen out.old) (O.seen out.new) (AreHitsDrawn self.now.skin.now (state_of self.now))) }
     {
@@ -94,6 +94,7 @@ impl Session<'_> {
             alloc,
             out,
             &paged_skin(self.skin),
+            self.skin.hit,
             self.laid.lines.as_slice(),
             self.laid.fronts.as_slice(),
             self.laid.parts.as_slice(),

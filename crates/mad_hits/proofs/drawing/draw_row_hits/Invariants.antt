@@ -8,7 +8,7 @@ use Rattle.mad_hits.proofs.drawing.draw_row_hits.Given as goal
 abbrev pub invariant-rows : goal.invariant-rows
 invariant-rows g l = record {
   within : l.y ≤ l.count;
-  marked : TookWith (g.O.Out.seen l.fn.out) (g.O.Out.seen l.out) (AreRowsMarked l.skin l.width l.sought l.lines l.fronts l.starts 0 (range_with_len l.top l.y));
+  marked : TookWith (g.O.Out.seen l.fn.out) (g.O.Out.seen l.out) (AreRowsMarked l.skin l.style l.width l.sought l.lines l.fronts l.starts 0 (range_with_len l.top l.y));
 }
 
 abbrev pub decreases-rows : goal.decreases-rows
