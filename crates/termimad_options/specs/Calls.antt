@@ -1,11 +1,15 @@
 -- What the words of a call ask for.
-use Rattle.std.specs.Prelude.{◌≡◌, ◌&&◌, ◌-◌, ℕ, nat_lt, Bool, false, List, [], map, option_map, option_and_then, is_some, unwrap_or, slice_get, length, Option, Some, None, codes, if◌then◌else◌}
+use Rattle.std.specs.Prelude.{◌≡◌, ◌⊎◌, ◌&&◌, ◌-◌, ℕ, nat_lt, Bool, false, List, [], map, option_map, option_and_then, is_some, unwrap_or, slice_get, length, Option, Some, None, codes, if◌then◌else◌}
 use Rattle.std.specs.Char.{digit_value}
 use Rattle.std.specs.List.{list_all}
 use Rattle.std.specs.Option.{option_map_or}
 use Rattle.std.specs.Str.{bytes_eq}
 use Rattle.std.specs.Str.Parse.{digits_value, without_leading_plus}
-use Rattle.clap.specs.Words.{Row, Text, all_of, first_of, matches_of, takes}
+use Rattle.clap.specs.Words.{HasKind, IsAmong, Kinds, Row, Text, all_of, fault_of, first_of, found_of, kind_of, matches_of, rows_of, takes}
+use Rattle.clap.specs.declared.parser.matches.ArgMatches.{ArgMatches}
+use Rattle.clap.specs.declared.error.Error.{Error}
+use Rattle.clap.specs.declared.error.kind.ErrorKind.{ErrorKind}
+use Rattle.clap.specs.declared.error.kind.ErrorKind.TheVariants.{DisplayHelp, DisplayVersion, InvalidValue, OutOfMemory}
 use Rattle.termimad_options.specs.Rules.{termimad_rules}
 use Rattle.termimad_options.specs.declared.calls.Call.{Call}
 use Rattle.termimad_options.specs.declared.calls.Grammar.{Grammar}
@@ -79,3 +83,23 @@ IsCallOf words call = IsAskedBy (matches_of termimad_rules words) call
 -- words are options that there are, each with a value that it takes
 abbrev pub is_call : List Text → Bool
 is_call words = takes termimad_rules words && is_some (links_said (matches_of termimad_rules words))
+
+-- the kinds of mistakes that words have as options; none, where they are options that there are
+abbrev pub mistakes_of : List Text → Kinds
+mistakes_of words = fault_of termimad_rules words
+
+-- words that are options say another word of links
+abbrev pub AreOtherLinks : List Text → Type 0
+AreOtherLinks words = (mistakes_of words ≡ []) × (links_said (matches_of termimad_rules words) ≡ None)
+
+-- the error is of a mistake that the words have, or of a wrong word for links; or memory ran out
+abbrev pub IsErrorOf : List Text → Error → Type 0
+IsErrorOf words e = HasKind (mistakes_of words) e ⊎ ((kind_of e ≡ InvalidValue) × AreOtherLinks words)
+
+-- the error is of another word of links in these matches; or memory ran out
+abbrev pub IsErrorIn : ArgMatches → Error → Type 0
+IsErrorIn matches e = (kind_of e ≡ OutOfMemory) ⊎ ((kind_of e ≡ InvalidValue) × (links_said (rows_of (found_of matches)) ≡ None))
+
+-- the kind is of an answer, help or the version, and no mistake
+abbrev pub IsAnswer : ErrorKind → Type 0
+IsAnswer kind = (kind ≡ DisplayHelp) ⊎ (kind ≡ DisplayVersion)

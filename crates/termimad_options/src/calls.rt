@@ -2,7 +2,7 @@
 
 ghost use Rattle.std.specs.Prelude.{◌≡◌, [], IfOk, IfErr, Some, is_some, map, option_map, option_and_then, true, unwrap_or, codes};
 ghost use Rattle.clap.specs.Words.{all_of, found_of, kind_of, rows_of};
-ghost use Rattle.termimad_options.specs.Calls.{IsAskedBy, IsCallOf, columns_written, is_call, is_said, last_said, links_named, links_said, reading_of, reading_said};
+ghost use Rattle.termimad_options.specs.Calls.{IsAskedBy, IsCallOf, IsErrorIn, IsErrorOf, columns_written, is_call, is_said, last_said, links_named, links_said, mistakes_of, reading_of, reading_said};
 
 use crate::rules::options;
 use clap::error::ErrorKind;
@@ -63,6 +63,8 @@ pub struct Call<'a> {
 pub fn call_of<'a>(alloc: Global, words: &'a [&'a str]) -> Result<Call<'a>, Error>
     ensures call { IfOk result (λ call. IsCallOf (map (λ word. word.now) words.now) call) }
     ensures passes { IfErr result (λ e. is_call (map (λ word. word.now) words.now) ≡ true → kind_of e ≡ ErrorKind.OutOfMemory) }
+    ensures taken { IfOk result (λ _. mistakes_of (map (λ word. word.now) words.now) ≡ []) }
+    ensures kinds { IfErr result (IsErrorOf (map (λ word. word.now) words.now)) }
 {
     let mut command = options(alloc)?;
     let matches = command.try_get_matches_from_mut(words)?;
@@ -77,6 +79,7 @@ fn call_in<'a>(
 ) -> Result<Call<'a>, Error>
     ensures call { IfOk result (λ call. IsAskedBy (rows_of (found_of matches.now)) call) }
     ensures passes { IfErr result (λ e. is_some (links_said (rows_of (found_of matches.now))) ≡ true → kind_of e ≡ ErrorKind.OutOfMemory) }
+    ensures kinds { IfErr result (IsErrorIn matches.now) }
 {
     match links_asked(matches) {
         Some(links) => Ok(asked(alloc, matches, links)?),
@@ -122,8 +125,8 @@ fn width_asked(matches: &ArgMatches) -> Option<u16>
     columns_written(last(matches, "width")?)
 }
 
-// The number of columns that a text writes.
-fn columns_written(text: &str) -> Option<u16>
+/// The number of columns that a text writes: digits, a plus sign before them or none, of a value below 65,536.
+pub fn columns_written(text: &str) -> Option<u16>
     ensures { result ≡ columns_written text.now }
 {
     text.parse::<u16>().ok()

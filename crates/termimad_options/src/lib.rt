@@ -15,7 +15,7 @@ mod places;
 mod plans;
 mod rules;
 
-pub use calls::{Call, Grammar, Links, call_of};
+pub use calls::{Call, Grammar, Links, call_of, columns_written};
 pub use names::grammar_of_file;
 pub use places::{Parted, part_places};
 pub use plans::{Plan, Shade, Surroundings, Way, plan_of};

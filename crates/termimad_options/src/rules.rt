@@ -22,12 +22,12 @@ pub fn options<'a>(alloc: Global) -> Result<Command<'a>, AllocError>
         "SKIN",
         "Shows it in auto, dark, light, sixteen, none, a file's or JSON's skin",
     );
-    let code = valued(alloc, "code", "LANGUAGE", "Shows code of this language");
+    let code = valued(alloc, "code", "LANGUAGE", "Code of this language; isn't there yet");
     let links = valued(
         alloc,
         "links",
         "WHEN",
-        "Writes where links lead: auto, always or never",
+        "Where links lead: auto or never; always isn't there yet",
     );
     let lines = flag(
         alloc,
@@ -39,7 +39,7 @@ pub fn options<'a>(alloc: Global) -> Result<Command<'a>, AllocError>
         "plain",
         "Shows text that isn't Markdown, with its colors",
     );
-    let stream = flag(alloc, "stream", "Writes each part of a text as it comes");
+    let stream = flag(alloc, "stream", "Each part as it comes; isn't there yet");
     let no_pager = flag(alloc, "no-pager", "Writes, and doesn't page");
     bare(alloc)
         .arg(files(alloc))?
@@ -62,7 +62,7 @@ fn bare<'a>(alloc: Global) -> Command<'a>
         .version("0.3.0")
         .args_override_self(true)
         .about("Shows Markdown: pages it on a terminal, and writes it elsewhere")
-        .after_help("+N shows the text from its row N on. Without FILE, standard input is read.")
+        .after_help("Without FILE, standard input is read.")
 }
 
 // The texts to show.

@@ -1,0 +1,2 @@
+pub mod ShowLemmas
+pub mod LineLemmas
