@@ -1,15 +1,18 @@
 -- What values of options are read as.
-use Rattle.std.proofs.Common.{◌≡◌, ◌∙◌, ◌&&◌, ◌-◌, ℕ, Bool, true, false, nat_lt, refl, sym, ap, subst, List, [], ◌∷◌, map, length, Some, None, Result, Ok, Err, lt-ltb, ltb-true, option_map, slice_get}
+use Rattle.std.proofs.Common.{◌≡◌, inl, inr, ◌∙◌, ◌&&◌, ◌-◌, ℕ, Bool, true, false, nat_lt, refl, sym, ap, subst, List, [], ◌∷◌, map, length, Some, None, Result, Ok, Err, lt-ltb, ltb-true, option_map, slice_get}
 use Rattle.std.proofs.lemmas.List.{length-map}
 use Rattle.std.proofs.lemmas.Option.{slice_get-map}
 use Rattle.std.specs.Borrow.{Bor}
 use Rattle.std.specs.Char.{digit_value}
 use Rattle.std.specs.List.{list_all}
-use Rattle.std.specs.Result.{IfErr, IsErrAnd, result_ok}
+use Rattle.std.specs.Result.{IfErr, IfOk, IsErrAnd, result_ok}
 use Rattle.std.specs.Str.Parse.{AllDigits, ParsesUnsigned, digits_value, without_leading_plus}
 use Rattle.clap.proofs.WalkLemmas.{both}
-use Rattle.clap.specs.Words.{Text}
-use Rattle.termimad_options.specs.Calls.{columns_written}
+use Rattle.clap.specs.Words.{Text, found_of, matches_of, rows_of}
+use Rattle.clap.specs.declared.error.Error.{Error}
+use Rattle.clap.specs.declared.parser.matches.ArgMatches.{ArgMatches}
+use Rattle.termimad_options.specs.Calls.{IsErrorIn, IsErrorOf, columns_written, links_said, mistakes_of}
+use Rattle.termimad_options.specs.Rules.{termimad_rules}
 
 digits_pass : (ds : List ℕ) → AllDigits 10 ds → list_all (λ d. nat_lt (digit_value d) 10) ds ≡ true
 digits_pass [] h = refl
@@ -47,3 +50,14 @@ last_text values =
 pub error_exit : {T E : Type 0} (r : Result T E) (e : E) (Q : E → Type 0) → IsErrAnd r (λ x. x ≡ e) → Q e → IfErr r Q
 error_exit (Ok x) e Q h q = tt
 error_exit (Err x) e Q h q = subst Q (sym h) q
+
+-- what holds anyhow holds of a success
+pub ok_always : {T E : Type 0} (r : Result T E) (A : Type 0) → A → IfOk r (λ _. A)
+ok_always (Ok x) A a = a
+ok_always (Err e) A a = tt
+
+-- a wrong word for links in the matches of words is one in the words
+pub error_of : (matches : ArgMatches) (said : List Text) → rows_of (found_of matches) ≡ matches_of termimad_rules said → mistakes_of said ≡ []
+    → (e : Error) → IsErrorIn matches e → IsErrorOf said e
+error_of matches said rows none e (inl memory) = inl (inl memory)
+error_of matches said rows none e (inr other) = inr (other.0, (none, ap links_said (sym rows) ∙ other.1))

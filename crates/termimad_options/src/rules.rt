@@ -22,7 +22,12 @@ pub fn options<'a>(alloc: Global) -> Result<Command<'a>, AllocError>
         "SKIN",
         "Shows it in auto, dark, light, sixteen, none, a file's or JSON's skin",
     );
-    let code = valued(alloc, "code", "LANGUAGE", "Code of this language; isn't there yet");
+    let code = valued(
+        alloc,
+        "code",
+        "LANGUAGE",
+        "Code of this language; isn't there yet",
+    );
     let links = valued(
         alloc,
         "links",
