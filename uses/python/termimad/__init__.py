@@ -3,8 +3,8 @@
     >>> print(Markdown("- some *words* in a list\\n- [a link](there.md)"))
     • some words in a list
     • a link
-    >>> Markdown("# Title\\n\\n> a quote").rows(width=20)
-    ['# Title', '', '▌ a quote']
+    >>> Markdown("> a quote\\n\\n- an item").rows(width=20)
+    ['▌ a quote', '', '• an item']
     >>> print(table([{"disk": "/", "used": 7}, {"disk": "a|b", "used": 42}], width=40, aligns=[Align.LEFT, Align.RIGHT]), end="")
     ┌────┬────┐
     │disk│used│
