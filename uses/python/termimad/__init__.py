@@ -28,7 +28,7 @@
     --
     >>> Markdown("a").rows(width=70000)
     Traceback (most recent call last):
-    termimad._calls.WrongNumber: A number is none that the call takes. Given: width=70000.
+    termimad.WrongNumber: A number is none that the call takes. Given: width=70000.
 
 `Markdown(..).show()` prints a page in the width of the terminal. It has styles only where the output is a terminal and `NO_COLOR` isn't set.
 
@@ -51,6 +51,10 @@ __all__ = ["Align", "Lines", "Markdown", "NotUtf8", "OutOfMemory", "Refused", "S
     "inline", "markdown", "printable", "rows", "table", "terminal_width", "text", "text_of_pieces"]
 
 Record = Union[Sequence[object], Mapping[str, object]]
+
+# A traceback names them as their users do.
+for _kind in (Refused, WrongNumber, NotUtf8, WrongSkin, OutOfMemory):
+    _kind.__module__ = __name__
 
 
 class Align(enum.IntEnum):

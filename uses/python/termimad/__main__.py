@@ -12,11 +12,13 @@ def main() -> int:
     words.add_argument("--skin", default="auto", help="auto, dark, light, sixteen, none, or JSON text")
     words.add_argument("--version", action="version", version=__version__)
     given = words.parse_args()
-    try:
-        for name in given.files:
+    for name in given.files:
+        try:
             Markdown(text_of(name)).show(given.width, given.skin)
-    except (OSError, Refused) as fault:
-        words.exit(1, f"termimad: {fault}\n")
+        except OSError as fault:
+            words.exit(1, f"termimad: {name}: {fault.strerror}\n")
+        except Refused as fault:
+            words.exit(1, f"termimad: {name}: {fault}\n")
     return 0
 
 
