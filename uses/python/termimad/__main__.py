@@ -1,8 +1,11 @@
 """Shows Markdown: `python -m termimad [FILE ..]`."""
 import argparse
+import os
 import sys
 
 from . import Markdown, Refused, __version__
+
+STATUS_OF_A_CLOSED_PIPE = 141  # as a shell says it of a program that SIGPIPE ended
 
 
 def main() -> int:
@@ -15,6 +18,9 @@ def main() -> int:
     for name in given.files:
         try:
             Markdown(text_of(name)).show(given.width, given.skin)
+        except BrokenPipeError:
+            os.dup2(os.open(os.devnull, os.O_WRONLY), sys.stdout.fileno())
+            return STATUS_OF_A_CLOSED_PIPE
         except OSError as fault:
             words.exit(1, f"termimad: {name}: {fault.strerror}\n")
         except Refused as fault:
