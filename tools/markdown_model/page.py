@@ -119,7 +119,12 @@ def texts(width: int | None, sections: list[Section], look: str = "page") -> lis
         sections = list(map(in_ascii, sections))
     if look == "plain":
         sections = [d for s in sections for d in dressed(s)]
-    return [front + "".join(c.src for c in row) for s in shown_sections(width, sections) for front, row in rows_of(width, s)]
+    return [ended(front + "".join(c.src for c in row), look, s) for s in shown_sections(width, sections) for front, row in rows_of(width, s)]
+
+
+def ended(row: str, look: str, section: Section) -> str:
+    """A row without the blanks at its end, but those of a box."""
+    return row if look == "boxes" and section.gutters[-1:] == [CODE_SIDES] else row.rstrip(" ")
 
 
 def in_ascii(section: Section) -> Section:

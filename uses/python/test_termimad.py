@@ -3,8 +3,10 @@ import doctest
 import io
 import pathlib
 import random
+import re
 import tempfile
 import unittest
+import unittest.mock
 
 import termimad
 
@@ -13,8 +15,9 @@ RANDOM_CALLS = 1000
 
 
 def load_tests(_loader, tests, _pattern):
-    """The examples of the module's head, too."""
-    tests.addTests(doctest.DocTestSuite(termimad))
+    """The examples of the module, of its classes and of its functions, too."""
+    for module in (termimad, termimad._pages):
+        tests.addTests(doctest.DocTestSuite(module))
     return tests
 
 
@@ -52,8 +55,12 @@ class Tables(unittest.TestCase):
         self.assertEqual(termimad.table([{"a": 1, "b": "x|y"}, {"a": 2}], 40), wanted)
         with tempfile.TemporaryDirectory() as folder:
             path = pathlib.Path(folder) / "a.csv"
-            path.write_text('a,b\n1,"x|y"\n2,\n')
-            self.assertEqual(termimad.table(path, 40), wanted)
+            for mark in ("", "\ufeff"):  # some programs put a mark at a file's front
+                path.write_text(mark + 'a,b\n1,"x|y"\n2,\n', encoding="utf-8")
+                self.assertEqual(termimad.table(path, 40), wanted)
+            path.write_bytes(b"a\n\xff\n")
+            with self.assertRaisesRegex(termimad.NotUtf8, "a.csv is not UTF-8"):
+                termimad.table(path, 40)
 
 
 class Texts(unittest.TestCase):
@@ -87,14 +94,29 @@ class Texts(unittest.TestCase):
     def test_code_is_one_block(self):
         shown = termimad.code("```\n# no heading", "markdown").rows(40)
         self.assertEqual([row.strip() for row in shown], ["```", "# no heading"])
+        self.assertEqual(termimad.code("a", "rust\n```\n# head").rows(40), termimad.code("a", "rust").rows(40))
 
     def test_refusals_name_the_argument(self):
-        with self.assertRaisesRegex(termimad.NotUtf8, "markdown"):
-            termimad.text(b"\xff", 20)
-        with self.assertRaisesRegex(termimad.WrongSkin, "nothing"):
-            termimad.text("a", 20, "nothing")
-        with self.assertRaisesRegex(termimad.WrongNumber, "width=65536"):
-            termimad.text("a", 65536)
+        refused = [
+            (termimad.NotUtf8, "markdown is not", lambda: termimad.text(b"\xff", 20)),
+            (termimad.NotUtf8, "source is not", lambda: termimad.Markdown(b"\xff").rows(20)),
+            (termimad.NotUtf8, r"rows\[1\]\[0\] is not", lambda: termimad.table([["a"], [b"\xff"]], 20)),
+            (termimad.WrongSkin, "skin='nothing'", lambda: termimad.text("a", 20, "nothing")),
+            (termimad.WrongNumber, "width=65536 is over 65535", lambda: termimad.text("a", 65536)),
+            (termimad.WrongNumber, "width=-1 is under 0", lambda: termimad.text("a", -1)),
+            (termimad.WrongNumber, f"width={2**70} is over", lambda: termimad.text("a", 2**70)),
+            (termimad.WrongNumber, "width=3 is under 4", lambda: termimad.area("a", 0, 0, 3, 1)),
+            (termimad.WrongNumber, "top=65535 and height=1", lambda: termimad.area("a", 0, 65535, 4, 1)),
+            (termimad.WrongNumber, r"aligns\[1\]=4 is over 3", lambda: termimad.table([["a"]], 40, aligns=[0, 4])),
+            (TypeError, "width is of type str", lambda: termimad.text("a", "20")),
+            (TypeError, "skin is None", lambda: termimad.text("a", 20, None)),
+            (TypeError, "source is of type int", lambda: termimad.Markdown(7)),
+            (TypeError, r"rows\[1\] is of type str", lambda: termimad.table([["a"], "b"], 40)),
+            (TypeError, r"rows\[1\] is of type dict, and rows\[0\] of type list", lambda: termimad.table([["a"], {"a": 1}], 40)),
+        ]
+        for kind, said, call in refused:
+            with self.subTest(said), self.assertRaisesRegex(kind, said):
+                call()
 
     def test_rows_of_rich_are_those_of_the_page(self):
         try:
@@ -104,6 +126,27 @@ class Texts(unittest.TestCase):
         file = io.StringIO()
         Console(file=file, width=30).print(termimad.Markdown("# head\n\n- one *two*"))
         self.assertEqual([row.rstrip() for row in file.getvalue().splitlines()], [row.rstrip() for row in termimad.Markdown("# head\n\n- one *two*").rows(30)])
+
+    @unittest.mock.patch.dict("os.environ", {"TERM": "xterm", "COLORFGBG": "15;0", "NO_COLOR": ""})
+    def test_a_page_in_a_layout_of_rich_has_its_rows(self):
+        try:
+            from rich.console import Console
+            from rich.panel import Panel
+            from rich.table import Table
+        except ImportError:
+            self.skipTest("no rich here")
+        page = termimad.Markdown("# head\n\n- one *two* three four five six 日本語\n\n|a|b|\n|-|-|\n|1|2|\n\n```rust\nlet x = 1;\n```")
+        for is_terminal in (False, True):
+            file = io.StringIO()
+            console = Console(file=file, width=30, force_terminal=is_terminal, color_system="256", no_color=False)
+            console.print(Panel(page))
+            shown = [re.sub(r"\x1b\[[0-9;]*m", "", row) for row in file.getvalue().splitlines()]
+            rows = [re.sub(r"\x1b\[[0-9;]*m", "", row).rstrip() for row in page.rows(26, "dark" if is_terminal else "none")]
+            self.assertEqual([row[2:-2].rstrip() for row in shown[1:-1]], rows)
+        table = Table("left", "right")
+        table.add_row(page, termimad.Lines("one\n*two*"))
+        console.print(table)
+        self.assertIn("two", file.getvalue())
 
     def test_random_calls(self):
         draw = random.Random(7)

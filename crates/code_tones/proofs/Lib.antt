@@ -1,2 +1,3 @@
 pub mod CursorLemmas
+pub mod JoinLemmas
 pub mod WalkLemmas

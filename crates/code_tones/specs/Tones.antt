@@ -1,5 +1,5 @@
--- The tones of a text of code. Each character that is shown of it and isn't blank has that of the token in which its first byte is.
-use Rattle.std.specs.Prelude.{ℕ, suc, ◌==◌, ◌||◌, Bool, not, List, [], ◌∷◌, map, drop, replicate, slice_index, Option, if◌then◌else◌}
+-- The tones of a text of code. Each character of it that isn't blank has that of the token in which its first byte is.
+use Rattle.std.specs.Prelude.{ℕ, suc, Bool, not, List, [], ◌∷◌, map, drop, replicate, slice_index, Option}
 use Rattle.std.specs.List.{filter, flat_map}
 use Rattle.std.specs.Char.{is_whitespace}
 use Rattle.bstr.specs.Utf8.{Decoded, or_replacement, pieces}
@@ -8,7 +8,6 @@ use Rattle.code_tables.specs.declared.rules.Class.TheVariants.{Plain, Comment, T
 use Rattle.code_tables.specs.declared.rules.Language.{Language}
 use Rattle.code_colors.specs.declared.tokens.Token.{Token}
 use Rattle.code_colors.specs.Tokens.{tokens_by}
-use Rattle.mad_characters.specs.Pictures.{picture}
 
 -- ---- tones
 
@@ -44,13 +43,9 @@ abbrev pub toned : List ℕ → List Decoded → List TonedChar
 toned tones [] = []
 toned tones (p ∷ ps) = record { tone = slice_index tones 0; char = or_replacement p.char } ∷ toned (drop p.size tones) ps
 
--- what is shown of a character of code: of a tab and a newline nothing but blanks
-abbrev pub shown : ℕ → ℕ
-shown c = if (c == 9) || (c == 10) then 32 else picture c
-
--- what is shown of it is no whitespace
+-- it is no whitespace
 abbrev pub is_counted : ℕ → Bool
-is_counted c = not (is_whitespace (shown c))
+is_counted c = not (is_whitespace c)
 
 -- the tones of the characters that are counted
 abbrev pub counted_tones : List TonedChar → List ℕ

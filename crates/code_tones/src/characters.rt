@@ -5,7 +5,6 @@ ghost use Rattle.bstr.specs.Utf8.{decoded, or_replacement};
 ghost use Rattle.code_tones.specs.Tones.{is_counted};
 
 use bstr::decode_lossy;
-use mad_characters::picture;
 
 /// The first character, and its bytes: U+FFFD for bytes that are no character.
 #[tactic(auto, using(crate::proofs::WalkLemmas::size_some, crate::proofs::WalkLemmas::size_within))]
@@ -19,12 +18,9 @@ pub(crate) fn first_char(text: &[u8]) -> (char, usize)
     decode_lossy(text)
 }
 
-/// Whether what is shown of a character is no whitespace.
+/// Whether a character is no whitespace.
 pub(crate) fn is_counted(c: char) -> bool
     ensures { result ≡ is_counted c }
 {
-    if c == '\t' || c == '\n' {
-        return false;
-    }
-    !picture(c).is_whitespace()
+    !c.is_whitespace()
 }

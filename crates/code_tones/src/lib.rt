@@ -1,4 +1,4 @@
-//! The tones of a text of code: what each character that is shown of it and isn't blank is, by its language.
+//! The tones of a text of code: what each character of it that isn't blank is, by its language.
 //!
 //! In the order of the work:
 //!

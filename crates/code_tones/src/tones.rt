@@ -1,9 +1,9 @@
 //! The tones of a text's counted characters.
 
-ghost use Rattle.std.specs.Prelude.{◌≡◌, ◌++◌, OnErr, OnOk};
+ghost use Rattle.std.specs.Prelude.{◌≡◌, ◌++◌, OnOk};
 ghost use Rattle.bstr.specs.Utf8.{pieces};
 ghost use Rattle.code_tones.specs.Tones.{byte_tones, counted_tones, tones_of, toned};
-ghost use Rattle.mad_mark_runs.specs.Values.{AreRising, values_of};
+ghost use Rattle.mad_mark_runs.specs.Values.{AreRising, end_from, joined_from, values_of};
 
 use crate::byte_tones::ByteTones;
 use crate::characters::{first_char, is_counted};
@@ -13,7 +13,7 @@ use code_tables::rules::Language;
 use mad_mark_runs::{MarkRun, push_run};
 use std::alloc::{AllocError, Global};
 
-/// Adds the tones of a text of code to runs: one for each character that is shown of it and isn't blank. Without a language all are plain.
+/// Adds the tones of a text of code to runs: one for each character of it that isn't blank. Without a language all are plain.
 ///
 /// # Errors
 ///
@@ -27,6 +27,7 @@ pub fn push_tones(
     requires { AreRising 0 runs.old.items }
     ensures rising { AreRising 0 runs.new.items }
     ensures values { OnOk result (values_of runs.new.items ≡ values_of runs.old.items ++ tones_of language text.now) }
+    ensures runs { OnOk result (runs.new.items ≡ runs.old.items ++ joined_from (end_from 0 runs.old.items) 0 0 (tones_of language text.now)) }
 {
     let tokens = tokens_by(alloc, language, text)?;
     push_token_tones(&tokens, text, runs)
@@ -41,6 +42,7 @@ fn push_token_tones(
     requires { AreRising 0 runs.old.items }
     ensures rising { AreRising 0 runs.new.items }
     ensures values { OnOk result (values_of runs.new.items ≡ values_of runs.old.items ++ counted_tones (toned (byte_tones tokens.now) (pieces text.now))) }
+    ensures runs { OnOk result (runs.new.items ≡ runs.old.items ++ joined_from (end_from 0 runs.old.items) 0 0 (counted_tones (toned (byte_tones tokens.now) (pieces text.now)))) }
 {
     let mut tones = ByteTones::new(tokens);
     let mut rest = text;

@@ -52,11 +52,11 @@ put_with marks section = put_at marks section.gutters (heading_level section.lin
 
 -- a section that is one rule, behind these gutters; none begins with it
 abbrev pub rule_behind : List Gutter → SectionContent
-rule_behind gutters = record { gutters = gutters; fresh = 0; list = None; lines = horizontal_rule ∷ [] }
+rule_behind gutters = record { gutters = gutters; fresh = 0; list = None; marks = []; lines = horizontal_rule ∷ [] }
 
 -- a section behind its gutters and one more, which begins with it
 abbrev pub signed : List Gutter → SectionContent → SectionContent
-signed gutters section = record { gutters = gutters; fresh = min section.fresh (length section.gutters) + 1; list = section.list; lines = section.lines }
+signed gutters section = record { gutters = gutters; fresh = min section.fresh (length section.gutters) + 1; list = section.list; marks = section.marks; lines = section.lines }
 
 -- the sections that are shown in the place of one, with what is put there
 abbrev pub dressed_by : Put → SectionContent → List SectionContent

@@ -59,6 +59,7 @@ fn rule_behind<'s>(alloc: Global, gutters: &'s [Gutter]) -> Result<Section<'s>, 
         gutters,
         fresh: 0,
         list: None,
+        marks: &[],
         text,
     })
 }
@@ -80,6 +81,7 @@ fn signed<'s>(section: Section<'s>, gutters: &'s [Gutter]) -> Section<'s>
         gutters,
         fresh: section.fresh.min(section.gutters.len()).saturating_add(1),
         list: section.list,
+        marks: section.marks,
         text: section.text,
     }
 }

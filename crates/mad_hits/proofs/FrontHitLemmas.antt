@@ -3,75 +3,52 @@ use Rattle.std.proofs.Common.{◌≡◌, ℕ, zero, suc, ◌+◌, ◌-◌, ◌^�
 use Rattle.std.specs.List.{range_with_len}
 use Rattle.std.proofs.lemmas.List.{append-nil, map-append, map-id, map_more}
 use Rattle.std.proofs.lemmas.List.FromFn.{length-range_with_len, map-range_with_len_more}
-use Rattle.mad_term.specs.Trace.{Trace, TookWith}
 use Rattle.mad_wrap.specs.WrapLines.{capped}
 use Rattle.mad_format.specs.declared.line.FmtLine.{FmtLine}
+use Rattle.mad_style.specs.declared.compound_styles.CompoundStyle.{CompoundStyle}
 use Rattle.mad_rows.specs.declared.row_skin.RowSkin.{RowSkin}
 use Rattle.mad_hits.specs.Drawn.{AreHitsShown, IsHitShown}
 use Rattle.mad_hits.specs.Hits.{Marked, marked_of}
-use Rattle.mad_hits.specs.Parts.{AreRowHits}
 use Rattle.mad_hits.specs.declared.hits.Hit.{Hit}
 use Rattle.mad_hits.proofs.DrawnHits.{hits_more}
-use Rattle.mad_hits.proofs.TookLemmas.{took_so}
-use Rattle.mad_sections.specs.Gutters.{columns_of}
 use Rattle.mad_sections.specs.declared.gutters.Gutter.{Gutter}
 use Rattle.mad_page_rows.specs.FaceLaws.{fronts}
-use Rattle.mad_page_rows.specs.Faces.{has_ascii_boxes, line_skin}
-use Rattle.mad_pages.specs.Fronts.{FrontContent, front_at}
 use Rattle.mad_pages.specs.declared.fronts.Front.{Front}
-use Rattle.mad_hits.specs.FrontHits.{AreHitsBehind, AreRowsMarked, IsRowMarked, hit_behind}
+use Rattle.mad_hits.specs.FrontHits.{AreRowsMarked, IsRowMarked, hit_behind}
 
 -- a hit more
-pub hit_more : (width y front : ℕ) (hits : List Hit) (i : ℕ) (d : Hit) (a b : List ℕ) → i < length hits → AreHitsShown width y (map (hit_behind front) (map marked_of (take i hits))) a → IsHitShown width y (hit_behind front (marked_of (get_or hits i d))) b
-    → AreHitsShown width y (map (hit_behind front) (map marked_of (take (i + 1) hits))) (a ++ b)
-hit_more width y front hits i d a b inside so here =
+pub hit_more : (style : CompoundStyle) (width y front : ℕ) (hits : List Hit) (i : ℕ) (d : Hit) (a b : List ℕ) → i < length hits → AreHitsShown width y (map (hit_behind style front) (map marked_of (take i hits))) a → IsHitShown width y (hit_behind style front (marked_of (get_or hits i d))) b
+    → AreHitsShown width y (map (hit_behind style front) (map marked_of (take (i + 1) hits))) (a ++ b)
+hit_more style width y front hits i d a b inside so here =
     let last : Marked = marked_of (get_or hits i d) in
-    let more : map (hit_behind front) (map marked_of (take (i + 1) hits)) ≡ map (hit_behind front) (map marked_of (take i hits)) ++ hit_behind front last ∷ [] =
-    ap (map (hit_behind front)) (map_more marked_of hits i d inside) ∙ map-append (hit_behind front) (map marked_of (take i hits)) (last ∷ []) in
-    subst (λ (m : List Marked). AreHitsShown width y m (a ++ b)) (sym more) (hits_more width y (map (hit_behind front) (map marked_of (take i hits))) (hit_behind front last) a b so here)
-
--- the hits of a row
-pub row_marked : (skin : RowSkin) (width : ℕ) (sought : List ℕ) (lines : List FmtLine) (fs : List Front) (starts : List ℕ) (y row : ℕ) (own : FrontContent) (hits given : List Hit) (front rest : ℕ) (inner : RowSkin) (old new : Trace)
-    → own ≡ front_at fs row → inner ≡ line_skin skin own.gutters → rest ≡ width - columns_of (has_ascii_boxes skin) own.gutters → front ≡ capped (fronts skin own.gutters) → given ≡ hits
-    → AreRowHits inner rest sought lines starts row (map marked_of hits) → TookWith old new (AreHitsShown width y (map (hit_behind front) (map marked_of given))) → TookWith old new (IsRowMarked skin width sought lines fs starts y row)
-row_marked skin width sought lines fs starts y row own hits given front rest inner old new own_is inner_is rest_is front_is same are shown =
-    took_so old new (AreHitsShown width y (map (hit_behind front) (map marked_of given))) (IsRowMarked skin width sought lines fs starts y row)
-    (λ text h.
-    subst (λ (f : FrontContent). AreHitsBehind skin width sought lines f starts y row text) own_is (record {
-      hits = map marked_of hits;
-      are =
-          subst (λ (s : RowSkin). AreRowHits s (width - columns_of (has_ascii_boxes skin) own.gutters) sought lines starts row (map marked_of hits)) inner_is
-          (subst (λ (n : ℕ). AreRowHits inner n sought lines starts row (map marked_of hits)) rest_is are);
-      shown =
-          subst (λ (n : ℕ). AreHitsShown width y (map (hit_behind n) (map marked_of hits)) text) front_is
-          (subst (λ (l : List Hit). AreHitsShown width y (map (hit_behind front) (map marked_of l)) text) same h);
-    }))
-    shown
+    let more : map (hit_behind style front) (map marked_of (take (i + 1) hits)) ≡ map (hit_behind style front) (map marked_of (take i hits)) ++ hit_behind style front last ∷ [] =
+    ap (map (hit_behind style front)) (map_more marked_of hits i d inside) ∙ map-append (hit_behind style front) (map marked_of (take i hits)) (last ∷ []) in
+    subst (λ (m : List Marked). AreHitsShown width y m (a ++ b)) (sym more) (hits_more width y (map (hit_behind style front) (map marked_of (take i hits))) (hit_behind style front last) a b so here)
 
 range_more : (a n j : ℕ) → a + n ≡ j → range_with_len a (n + 1) ≡ range_with_len a n ++ j ∷ []
 range_more a n j e =
     sym (map-id (range_with_len a (n + 1))) ∙ (map-range_with_len_more (λ (k : ℕ). k) a n j e ∙ ap (λ (l : List ℕ). l ++ j ∷ []) (map-id (range_with_len a n)))
 
-rows_more : (skin : RowSkin) (width : ℕ) (sought : List ℕ) (lines : List FmtLine) (fs : List Front) (starts : List ℕ) (y n : ℕ) (rows : List ℕ) (row : ℕ) (a b : List ℕ) → n ≡ y + length rows
-    → AreRowsMarked skin width sought lines fs starts y rows a → IsRowMarked skin width sought lines fs starts n row b → AreRowsMarked skin width sought lines fs starts y (rows ++ row ∷ []) (a ++ b)
-rows_more skin width sought lines fs starts y n [] row a b at none here =
+rows_more : (skin : RowSkin) (style : CompoundStyle) (width : ℕ) (sought : List ℕ) (lines : List FmtLine) (fs : List Front) (starts : List ℕ) (y n : ℕ) (rows : List ℕ) (row : ℕ) (a b : List ℕ) → n ≡ y + length rows
+    → AreRowsMarked skin style width sought lines fs starts y rows a → IsRowMarked skin style width sought lines fs starts n row b → AreRowsMarked skin style width sought lines fs starts y (rows ++ row ∷ []) (a ++ b)
+rows_more skin style width sought lines fs starts y n [] row a b at none here =
     let same : n ≡ y = omega (arith, at) in
-    (b, [], ap (λ (l : List ℕ). l ++ b) none ∙ sym (append-nil b), subst (λ (k : ℕ). IsRowMarked skin width sought lines fs starts k row b) same here, refl)
-rows_more skin width sought lines fs starts y n (r ∷ rows) row a b at (first, others, are, marked, rest) here = (
+    (b, [], ap (λ (l : List ℕ). l ++ b) none ∙ sym (append-nil b), subst (λ (k : ℕ). IsRowMarked skin style width sought lines fs starts k row b) same here, refl)
+rows_more skin style width sought lines fs starts y n (r ∷ rows) row a b at (first, others, are, marked, rest) here = (
   first,
   others ++ b,
   ap (λ (s : List ℕ). s ++ b) are ∙ append_assoc first others b,
   marked,
-  rows_more skin width sought lines fs starts (y + 1) n rows row others b (omega (arith, at)) rest here,
+  rows_more skin style width sought lines fs starts (y + 1) n rows row others b (omega (arith, at)) rest here,
 )
 
 -- a row more
-pub row_more : (skin : RowSkin) (width : ℕ) (sought : List ℕ) (lines : List FmtLine) (fs : List Front) (starts : List ℕ) (top y row : ℕ) (a b : List ℕ) → row ≡ top + y
-    → AreRowsMarked skin width sought lines fs starts 0 (range_with_len top y) a → IsRowMarked skin width sought lines fs starts y row b → AreRowsMarked skin width sought lines fs starts 0 (range_with_len top (y + 1)) (a ++ b)
-row_more skin width sought lines fs starts top y row a b at so here =
+pub row_more : (skin : RowSkin) (style : CompoundStyle) (width : ℕ) (sought : List ℕ) (lines : List FmtLine) (fs : List Front) (starts : List ℕ) (top y row : ℕ) (a b : List ℕ) → row ≡ top + y
+    → AreRowsMarked skin style width sought lines fs starts 0 (range_with_len top y) a → IsRowMarked skin style width sought lines fs starts y row b → AreRowsMarked skin style width sought lines fs starts 0 (range_with_len top (y + 1)) (a ++ b)
+row_more skin style width sought lines fs starts top y row a b at so here =
     let long : length (range_with_len top y) ≡ y = length-range_with_len top y in
-    subst (λ (rows : List ℕ). AreRowsMarked skin width sought lines fs starts 0 rows (a ++ b)) (sym (range_more top y (top + y) refl))
-    (rows_more skin width sought lines fs starts 0 y (range_with_len top y) (top + y) a b (omega (arith, long)) so (subst (λ (r : ℕ). IsRowMarked skin width sought lines fs starts y r b) at here))
+    subst (λ (rows : List ℕ). AreRowsMarked skin style width sought lines fs starts 0 rows (a ++ b)) (sym (range_more top y (top + y) refl))
+    (rows_more skin style width sought lines fs starts 0 y (range_with_len top y) (top + y) a b (omega (arith, long)) so (subst (λ (r : ℕ). IsRowMarked skin style width sought lines fs starts y r b) at here))
 
 none_left : (i : ℕ) (gs : List Gutter) → length gs ≤ i → drop i gs ≡ []
 none_left zero [] h = refl

@@ -9,3 +9,4 @@ pub mod RowHitLemmas
 pub mod RowStandLemmas
 pub mod StandLemmas
 pub mod TookLemmas
+pub mod WrittenHits

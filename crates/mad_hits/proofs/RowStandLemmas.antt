@@ -1,12 +1,18 @@
 -- All hits of a row stand in it, those of a table's row too.
-use Rattle.std.proofs.Common.{◌≡◌, ℕ, ◌+◌, ◌-◌, ◌^◌, ◌<◌, true, false, List, [], ◌∷◌, ◌++◌, map, length, Option, Some, None, refl, ap, sym, ◌∙◌, subst, arith, append_assoc}
+use Rattle.std.proofs.Common.{◌≡◌, ℕ, ◌+◌, ◌-◌, ◌^◌, ◌<◌, true, false, List, [], ◌∷◌, ◌++◌, drop, map, take, length, Option, Some, None, refl, ap, sym, ◌∙◌, subst, arith, append_assoc}
 use Rattle.std.specs.Prelude.{chars, slice_get}
 use Rattle.std.specs.List.{AllByRecursion, flat_map}
-use Rattle.std.proofs.lemmas.List.{append-nil, map-append}
+use Rattle.std.proofs.lemmas.List.{append-nil, drop-map, map-append, take-map}
 use Rattle.std.proofs.lemmas.Option.{same_Some}
 use Rattle.mad_measure.proofs.AllLemmas.{all_joined}
+use Rattle.mad_style.specs.declared.compound_styles.CompoundStyle.{CompoundStyle}
 use Rattle.mad_style.specs.declared.styled_chars.StyledChar.{StyledChar}
-use Rattle.mad_draw.specs.Pieces.{AreShownPieces, IsShownPiece, RowPiece, pieces_columns, spaces}
+use Rattle.mad_screen.specs.Glyph.{Glyph}
+use Rattle.mad_screen.specs.Grid.{plain_pen}
+use Rattle.mad_draw.specs.PennedCells.{penned_cells}
+use Rattle.mad_draw.specs.Pieces.{AreShownPieces, IsShownPiece, RowPiece, penned_chars, pieces_columns, spaces}
+use Rattle.mad_marked_rows.specs.Told.{told_cell, told_cells}
+use Rattle.mad_page_rows.proofs.TonedLemmas.{row_told}
 use Rattle.mad_draw.proofs.PieceLemmas.{columns-both, spaces_columns}
 use Rattle.mad_format.specs.declared.composite.FmtComposite.{FmtComposite}
 use Rattle.mad_format.specs.declared.line.FmtLine.{FmtLine}
@@ -20,37 +26,42 @@ use Rattle.mad_pages.specs.Fronts.{front_at, row_behind}
 use Rattle.mad_sections.specs.Gutters.{columns_of}
 use Rattle.mad_wrap.specs.WrapLines.{capped}
 use Rattle.mad_search.specs.Searches.{row_text}
-use Rattle.mad_hits.specs.HitLaws.{DrawnHitsStand, HasIndent, HitsChangeNoCharacter, IsCounted, IsCountedCell, StandsWithin}
+use Rattle.mad_hits.specs.Drawn.{marked_columns}
+use Rattle.mad_hits.specs.HitLaws.{cell_chars, DrawnHitsStand, HasIndent, HitsChangeNoCharacter, IsCounted, IsCountedCell, StandsWithin}
 use Rattle.mad_hits.specs.Hits.{AreTextHits, AreTextsHits, Marked, marked_at, placed_cells, placed_texts, text_column}
 use Rattle.mad_hits.specs.Overs.{overs_above, overs_below}
 use Rattle.mad_hits.specs.FrontHits.{hit_behind}
 use Rattle.mad_hits.specs.Parts.{AreRowHits, line_parts, part_above, part_below}
 use Rattle.mad_hits.specs.Styled.{styled_text}
-use Rattle.mad_hits.proofs.StandLemmas.{amid, mark_stands}
+use Rattle.mad_hits.proofs.StandLemmas.{amid, mark_stands, styled_stands}
 
-all_mapped : (P : Marked → Type 0) (n : ℕ) (f : ℕ → Marked) → ((x : ℕ) → P (hit_behind n (f x))) → (xs : List ℕ) → AllByRecursion P (map (hit_behind n) (map f xs))
+-- a hit so many columns further right
+abbrev further : ℕ → Marked → Marked
+further n hit = record { column = capped (n + hit.column); chars = hit.chars }
+
+all_mapped : (P : Marked → Type 0) (n : ℕ) (f : ℕ → Marked) → ((x : ℕ) → P (further n (f x))) → (xs : List ℕ) → AllByRecursion P (map (further n) (map f xs))
 all_mapped P n f each [] = tt
 all_mapped P n f each (x ∷ xs) = (each x, all_mapped P n f each xs)
 
 -- a hit of a text that begins in a column, so many columns further right
-moved : (n column : ℕ) (text : List StyledChar) (count start : ℕ) → hit_behind (capped n) (marked_at column text count start) ≡ marked_at (n + column) text count start
+moved : (n column : ℕ) (text : List StyledChar) (count start : ℕ) → further (capped n) (marked_at column text count start) ≡ marked_at (n + column) text count start
 moved n column text count start =
     ap (λ (m : ℕ). let hit : Marked = record { column = m; chars = (marked_at column text count start).chars } in hit) (omega arith)
 
 -- the hits of a composite, of which each stands in a row
-text_stands : (skin : RowSkin) (width n : ℕ) (sought : List ℕ) (row : List RowPiece) (l : FmtComposite) (column : ℕ) (hits : List Marked) → ((count start : ℕ) → StandsWithin width row (hit_behind n (marked_at column (styled_text skin l) count start)))
-    → AreTextHits skin sought (record { column = column; text = l }) hits → AllByRecursion (StandsWithin width row) (map (hit_behind n) hits)
+text_stands : (skin : RowSkin) (width n : ℕ) (sought : List ℕ) (row : List RowPiece) (l : FmtComposite) (column : ℕ) (hits : List Marked) → ((count start : ℕ) → StandsWithin width row (further n (marked_at column (styled_text skin l) count start)))
+    → AreTextHits skin sought (record { column = column; text = l }) hits → AllByRecursion (StandsWithin width row) (map (further n) hits)
 text_stands skin width n sought row l column hits each h =
-    subst (λ (m : List Marked). AllByRecursion (StandsWithin width row) (map (hit_behind n) m)) (sym h.are)
+    subst (λ (m : List Marked). AllByRecursion (StandsWithin width row) (map (further n) m)) (sym h.are)
     (all_mapped (StandsWithin width row) n (marked_at column (styled_text skin l) (length (chars sought))) (each (length (chars sought))) h.starts)
 
-both_behind : (P : Marked → Type 0) (n : ℕ) (a b : List Marked) → AllByRecursion P (map (hit_behind n) a) → AllByRecursion P (map (hit_behind n) b) → AllByRecursion P (map (hit_behind n) (a ++ b))
-both_behind P n a b p q = subst (AllByRecursion P) (sym (map-append (hit_behind n) a b)) (all_joined P (map (hit_behind n) a) (map (hit_behind n) b) p q)
+both_behind : (P : Marked → Type 0) (n : ℕ) (a b : List Marked) → AllByRecursion P (map (further n) a) → AllByRecursion P (map (further n) b) → AllByRecursion P (map (further n) (a ++ b))
+both_behind P n a b p q = subst (AllByRecursion P) (sym (map-append (further n) a b)) (all_joined P (map (further n) a) (map (further n) b) p q)
 
 -- ---- a line of a text, amid what is in front of it and behind it
 
 line_stands : (skin : RowSkin) (width rest nf : ℕ) (l : FmtComposite) (f b : List RowPiece) (count start : ℕ) → width < 2 ^ 16 → pieces_columns f ≡ nf → HasIndent skin l → AreShownPieces (f ++ (line_pieces skin (Some rest) true (Normal l) ++ b))
-    → StandsWithin width (f ++ (line_pieces skin (Some rest) true (Normal l) ++ b)) (hit_behind (capped nf) (marked_at (text_column skin (Some rest) (margins_of skin (Some rest) l) l) (styled_text skin l) count start))
+    → StandsWithin width (f ++ (line_pieces skin (Some rest) true (Normal l) ++ b)) (further (capped nf) (marked_at (text_column skin (Some rest) (margins_of skin (Some rest) l) l) (styled_text skin l) count start))
 line_stands skin width rest nf l f b count start narrow wide prefix shown =
     let outer : Option ℕ = Some rest in
     let margins : ℕ × ℕ = margins_of skin outer l in
@@ -60,7 +71,7 @@ line_stands skin width rest nf l f b count start narrow wide prefix shown =
 
 -- its parts of what goes over a break
 parts_stand : (skin : RowSkin) (width rest nf : ℕ) (sought : List ℕ) (l : FmtComposite) (f b : List RowPiece) (above below : List ℕ) → width < 2 ^ 16 → pieces_columns f ≡ nf → HasIndent skin l → AreShownPieces (f ++ (line_pieces skin (Some rest) true (Normal l) ++ b))
-    → AllByRecursion (StandsWithin width (f ++ (line_pieces skin (Some rest) true (Normal l) ++ b))) (map (hit_behind (capped nf)) (line_parts skin sought rest above below (Normal l)))
+    → AllByRecursion (StandsWithin width (f ++ (line_pieces skin (Some rest) true (Normal l) ++ b))) (map (further (capped nf)) (line_parts skin sought rest above below (Normal l)))
 parts_stand skin width rest nf sought l f b above below narrow wide prefix shown =
     let P : Marked → Type 0 = StandsWithin width (f ++ (line_pieces skin (Some rest) true (Normal l) ++ b)) in
     let n : ℕ = capped nf in
@@ -90,8 +101,8 @@ others_amid skin cell cells f b =
 
 cells_stand : (skin : RowSkin) (width nf : ℕ) (sought : List ℕ) (f b : List RowPiece) (column : ℕ) (cells : List FmtComposite) (hits : List Marked) → width < 2 ^ 16 → pieces_columns f ≡ nf + column → pieces_columns (vertical_piece skin ∷ []) ≡ 1
     → AllByRecursion (IsCountedCell skin) cells → AreShownPieces (f ++ (flat_map (cell_pieces skin) cells ++ b)) → AreTextsHits skin sought (placed_cells skin column cells) hits
-    → AllByRecursion (StandsWithin width (f ++ (flat_map (cell_pieces skin) cells ++ b))) (map (hit_behind (capped nf)) hits)
-cells_stand skin width nf sought f b column [] hits narrow wide border counted shown are = subst (λ (m : List Marked). AllByRecursion (StandsWithin width (f ++ b)) (map (hit_behind (capped nf)) m)) (sym are) tt
+    → AllByRecursion (StandsWithin width (f ++ (flat_map (cell_pieces skin) cells ++ b))) (map (further (capped nf)) hits)
+cells_stand skin width nf sought f b column [] hits narrow wide border counted shown are = subst (λ (m : List Marked). AllByRecursion (StandsWithin width (f ++ b)) (map (further (capped nf)) m)) (sym are) tt
 cells_stand skin width nf sought f b column (cell ∷ cells) hits narrow wide border counted shown (first, others, are, own, rest) =
     let n : ℕ = capped nf in
     let bordered : List RowPiece = f ++ vertical_piece skin ∷ [] in
@@ -103,17 +114,17 @@ cells_stand skin width nf sought f b column (cell ∷ cells) hits narrow wide bo
     let wide_border : pieces_columns bordered ≡ nf + inside = let both = columns-both f (vertical_piece skin ∷ []) in omega (arith, both, wide, border) in
     let wide_cell : pieces_columns (bordered ++ composite_pieces skin None (0, 0) false cell) ≡ nf + (inside + inner_columns cell) =
     let both = columns-both bordered (composite_pieces skin None (0, 0) false cell) in let place = counted.0.place in omega (arith, both, wide_border, place) in
-    let own_stand : AllByRecursion P (map (hit_behind n) first) =
+    let own_stand : AllByRecursion P (map (further n) first) =
     text_stands skin width n sought row cell text first
     (λ count start.
     subst P (sym (moved nf text (styled_text skin cell) count start))
     (subst (λ (ps : List RowPiece). StandsWithin width ps (marked_at (nf + text) (styled_text skin cell) count start)) (cell_amid skin cell cells f b)
     (mark_stands skin None (0, 0) false cell bordered behind (nf + inside) (nf + text) width count start wide_border counted.0.indent (subst AreShownPieces (sym (cell_amid skin cell cells f b)) shown) (omega arith) narrow)))
     own in
-    let rest_stand : AllByRecursion P (map (hit_behind n) others) =
-    subst (λ (ps : List RowPiece). AllByRecursion (StandsWithin width ps) (map (hit_behind n) others)) (others_amid skin cell cells f b)
+    let rest_stand : AllByRecursion P (map (further n) others) =
+    subst (λ (ps : List RowPiece). AllByRecursion (StandsWithin width ps) (map (further n) others)) (others_amid skin cell cells f b)
     (cells_stand skin width nf sought (bordered ++ composite_pieces skin None (0, 0) false cell) b (inside + inner_columns cell) cells others narrow wide_cell border counted.1 (subst AreShownPieces (sym (others_amid skin cell cells f b)) shown) rest) in
-    subst (λ (m : List Marked). AllByRecursion P (map (hit_behind n) m)) (sym are) (both_behind P n first others own_stand rest_stand)
+    subst (λ (m : List Marked). AllByRecursion P (map (further n) m)) (sym are) (both_behind P n first others own_stand rest_stand)
 
 -- the pieces of a row of a table, amid what is in front of it and behind it
 table_amid : (f l all r b : List RowPiece) (v : RowPiece) → f ++ ((l ++ ((all ++ v ∷ []) ++ r)) ++ b) ≡ (f ++ l) ++ (all ++ (v ∷ r ++ b))
@@ -125,7 +136,7 @@ table_amid f l all r b v =
 
 table_stands : (skin : RowSkin) (width rest nf : ℕ) (sought : List ℕ) (cells : List FmtComposite) (hits : List Marked) (f b row : List RowPiece) → width < 2 ^ 16 → pieces_columns f ≡ nf → pieces_columns (vertical_piece skin ∷ []) ≡ 1 → AllByRecursion (IsCountedCell skin) cells
     → row ≡ spaces skin.paragraph.compound_style (left_of_place skin.table.align (row_columns cells) (Some rest)) ++ ((flat_map (cell_pieces skin) cells ++ vertical_piece skin ∷ []) ++ spaces skin.paragraph.compound_style (right_of_place skin.table.align (row_columns cells) (Some rest)))
-    → AreShownPieces (f ++ (row ++ b)) → AreTextsHits skin sought (placed_cells skin (left_of_place skin.table.align (row_columns cells) (Some rest)) cells) hits → AllByRecursion (StandsWithin width (f ++ (row ++ b))) (map (hit_behind (capped nf)) hits)
+    → AreShownPieces (f ++ (row ++ b)) → AreTextsHits skin sought (placed_cells skin (left_of_place skin.table.align (row_columns cells) (Some rest)) cells) hits → AllByRecursion (StandsWithin width (f ++ (row ++ b))) (map (further (capped nf)) hits)
 table_stands skin width rest nf sought cells hits f b row narrow wide border counted is shown are =
     let left : ℕ = left_of_place skin.table.align (row_columns cells) (Some rest) in
     let l : List RowPiece = spaces skin.paragraph.compound_style left in
@@ -133,7 +144,7 @@ table_stands skin width rest nf sought cells hits f b row narrow wide border cou
     let all : List RowPiece = flat_map (cell_pieces skin) cells in
     let same : f ++ (row ++ b) ≡ (f ++ l) ++ (all ++ (vertical_piece skin ∷ right ++ b)) = ap (λ (ps : List RowPiece). f ++ (ps ++ b)) is ∙ table_amid f l all right b (vertical_piece skin) in
     let wide_left : pieces_columns (f ++ l) ≡ nf + left = let both = columns-both f l in let blank = spaces_columns skin.paragraph.compound_style left in omega (arith, both, wide, blank) in
-    subst (λ (ps : List RowPiece). AllByRecursion (StandsWithin width ps) (map (hit_behind (capped nf)) hits)) (sym same)
+    subst (λ (ps : List RowPiece). AllByRecursion (StandsWithin width ps) (map (further (capped nf)) hits)) (sym same)
     (cells_stand skin width nf sought (f ++ l) (vertical_piece skin ∷ right ++ b) left cells hits narrow wide_left border counted (subst AreShownPieces same shown) are)
 
 -- ---- any row
@@ -149,47 +160,76 @@ own_of skin width sought lines starts row hits line is are =
     )
 
 -- a rule has none
-none_stand : (P : Marked → Type 0) (n : ℕ) (own hits : List Marked) → own ≡ [] → hits ≡ own ++ [] → AllByRecursion P (map (hit_behind n) hits)
-none_stand P n own hits none are = subst (λ (m : List Marked). AllByRecursion P (map (hit_behind n) m)) (sym (are ∙ append-nil own ∙ none)) tt
+none_stand : (P : Marked → Type 0) (n : ℕ) (own hits : List Marked) → own ≡ [] → hits ≡ own ++ [] → AllByRecursion P (map (further n) hits)
+none_stand P n own hits none are = subst (λ (m : List Marked). AllByRecursion P (map (further n) m)) (sym (are ∙ append-nil own ∙ none)) tt
 
 -- the hits of a line stand in it, amid what is in front of it and behind it
 amid_stand : (skin : RowSkin) (width rest nf : ℕ) (sought : List ℕ) (lines : List FmtLine) (starts : List ℕ) (row : ℕ) (hits : List Marked) (line : FmtLine) (f b : List RowPiece) → slice_get lines row ≡ Some line → width < 2 ^ 16 → pieces_columns f ≡ nf → IsCounted skin line
-    → AreShownPieces (f ++ (line_pieces skin (Some rest) true line ++ b)) → AreRowHits skin rest sought lines starts row hits → AllByRecursion (StandsWithin width (f ++ (line_pieces skin (Some rest) true line ++ b))) (map (hit_behind (capped nf)) hits)
+    → AreShownPieces (f ++ (line_pieces skin (Some rest) true line ++ b)) → AreRowHits skin rest sought lines starts row hits → AllByRecursion (StandsWithin width (f ++ (line_pieces skin (Some rest) true line ++ b))) (map (further (capped nf)) hits)
 amid_stand skin width rest nf sought lines starts row hits (Normal l) f b is narrow wide counted shown h =
     let it = own_of skin rest sought lines starts row hits (Normal l) is h in
     let P : Marked → Type 0 = StandsWithin width (f ++ (line_pieces skin (Some rest) true (Normal l) ++ b)) in
     let n : ℕ = capped nf in
     let column : ℕ = text_column skin (Some rest) (margins_of skin (Some rest) l) l in
     let texts = it.1 in
-    let own : AllByRecursion P (map (hit_behind n) it.0) =
-    subst (λ (m : List Marked). AllByRecursion P (map (hit_behind n) m)) (sym (texts.2 ∙ ap (λ (m : List Marked). texts.0 ++ m) texts.4 ∙ append-nil texts.0))
+    let own : AllByRecursion P (map (further n) it.0) =
+    subst (λ (m : List Marked). AllByRecursion P (map (further n) m)) (sym (texts.2 ∙ ap (λ (m : List Marked). texts.0 ++ m) texts.4 ∙ append-nil texts.0))
     (text_stands skin width n sought (f ++ (line_pieces skin (Some rest) true (Normal l) ++ b)) l column texts.0 (λ count start. line_stands skin width rest nf l f b count start narrow wide counted shown) texts.3) in
-    subst (λ (m : List Marked). AllByRecursion P (map (hit_behind n) m)) (sym it.2)
+    subst (λ (m : List Marked). AllByRecursion P (map (further n) m)) (sym it.2)
     (both_behind P n it.0 _ own (parts_stand skin width rest nf sought l f b (overs_above sought lines starts row) (overs_below sought lines starts row) narrow wide counted shown))
 amid_stand skin width rest nf sought lines starts row hits (TableRow cells) f b is narrow wide counted shown h =
     let it = own_of skin rest sought lines starts row hits (TableRow cells) is h in
     let line : List RowPiece = line_pieces skin (Some rest) true (TableRow cells) in
-    subst (λ (m : List Marked). AllByRecursion (StandsWithin width (f ++ (line ++ b))) (map (hit_behind (capped nf)) m)) (sym (it.2 ∙ append-nil it.0))
+    subst (λ (m : List Marked). AllByRecursion (StandsWithin width (f ++ (line ++ b))) (map (further (capped nf)) m)) (sym (it.2 ∙ append-nil it.0))
     (table_stands skin width rest nf sought cells.cells.items it.0 f b line narrow wide counted.0 counted.1 refl shown it.1)
 amid_stand skin width rest nf sought lines starts row hits (TableRule rule) f b is narrow wide counted shown h =
     let it = own_of skin rest sought lines starts row hits (TableRule rule) is h in none_stand _ (capped nf) it.0 hits it.1 it.2
 amid_stand skin width rest nf sought lines starts row hits HorizontalRule f b is narrow wide counted shown h =
     let it = own_of skin rest sought lines starts row hits HorizontalRule is h in none_stand _ (capped nf) it.0 hits it.1 it.2
 
+-- a row shows the same characters with tones
+
+same_chars : (gs : List Glyph) → cell_chars (map (told_cell (λ pen. plain_pen)) gs) ≡ cell_chars gs
+same_chars [] = refl
+same_chars (g ∷ gs) = ap (λ (cs : List (List ℕ)). g.chars ∷ cs) (same_chars gs)
+
+chars_same : (row other : List RowPiece) → told_cells (λ pen. plain_pen) row ≡ told_cells (λ pen. plain_pen) other → cell_chars (penned_cells (penned_chars row)) ≡ cell_chars (penned_cells (penned_chars other))
+chars_same row other e = sym (same_chars (penned_cells (penned_chars row))) ∙ ap cell_chars e ∙ same_chars (penned_cells (penned_chars other))
+
+part_chars : (k n : ℕ) (gs : List Glyph) → cell_chars (take k (drop n gs)) ≡ take k (drop n (cell_chars gs))
+part_chars k n gs = sym (take-map (λ (g : Glyph). g.chars) k (drop n gs)) ∙ ap (take k) (sym (drop-map (λ (g : Glyph). g.chars) n gs))
+
+-- so where a hit stands in it without, it does so with them
+stands_toned : (width : ℕ) (row other : List RowPiece) → told_cells (λ pen. plain_pen) row ≡ told_cells (λ pen. plain_pen) other → (hits : List Marked) → AllByRecursion (StandsWithin width other) hits → AllByRecursion (StandsWithin width row) hits
+stands_toned width row other e [] h = tt
+stands_toned width row other e (hit ∷ hits) h = (
+  λ within whole.
+      part_chars (marked_columns hit) hit.column (penned_cells (penned_chars row)) ∙ ap (λ (cs : List (List ℕ)). take (marked_columns hit) (drop hit.column cs)) (chars_same row other e)
+      ∙ sym (part_chars (marked_columns hit) hit.column (penned_cells (penned_chars other))) ∙ h.0 within whole,
+  stands_toned width row other e hits h.1,
+)
+
+-- in the style of hits they stand there too
+all_styled : (style : CompoundStyle) (width : ℕ) (row : List RowPiece) (n : ℕ) (hits : List Marked) → AllByRecursion (StandsWithin width row) (map (further n) hits) → AllByRecursion (StandsWithin width row) (map (hit_behind style n) hits)
+all_styled style width row n [] h = tt
+all_styled style width row n (hit ∷ hits) h = (styled_stands style width row (further n hit) h.0, all_styled style width row n hits h.1)
+
 pub hits_change_no_character : HitsChangeNoCharacter
-hits_change_no_character skin width sought lines front starts row hits line is narrow faces_shown counted shown h =
+hits_change_no_character skin style width sought lines front starts row hits line is narrow faces_shown counted shown h =
     let inner : RowSkin = line_skin skin front.gutters in
     let rest : ℕ = width - columns_of (has_ascii_boxes skin) front.gutters in
     let f : List RowPiece = faces skin front.gutters front.fresh in
     let b : List RowPiece = backs skin front.gutters in
     let sides = faces_fill skin front.gutters front.fresh faces_shown counted.typed in
-    let same : page_row_pieces skin (Some width) true (row_behind front line) ≡ f ++ (line_pieces inner (Some rest) true line ++ b) = refl in
+    let told = row_told (λ pen. plain_pen) skin (Some width) true (row_behind front line) (λ v style. refl) shown in
     let row_shown : AreShownPieces (f ++ (line_pieces inner (Some rest) true line ++ b)) = all_joined IsShownPiece f _ sides.front.shown (all_joined IsShownPiece _ b shown sides.back.shown) in
-    amid_stand inner width rest (fronts skin front.gutters) sought lines starts row hits line f b is narrow sides.front.columns counted.counts row_shown h
+    all_styled style width (page_row_pieces skin (Some width) true (row_behind front line)) (capped (fronts skin front.gutters)) hits
+    (stands_toned width (page_row_pieces skin (Some width) true (row_behind front line)) (f ++ (line_pieces inner (Some rest) true line ++ b)) told (map (further (capped (fronts skin front.gutters))) hits)
+    (amid_stand inner width rest (fronts skin front.gutters) sought lines starts row hits line f b is narrow sides.front.columns counted.counts row_shown h))
 
 pub drawn_hits_stand : DrawnHitsStand
-drawn_hits_stand skin width sought lines fs starts y [] bytes narrow faces_shown marked = tt
-drawn_hits_stand skin width sought lines fs starts y (row ∷ rows) bytes narrow faces_shown marked = (
-  λ line is counted shown. hits_change_no_character skin width sought lines (front_at fs row) starts row marked.3.hits line is narrow faces_shown counted shown marked.3.are,
-  drawn_hits_stand skin width sought lines fs starts (y + 1) rows marked.1 narrow faces_shown marked.4,
+drawn_hits_stand skin style width sought lines fs starts y [] bytes narrow faces_shown marked = tt
+drawn_hits_stand skin style width sought lines fs starts y (row ∷ rows) bytes narrow faces_shown marked = (
+  λ line is counted shown. hits_change_no_character skin style width sought lines (front_at fs row) starts row marked.3.hits line is narrow faces_shown counted shown marked.3.are,
+  drawn_hits_stand skin style width sought lines fs starts (y + 1) rows marked.1 narrow faces_shown marked.4,
 )

@@ -1,5 +1,5 @@
 -- Hits stand in their rows: the cells where they are drawn have their characters.
-use Rattle.std.proofs.Common.{◌≡◌, ℕ, zero, suc, ◌+◌, ◌==◌, ◌^◌, ◌<◌, Bool, true, false, List, [], ◌∷◌, ◌++◌, map, take, drop, length, Option, Some, refl, ap, sym, ◌∙◌, subst, arith, append_assoc, length-append}
+use Rattle.std.proofs.Common.{◌≡◌, ℕ, zero, suc, ◌+◌, ◌==◌, ◌^◌, ◌<◌, ◌≤◌, Bool, true, false, List, [], ◌∷◌, ◌++◌, map, take, drop, length, Option, Some, refl, ap, sym, ◌∙◌, subst, arith, append_assoc, length-append}
 use Rattle.std.specs.Prelude.{chars, if◌then◌else◌, replicate}
 use Rattle.std.specs.List.{AllByRecursion, flat_map}
 use Rattle.std.proofs.lemmas.Bool.Decides.{nat_tests}
@@ -31,7 +31,7 @@ use Rattle.mad_rows.specs.declared.row_skin.RowSkin.{RowSkin}
 use Rattle.mad_hits.specs.Drawn.{marked_columns}
 use Rattle.mad_hits.specs.HitLaws.{HasIndent, StandsWithin, cell_chars, penned}
 use Rattle.mad_hits.specs.Hits.{Marked, marked_at, span, text_column, widthless}
-use Rattle.mad_hits.specs.Styled.{reversed, styled_compound, styled_text}
+use Rattle.mad_hits.specs.Styled.{overlaid, styled_compound, styled_text}
 
 -- ---- cells of characters
 
@@ -80,13 +80,24 @@ same_attach (suc k) pen other c r s marks cells = (
       ∙ sym (map-append (λ (g : Glyph). g.chars) (glyphs (c ∷ s.0) k other) s.1),
 )
 
-same_cells : (t : List StyledChar) → ((penned_attached (map penned (map reversed t))).0 ≡ (penned_attached (map penned t)).0) × (cell_chars (penned_attached (map penned (map reversed t))).1 ≡ cell_chars (penned_attached (map penned t)).1)
-same_cells [] = (refl, refl)
-same_cells (c ∷ t) = let rest = same_cells t in same_attach (char_columns (char_alone c)) (penned (reversed c)).pen (penned c).pen (char_alone c) (penned_attached (map penned (map reversed t))) (penned_attached (map penned t)) rest.0 rest.1
+same_cells : (style : CompoundStyle) (t : List StyledChar)
+    → ((penned_attached (map penned (map (overlaid style) t))).0 ≡ (penned_attached (map penned t)).0) × (cell_chars (penned_attached (map penned (map (overlaid style) t))).1 ≡ cell_chars (penned_attached (map penned t)).1)
+same_cells style [] = (refl, refl)
+same_cells style (c ∷ t) =
+    let rest = same_cells style t in same_attach (char_columns (char_alone c)) (penned (overlaid style c)).pen (penned c).pen (char_alone c) (penned_attached (map penned (map (overlaid style) t))) (penned_attached (map penned t)) rest.0 rest.1
 
-same_chars : (t : List StyledChar) → map char_alone (map reversed t) ≡ map char_alone t
-same_chars [] = refl
-same_chars (c ∷ t) = ap (λ (l : List ℕ). char_alone c ∷ l) (same_chars t)
+same_chars : (style : CompoundStyle) (t : List StyledChar) → map char_alone (map (overlaid style) t) ≡ map char_alone t
+same_chars style [] = refl
+same_chars style (c ∷ t) = ap (λ (l : List ℕ). char_alone c ∷ l) (same_chars style t)
+
+-- a hit that stands in a row does so in any style of hits
+pub styled_stands : (style : CompoundStyle) (width : ℕ) (row : List RowPiece) (hit : Marked) → StandsWithin width row hit → StandsWithin width row (record { column = hit.column; chars = map (overlaid style) hit.chars })
+styled_stands style width row hit stands within whole =
+    let same : map char_alone (map (overlaid style) hit.chars) ≡ map char_alone hit.chars = same_chars style hit.chars in
+    let wide : columns (map char_alone (map (overlaid style) hit.chars)) ≡ marked_columns hit = ap columns same in
+    ap (λ (n : ℕ). cell_chars (take n (drop hit.column (penned_cells (penned_chars row))))) wide
+    ∙ stands (subst (λ (n : ℕ). hit.column + n ≤ width) wide within) (subst IsWhole same whole)
+    ∙ sym (same_cells style hit.chars).1
 
 -- ---- the characters of a composite
 
@@ -208,15 +219,12 @@ mark_stands skin outer margins filled l f b nf column width count start wide_f p
     let text_is : t1 ++ (t2 ++ t3) ≡ text = ap (λ (x : List StyledChar). t1 ++ x) (take-append-drop long left) ∙ take-append-drop start text in
     let cells_t : pieces_cells t ≡ penned_cells (map penned ((t1 ++ (t2 ++ t3)))) =
     sym (cells_of_pieces t parts_t.0) ∙ ap penned_cells (compounds_penned skin l l.compounds.items) ∙ ap (λ (x : List StyledChar). penned_cells (map penned x)) (sym text_is) in
-    let wide : marked_columns hit ≡ columns (map char_alone t2) = ap columns (same_chars t2) in
     let here : hit.column ≡ nf + (beside.0 + ((inner_blanks l).0 + (indent skin.list_items_indentation_mode l.kind + columns (map char_alone t1)))) = omega (arith, narrow, within, at) in
-    let t2_whole : IsWhole (map char_alone t2) = subst IsWhole (same_chars t2) whole in
     let found : take (marked_columns hit) (drop hit.column (penned_cells (penned_chars row))) ≡ penned_cells (map penned t2) =
     ap (λ (gs : List Glyph). take (marked_columns hit) (drop hit.column gs)) (cells_of_pieces row row_shown)
-    ∙ ap (λ (n : ℕ). take n (drop hit.column (pieces_cells row))) wide
     ∙ ap (λ (n : ℕ). take (columns (map char_alone t2)) (drop n (pieces_cells row))) here
     ∙ ap (take (columns (map char_alone t2)))
     (text_cells f o i p t r b nf beside.0 (inner_blanks l).0 (indent skin.list_items_indentation_mode l.kind) (columns (map char_alone t1)) wide_f (spaces_columns _ beside.0) (spaces_columns _ (inner_blanks l).0) prefix)
     ∙ ap (λ (gs : List Glyph). take (columns (map char_alone t2)) (drop (columns (map char_alone t1)) (gs ++ pieces_cells (r ++ b)))) cells_t
-    ∙ part_cells t1 t2 t3 (pieces_cells (r ++ b)) t2_whole (whole_after count left) in
-    ap cell_chars found ∙ sym (same_cells t2).1
+    ∙ part_cells t1 t2 t3 (pieces_cells (r ++ b)) whole (whole_after count left) in
+    ap cell_chars found

@@ -1,5 +1,5 @@
 -- What a device took, in turn.
-use Rattle.std.proofs.Common.{◌≡◌, List, [], ◌++◌, Option, Some, None, IfSome, option_map, ap, sym, ◌∙◌, subst, append_assoc, ℕ}
+use Rattle.std.proofs.Common.{◌≡◌, List, [], ◌++◌, Option, Some, None, IfSome, option_map, refl, ap, sym, ◌∙◌, subst, append_assoc, ℕ}
 use Rattle.std.proofs.lemmas.List.{append-nil, append_cancel_left}
 use Rattle.std.proofs.lemmas.Option.{same_Some}
 use Rattle.mad_term.specs.Trace.{Trace, after, TookWith}
@@ -16,6 +16,16 @@ known_at (Some before) n bytes A P e h =
 pub known : (old new : Trace) (bytes : List ℕ) (A : Type 0) (P : List ℕ → Type 0) → new ≡ after old bytes → (A → TookWith old new P) → TookWith old new (λ text. A → P text)
 unfolding after
 known old new bytes A P e h = known_at old.bytes new.bytes bytes A P (ap (λ (t : Trace). t.bytes) e) h
+
+exact_at : (o n : Option (List ℕ)) (bytes : List ℕ) (P : List ℕ → Type 0) → n ≡ option_map (λ b. b ++ bytes) o → IfSome o (λ before. (text : List ℕ) × (n ≡ Some (before ++ text)) × P text)
+    → IfSome o (λ before. (text : List ℕ) × (n ≡ Some (before ++ text)) × ((text ≡ bytes) × P text))
+exact_at None n bytes P e h = tt
+exact_at (Some before) n bytes P e h = (bytes, e, (refl, subst P (append_cancel_left before h.0 bytes (same_Some _ _ (sym h.1 ∙ e))) h.2))
+
+-- what was taken is this text
+pub took_exact : (old new : Trace) (bytes : List ℕ) (P : List ℕ → Type 0) → new ≡ after old bytes → TookWith old new P → TookWith old new (λ text. (text ≡ bytes) × P text)
+unfolding after
+took_exact old new bytes P e h = exact_at old.bytes new.bytes bytes P (ap (λ (t : Trace). t.bytes) e) h
 
 more_at : (o n : Option (List ℕ)) (P Q : List ℕ → Type 0) → ((text : List ℕ) → P text → Q text) → IfSome o (λ before. (text : List ℕ) × (n ≡ Some (before ++ text)) × P text)
     → IfSome o (λ before. (text : List ℕ) × (n ≡ Some (before ++ text)) × Q text)

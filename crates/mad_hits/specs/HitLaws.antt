@@ -1,9 +1,10 @@
 -- Laws of hits: what they change of the rows that they are drawn over.
-use Rattle.std.specs.Prelude.{◌≡◌, ℕ, ◌+◌, ◌-◌, ◌^◌, ◌<◌, ◌≤◌, true, false, List, [], ◌∷◌, map, take, drop, Some, None, slice_get}
+use Rattle.std.specs.Prelude.{◌≡◌, ℕ, ◌+◌, ◌^◌, ◌<◌, ◌≤◌, true, false, List, [], ◌∷◌, map, take, drop, Some, None, slice_get}
 use Rattle.std.specs.List.{AllByRecursion}
 use Rattle.mad_screen.specs.Glyph.{Glyph}
 use Rattle.mad_screen.specs.Painting.{IsWhole, look_of_style}
 use Rattle.mad_style.specs.StyledChars.{char_alone, char_style}
+use Rattle.mad_style.specs.declared.compound_styles.CompoundStyle.{CompoundStyle}
 use Rattle.mad_style.specs.declared.styled_chars.StyledChar.{StyledChar}
 use Rattle.mad_draw.specs.Pieces.{AreShownPieces, PennedChar, RowPiece, penned_chars, pieces_columns}
 use Rattle.mad_draw.specs.PennedCells.{penned_cells}
@@ -15,14 +16,12 @@ use Rattle.mad_rows.specs.Rows.{composite_pieces, inner_columns, prefix_pieces, 
 use Rattle.mad_rows.specs.declared.row_skin.RowSkin.{RowSkin}
 use Rattle.mad_hits.specs.Drawn.{marked_columns}
 use Rattle.mad_hits.specs.Hits.{Marked}
-use Rattle.mad_hits.specs.FrontHits.{AreRowsMarked, hit_behind}
-use Rattle.mad_hits.specs.Parts.{AreRowHits}
-use Rattle.mad_page_rows.specs.FaceLaws.{AreFacesShown, IsTypedGutter, fronts}
-use Rattle.mad_page_rows.specs.Faces.{behind_pieces, has_ascii_boxes, line_skin, page_row_pieces}
+use Rattle.mad_hits.specs.FrontHits.{AreLineHits, AreRowsMarked, hits_behind}
+use Rattle.mad_page_rows.specs.FaceLaws.{AreFacesShown, IsTypedGutter}
+use Rattle.mad_page_rows.specs.ToneLaws.{without_marks}
+use Rattle.mad_page_rows.specs.Faces.{behind_pieces, line_skin, page_row_pieces}
 use Rattle.mad_pages.specs.Fronts.{FrontContent, front_at, row_behind}
 use Rattle.mad_pages.specs.declared.fronts.Front.{Front}
-use Rattle.mad_sections.specs.Gutters.{columns_of}
-use Rattle.mad_wrap.specs.WrapLines.{capped}
 
 -- ---- cells
 
@@ -64,31 +63,31 @@ pub record IsCountedRow (skin : RowSkin) (front : FrontContent) (line : FmtLine)
   pub typed : AllByRecursion IsTypedGutter front.gutters
   pub counts : IsCounted (line_skin skin front.gutters) line
 
--- these hits of a line stand in its row of `width` columns behind a front
-abbrev pub StandInRow : RowSkin → ℕ → FrontContent → FmtLine → List Marked → Type 0
-StandInRow skin width front line hits =
-    AllByRecursion (StandsWithin width (page_row_pieces skin (Some width) true (row_behind front line))) (map (hit_behind (capped (fronts skin front.gutters))) hits)
+-- these hits of a line stand in its row of `width` columns behind a front, in this style of hits
+abbrev pub StandInRow : RowSkin → CompoundStyle → ℕ → FrontContent → FmtLine → List Marked → Type 0
+StandInRow skin style width front line hits =
+    AllByRecursion (StandsWithin width (page_row_pieces skin (Some width) true (row_behind front line))) (hits_behind skin style front hits)
 
 -- ---- laws
 
 -- Marking hits changes no character of any cell of a row: those of its own text and its parts of those that go over a break stand in it, behind
--- what is in front of its line. The row has as many columns as the hits were found for.
+-- what is in front of its line. The row has as many columns as the hits were found for. Its line is shown, as it is without tones.
 abbrev pub HitsChangeNoCharacter : Type 0
 HitsChangeNoCharacter =
-    (skin : RowSkin) (width : ℕ) (sought : List ℕ) (lines : List FmtLine) (front : FrontContent) (starts : List ℕ) (row : ℕ) (hits : List Marked) (line : FmtLine) → slice_get lines row ≡ Some line → width < 2 ^ 16
-    → AreFacesShown skin → IsCountedRow skin front line → AreShownPieces (behind_pieces skin (Some width) true (row_behind front line))
-    → AreRowHits (line_skin skin front.gutters) (width - columns_of (has_ascii_boxes skin) front.gutters) sought lines starts row hits → StandInRow skin width front line hits
+    (skin : RowSkin) (style : CompoundStyle) (width : ℕ) (sought : List ℕ) (lines : List FmtLine) (front : FrontContent) (starts : List ℕ) (row : ℕ) (hits : List Marked) (line : FmtLine) → slice_get lines row ≡ Some line → width < 2 ^ 16
+    → AreFacesShown skin → IsCountedRow skin front line → AreShownPieces (behind_pieces skin (Some width) true (without_marks (row_behind front line)))
+    → AreLineHits skin width sought lines front starts row hits → StandInRow skin style width front line hits
 
 -- each of the hits that these bytes show stands in its row
-abbrev pub RowsStand : (skin : RowSkin) (width : ℕ) (sought : List ℕ) (lines : List FmtLine) (fs : List Front) (starts : List ℕ) (y : ℕ) (rows bytes : List ℕ) → AreRowsMarked skin width sought lines fs starts y rows bytes → Type 0
-RowsStand skin width sought lines fs starts y [] bytes marked = Unit {0}
-RowsStand skin width sought lines fs starts y (row ∷ rows) bytes marked =
-    ((line : FmtLine) → slice_get lines row ≡ Some line → IsCountedRow skin (front_at fs row) line → AreShownPieces (behind_pieces skin (Some width) true (row_behind (front_at fs row) line))
-    → StandInRow skin width (front_at fs row) line marked.3.hits)
-    × RowsStand skin width sought lines fs starts (y + 1) rows marked.1 marked.4
+abbrev pub RowsStand : (skin : RowSkin) (style : CompoundStyle) (width : ℕ) (sought : List ℕ) (lines : List FmtLine) (fs : List Front) (starts : List ℕ) (y : ℕ) (rows bytes : List ℕ) → AreRowsMarked skin style width sought lines fs starts y rows bytes → Type 0
+RowsStand skin style width sought lines fs starts y [] bytes marked = Unit {0}
+RowsStand skin style width sought lines fs starts y (row ∷ rows) bytes marked =
+    ((line : FmtLine) → slice_get lines row ≡ Some line → IsCountedRow skin (front_at fs row) line → AreShownPieces (behind_pieces skin (Some width) true (without_marks (row_behind (front_at fs row) line)))
+    → StandInRow skin style width (front_at fs row) line marked.3.hits)
+    × RowsStand skin style width sought lines fs starts (y + 1) rows marked.1 marked.4
 
 -- So it is with all hits that are drawn over rows.
 abbrev pub DrawnHitsStand : Type 0
 DrawnHitsStand =
-    (skin : RowSkin) (width : ℕ) (sought : List ℕ) (lines : List FmtLine) (fs : List Front) (starts : List ℕ) (y : ℕ) (rows bytes : List ℕ) → width < 2 ^ 16 → AreFacesShown skin
-    → (marked : AreRowsMarked skin width sought lines fs starts y rows bytes) → RowsStand skin width sought lines fs starts y rows bytes marked
+    (skin : RowSkin) (style : CompoundStyle) (width : ℕ) (sought : List ℕ) (lines : List FmtLine) (fs : List Front) (starts : List ℕ) (y : ℕ) (rows bytes : List ℕ) → width < 2 ^ 16 → AreFacesShown skin
+    → (marked : AreRowsMarked skin style width sought lines fs starts y rows bytes) → RowsStand skin style width sought lines fs starts y rows bytes marked

@@ -13,7 +13,7 @@ use Rattle.mad_rows.specs.RowStyles.{line_style}
 use Rattle.mad_rows.specs.Rows.{inner_blanks, inner_columns, left_of_place, margins_of, outer_blanks, row_columns}
 use Rattle.mad_rows.specs.declared.row_skin.RowSkin.{RowSkin}
 use Rattle.mad_hits.specs.Matches.{compared_chars, AreStarts}
-use Rattle.mad_hits.specs.Styled.{reversed, styled_text}
+use Rattle.mad_hits.specs.Styled.{styled_text}
 use Rattle.mad_hits.specs.declared.hits.Hit.{Hit}
 
 -- ---- where a text is
@@ -64,11 +64,11 @@ pub record Marked : Type 0 where
 abbrev pub marked_of : Hit → Marked
 marked_of hit = record { column = hit.column; chars = hit.chars.items }
 
--- the hit that begins at an index of a text, which begins in that column: its characters, reversed, and the columns before it
+-- the hit that begins at an index of a text, which begins in that column: its characters as they stand there, and the columns before it
 abbrev pub marked_at : ℕ → List StyledChar → ℕ → ℕ → Marked
 marked_at column text count start = record {
   column = capped (column + columns (map char_alone (take start text)));
-  chars = map reversed (take (span count (map char_alone (drop start text))) (drop start text));
+  chars = take (span count (map char_alone (drop start text))) (drop start text);
 }
 
 -- the hits of a composite: one for each place where what is sought begins

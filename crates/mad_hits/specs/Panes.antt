@@ -1,7 +1,7 @@
 -- Rows of a page beside a scroll bar.
 use Rattle.std.specs.Prelude.{ℕ, List, drop, Option}
 use Rattle.mad_measure.specs.declared.area.Area.{Area}
-use Rattle.mad_draw.specs.BarsApart.{AreShownBeside, FillBeside}
+use Rattle.mad_draw.specs.BarsApart.{AreShownBeside, FillBeside, panes_beside, panes_bytes}
 use Rattle.mad_draw.specs.BesideBar.{columns_beside}
 use Rattle.mad_draw.specs.Pieces.{RowPiece}
 use Rattle.mad_draw.specs.declared.scroll_bars.ScrollBar.{ScrollBar}
@@ -17,6 +17,10 @@ whole_area width height = record { left = 0; top = 0; width = width; height = he
 -- the rows of a page from one on, in the columns that a bar leaves, if there is one
 abbrev pub page_rows : RowSkin → Option ScrollBar → List FmtLine → List Front → ℕ → ℕ → ℕ → List RowPiece
 page_rows skin bar lines fronts top width = page_row skin (columns_beside bar width) (drop top lines) (drop top fronts)
+
+-- what is written of them in an area, and of the bar beside it
+abbrev pub page_rows_bytes : RowSkin → Option ScrollBar → List FmtLine → List Front → ℕ → ℕ → ℕ → List ℕ
+page_rows_bytes skin bar lines fronts top width height = panes_bytes (panes_beside bar (page_rows skin bar lines fronts top width) (whole_area width height))
 
 -- These bytes show the rows in an area, and beside them the bar, where each row fills its columns. They change no other cell.
 abbrev pub ArePageRowsDrawn : RowSkin → Option ScrollBar → List FmtLine → List Front → ℕ → ℕ → ℕ → List ℕ → Type 0

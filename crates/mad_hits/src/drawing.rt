@@ -2,16 +2,18 @@
 
 ghost use Rattle.std.specs.List.{range_with_len};
 ghost use Rattle.std.specs.Prelude.{◌+◌, ◌-◌, ◌<◌, ◌^◌, OnOk, length, map, min};
+ghost use Rattle.mad_term.specs.Draws.{Draws};
 ghost use Rattle.mad_term.specs.Trace.{TookWith};
 ghost use Rattle.mad_style.specs.StyledChars.{char_style};
 ghost use Rattle.mad_term.specs.Styles.{IsStyle};
-ghost use Rattle.mad_hits.specs.Drawn.{AreHitsShown, IsHitShown};
-ghost use Rattle.mad_hits.specs.FrontHits.{AreRowsMarked, IsRowMarked, hit_behind};
+ghost use Rattle.mad_hits.specs.Drawn.{AreHitsShown, IsHitShown, hit_bytes, hits_bytes};
+ghost use Rattle.mad_hits.specs.FrontHits.{AreRowsMarked, IsRowMarked, WritesRowHits, WritesRowsHits, hit_behind};
 ghost use Rattle.mad_hits.specs.Hits.{marked_of};
 
 use crate::columns::columns_in_front;
 use crate::hits::{Hit, columns_of};
 use crate::parts::row_hits;
+use crate::styled::overlaid_chars;
 use mad_draw::{Rows, draw_rows};
 use mad_format::FmtLine;
 use mad_measure::Area;
@@ -19,12 +21,12 @@ use mad_page_rows::columns_left;
 use mad_page_rows::faces::line_skin;
 use mad_pages::{Front, front_at};
 use mad_rows::RowSkin;
-use mad_style::StyledChar;
+use mad_style::{CompoundStyle, StyledChar};
 use mad_term::{Error, Out};
 use std::alloc::{AllocError, Global};
 
 /// Draws the hits of what is sought over rows of a page that were drawn in an area, those from the row `top` on, as many as its height. The page
-/// has `width` columns: those beside the scroll bar, if there is one. Nothing is flushed.
+/// has `width` columns: those beside the scroll bar, if there is one. The style of a hit's characters is overwritten with `style`. Nothing is flushed.
 ///
 /// Parts of what is shown begin in the rows `starts`, as [`mad_pages::PagedPage`] tells. What is sought is in the lines alone; a hit begins behind what
 /// stands in front of its line. Of what goes over the break between two rows that come of one line of the text, each row has its part, also where the
@@ -32,11 +34,12 @@ use std::alloc::{AllocError, Global};
 ///
 /// # Errors
 ///
-/// A fault of the device, or out of memory. What went out by then is a beginning of the whole.
+/// A fault of the device, or out of memory. What went out by then is the hits of the rows before, and a beginning of those of one row.
 pub fn draw_row_hits<O: Out>(
     alloc: Global,
     out: &mut O,
     skin: &RowSkin,
+    style: CompoundStyle,
     lines: &[FmtLine],
     fronts: &[Front],
     starts: &[usize],
@@ -45,14 +48,15 @@ pub fn draw_row_hits<O: Out>(
     height: u16,
     sought: &str,
 ) -> Result<(), Error>
-    ensures { OnOk result (TookWith (O.seen out.old) (O.seen out.new) (AreRowsMarked skin.now width sought.now lines.now fronts.now starts.now 0 (range_with_len top (min height (length lines.now - top))))) }
+    ensures writes { WritesRowsHits skin.now style width sought.now lines.now fronts.now starts.now 0 (range_with_len top (min height (length lines.now - top))) (O.seen out.old) result (O.seen out.new) }
+    ensures shown { OnOk result (TookWith (O.seen out.old) (O.seen out.new) (AreRowsMarked skin.now style width sought.now lines.now fronts.now starts.now 0 (range_with_len top (min height (length lines.now - top))))) }
 {
     let count = usize::from(height).min(lines.len().saturating_sub(top));
     let mut y: u16 = 0;
     'rows: while usize::from(y) < count {
         let row = top + usize::from(y);
         draw_row(
-            alloc, out, skin, lines, fronts, starts, row, width, y, sought,
+            alloc, out, skin, style, lines, fronts, starts, row, width, y, sought,
         )?;
         y += 1;
     }
@@ -64,6 +68,7 @@ fn draw_row<O: Out>(
     alloc: Global,
     out: &mut O,
     skin: &RowSkin,
+    style: CompoundStyle,
     lines: &[FmtLine],
     fronts: &[Front],
     starts: &[usize],
@@ -74,7 +79,8 @@ fn draw_row<O: Out>(
 ) -> Result<(), Error>
     requires low { y + 1 < 2 ^ 16 }
     requires within { row < length lines.now }
-    ensures { OnOk result (TookWith (O.seen out.old) (O.seen out.new) (IsRowMarked skin.now width sought.now lines.now fronts.now starts.now y row)) }
+    ensures writes { WritesRowHits skin.now style width sought.now lines.now fronts.now starts.now y row (O.seen out.old) result (O.seen out.new) }
+    ensures shown { OnOk result (TookWith (O.seen out.old) (O.seen out.new) (IsRowMarked skin.now style width sought.now lines.now fronts.now starts.now y row)) }
 {
     let gutters = front_at(fronts, row).gutters;
     let rest = columns_left(skin, gutters, usize::from(width));
@@ -88,43 +94,46 @@ fn draw_row<O: Out>(
         sought,
     )?;
     let front = columns_in_front(skin, gutters);
-    draw_each(alloc, out, hits.as_slice(), front, width, y)?;
-    Ok(())
+    draw_each(alloc, out, hits.as_slice(), style, front, width, y)
 }
 
-// Draws hits, each where it is within the columns, behind so many.
+// Draws hits in their style, each where it is within the columns, behind so many.
 fn draw_each<O: Out>(
     alloc: Global,
     out: &mut O,
     hits: &[Hit],
+    style: CompoundStyle,
     front: usize,
     width: u16,
     y: u16,
 ) -> Result<(), Error>
     requires { y + 1 < 2 ^ 16 }
-    ensures { OnOk result (TookWith (O.seen out.old) (O.seen out.new) (AreHitsShown width y (map (hit_behind front) (map marked_of hits.now)))) }
+    ensures writes { Draws (O.seen out.old) (hits_bytes width y (map (hit_behind style front) (map marked_of hits.now))) result (O.seen out.new) }
+    ensures shown { OnOk result (TookWith (O.seen out.old) (O.seen out.new) (AreHitsShown width y (map (hit_behind style front) (map marked_of hits.now)))) }
 {
     for hit in hits {
-        draw_hit(alloc, out, hit, front, width, y)?;
+        draw_hit(alloc, out, hit, style, front, width, y)?;
     }
     Ok(())
 }
 
-// Draws a hit, where it is within the columns.
+// Draws a hit in its style, where it is within the columns.
 fn draw_hit<O: Out>(
     alloc: Global,
     out: &mut O,
     hit: &Hit,
+    style: CompoundStyle,
     front: usize,
     width: u16,
     y: u16,
 ) -> Result<(), Error>
     requires { y + 1 < 2 ^ 16 }
-    ensures { OnOk result (TookWith (O.seen out.old) (O.seen out.new) (IsHitShown width y (hit_behind front (marked_of hit.now)))) }
+    ensures writes { Draws (O.seen out.old) (hit_bytes width y (hit_behind style front (marked_of hit.now))) result (O.seen out.new) }
+    ensures shown { OnOk result (TookWith (O.seen out.old) (O.seen out.new) (IsHitShown width y (hit_behind style front (marked_of hit.now)))) }
 {
     let column = front.saturating_add(hit.column);
-    draw_chars(alloc, out, hit.chars.as_slice(), column, width, y)?;
-    Ok(())
+    let chars = overlaid_chars(alloc, style, hit.chars.as_slice())?;
+    draw_chars(alloc, out, chars.as_slice(), column, width, y)
 }
 
 // Draws characters from a column on, where they are within the columns.
@@ -137,7 +146,8 @@ fn draw_chars<O: Out>(
     y: u16,
 ) -> Result<(), Error>
     requires { y + 1 < 2 ^ 16 }
-    ensures { OnOk result (TookWith (O.seen out.old) (O.seen out.new) (IsHitShown width y (record { column = column; chars = chars.now }))) }
+    ensures writes { Draws (O.seen out.old) (hit_bytes width y (record { column = column; chars = chars.now })) result (O.seen out.new) }
+    ensures shown { OnOk result (TookWith (O.seen out.old) (O.seen out.new) (IsHitShown width y (record { column = column; chars = chars.now }))) }
 {
     let columns = columns_of(chars);
     if column.saturating_add(columns) > usize::from(width) {
@@ -149,8 +159,7 @@ fn draw_chars<O: Out>(
         width: columns as u16,
         height: 1,
     };
-    draw_rows(alloc, out, &Chars { chars }, &area)?;
-    Ok(())
+    draw_rows(alloc, out, &Chars { chars }, &area)
 }
 
 // Characters in a row, each in its style.

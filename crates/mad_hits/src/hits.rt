@@ -5,12 +5,11 @@ ghost use Rattle.mad_wrap.specs.WrapLines.{capped};
 ghost use Rattle.mad_measure.specs.TextColumns.{columns};
 ghost use Rattle.mad_format.specs.declared.line.FmtLine.TheVariants.{Normal};
 ghost use Rattle.mad_style.specs.StyledChars.{char_alone};
-ghost use Rattle.mad_hits.specs.Styled.{reversed};
 ghost use Rattle.mad_hits.specs.Hits.{marked_at, marked_of, placed_cells, placed_row, placed_texts, span, widthless, Adds, AreHits, AreTextHits, AreTextsHits};
 
 use crate::matches::{letters_of, starts};
 use crate::places::{column_in_cell, column_in_row, inner_columns, table_column};
-use crate::styled::{reversed, styled_text};
+use crate::styled::styled_text;
 use mad_characters::char_columns;
 use mad_format::{FmtComposite, FmtLine};
 use mad_rows::RowSkin;
@@ -23,7 +22,7 @@ use std::alloc::{AllocError, Global};
 pub struct Hit {
     /// The column of the first, counted from 0.
     pub column: usize,
-    /// The characters.
+    /// The characters, as they stand there.
     pub chars: Vec<StyledChar>,
 }
 
@@ -163,22 +162,11 @@ pub(crate) fn hit_at(
     let before = &text[..start.min(text.len())];
     let after = &text[start.min(text.len())..];
     let end = span(after, count);
-    let chars = reversed_chars(alloc, &after[..end])?;
+    let chars = Vec::from_slice(alloc, &after[..end])?;
     Ok(Hit {
         column: column.saturating_add(columns_of(before)),
         chars,
     })
-}
-
-// Characters with their colors exchanged.
-fn reversed_chars(alloc: Global, text: &[StyledChar]) -> Result<Vec<StyledChar>, AllocError>
-    ensures { IfOk result (λ chars. chars.items ≡ map reversed text.now) }
-{
-    let mut chars = Vec::new(alloc);
-    for c in text {
-        chars.push(reversed(*c))?;
-    }
-    Ok(chars)
 }
 
 // How many characters a hit at the start of a text has: so many, and those without columns after them.

@@ -1,4 +1,5 @@
-//! Rows of a page that is laid out as lines and fronts, on a screen, and what is sought, marked in them: its characters are drawn once more, reversed.
+//! Rows of a page that is laid out as lines and fronts, on a screen, and what is sought, marked in them: it is drawn once more,
+//! in a style over that of its characters.
 //!
 //! 1. [`columns`]: the columns in front of a row's line. [`rows`], [`panes`]: rows in an area of the screen, beside a scroll bar.
 //! 2. [`styled`]: the characters of a composite, each in its style.

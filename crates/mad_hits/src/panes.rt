@@ -1,9 +1,10 @@
 //! Rows of a page beside a scroll bar.
 
 ghost use Rattle.std.specs.Prelude.{◌≡◌, OnOk, drop};
+ghost use Rattle.mad_term.specs.Draws.{Draws};
 ghost use Rattle.mad_term.specs.Trace.{TookWith};
 ghost use Rattle.mad_draw.specs.BesideBar.{columns_beside};
-ghost use Rattle.mad_hits.specs.Panes.{ArePageRowsDrawn};
+ghost use Rattle.mad_hits.specs.Panes.{ArePageRowsDrawn, page_rows_bytes};
 
 use crate::rows::FrontRows;
 use mad_draw::scroll_bars::{ScrollBar, columns_beside, draw_rows_beside};
@@ -31,7 +32,8 @@ pub fn draw_page_rows<O: Out>(
     width: u16,
     height: u16,
 ) -> Result<(), Error>
-    ensures { OnOk result (TookWith (O.seen out.old) (O.seen out.new) (ArePageRowsDrawn skin.now bar lines.now fronts.now top width height)) }
+    ensures writes { Draws (O.seen out.old) (page_rows_bytes skin.now bar lines.now fronts.now top width height) result (O.seen out.new) }
+    ensures shown { OnOk result (TookWith (O.seen out.old) (O.seen out.new) (ArePageRowsDrawn skin.now bar lines.now fronts.now top width height)) }
 {
     let rows = FrontRows {
         skin,
@@ -45,8 +47,7 @@ pub fn draw_page_rows<O: Out>(
         width,
         height,
     };
-    draw_rows_beside(alloc, out, &rows, bar, &area)?;
-    Ok(())
+    draw_rows_beside(alloc, out, &rows, bar, &area)
 }
 
 /// The columns that a bar leaves of so many, if there is one.

@@ -2,12 +2,11 @@
 
 ghost use Rattle.std.specs.Prelude.{◌≡◌, ◌++◌, IfOk, OnOk, chars, map};
 ghost use Rattle.mad_style.specs.StyledChars.{styled_char};
-ghost use Rattle.mad_hits.specs.Styled.{reversed, styled_text};
+ghost use Rattle.mad_hits.specs.Styled.{overlaid, styled_text};
 
 use mad_format::FmtComposite;
 use mad_rows::RowSkin;
 use mad_style::{CompoundStyle, StyledChar};
-use mad_term::Attribute;
 use std::alloc::{AllocError, Global};
 
 /// The characters of a composite, each in its style.
@@ -48,11 +47,30 @@ fn push_styled(
     Ok(())
 }
 
-/// A character with its colors exchanged; the rest of its style stays.
-pub(crate) fn reversed(c: StyledChar) -> StyledChar
-    ensures { result ≡ reversed c }
+/// Characters whose styles are overwritten with another.
+///
+/// # Errors
+///
+/// Out of memory is the only error.
+pub(crate) fn overlaid_chars(
+    alloc: Global,
+    style: CompoundStyle,
+    text: &[StyledChar],
+) -> Result<Vec<StyledChar>, AllocError>
+    ensures { IfOk result (λ chars. chars.items ≡ map (overlaid style) text.now) }
 {
-    let mut style = *c.compound_style();
-    style.add_attr(Attribute::Reverse);
-    StyledChar::new(style, c.nude_char())
+    let mut chars = Vec::new(alloc);
+    for c in text {
+        chars.push(overlaid(style, *c))?;
+    }
+    Ok(chars)
+}
+
+// A character whose style is overwritten with another: colors where that has some, and its attributes are added.
+fn overlaid(style: CompoundStyle, c: StyledChar) -> StyledChar
+    ensures { result ≡ overlaid style c }
+{
+    let mut own = *c.compound_style();
+    own.overwrite_with(&style);
+    StyledChar::new(own, c.nude_char())
 }

@@ -1,4 +1,5 @@
 -- What rows show of a skin.
+use Rattle.std.specs.Prelude.{None}
 use Rattle.mad_style.specs.CompoundStyles.{unstyled}
 use Rattle.mad_style.specs.StyledChars.{shown_as}
 use Rattle.mad_rows.specs.declared.page_styles.PageStyles.{PageStyles}
@@ -21,7 +22,7 @@ page_styles skin =
       below_others = skin.horizontal_rule;
     }
 
--- all but its scroll bar; links have no style of their own
+-- all but its scroll bar; links have no style of their own, and code has no tones
 abbrev pub row_skin : MadSkin → RowSkin
 row_skin skin =
     record {
@@ -43,4 +44,5 @@ row_skin skin =
       list_items_indentation_mode = skin.list_items_indentation_mode;
       whole_words = skin.whole_words;
       page = page_styles skin;
+      tones = None;
     }

@@ -207,7 +207,7 @@ impl MadSkin {
         style_of_compound(line_style, added, &self.ellipsis, compound)
     }
 
-    /// What rows show of the skin: all but its scroll bar. Links look as the rest of their line.
+    /// What rows show of the skin: all but its scroll bar. Links look as the rest of their line, and so does all of code.
     pub fn row_skin(&self) -> RowSkin
         ensures { result ≡ row_skin self.now }
     {
@@ -230,6 +230,7 @@ impl MadSkin {
             list_items_indentation_mode: self.list_items_indentation_mode,
             whole_words: self.whole_words,
             page: self.page_styles(),
+            tones: None,
         }
     }
 

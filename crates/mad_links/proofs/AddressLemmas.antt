@@ -20,6 +20,7 @@ use Rattle.mad_links.proofs.LinkRowLemmas.{AreDigits, decimal_digits, is_decimal
 
 -- ---- bytes that are kept
 
+-- each is a byte that is kept
 abbrev pub AreKept : List ℕ → Type 0
 AreKept bs = AllByRecursion (λ b. is_kept_byte b ≡ true) bs
 
@@ -38,6 +39,7 @@ byte_kept : (b : ℕ) (k : Bool) → is_kept_byte b ≡ k → AreKept (cond k (b
 byte_kept b true e = (e, tt)
 byte_kept b false e = escape_kept b
 
+-- an address as it is written has such bytes alone
 pub address_kept : (a : List ℕ) → AreKept (written_address a)
 address_kept [] = tt
 address_kept (b ∷ a) = kept_both (written_byte b) (written_address a) (byte_kept b (is_kept_byte b) refl) (address_kept a)
@@ -120,6 +122,7 @@ cut_step code c cs false p e ih h = by_rest (cut_at code cs) refl h
     by_rest None f k = absurd (none_is p k)
     by_rest (Some q) f k = subst (λ (r : List ℕ × List ℕ). c ∷ cs ≡ r.0 ++ code ∷ r.1) (some_is (c ∷ q.0, q.1) p k) (ap (λ l. c ∷ l) (ih q f))
 
+-- a text that is cut is the two parts, with the character between them
 pub cut_is : (code : ℕ) (cs : List ℕ) (p : List ℕ × List ℕ) → cut_at code cs ≡ Some p → cs ≡ p.0 ++ code ∷ p.1
 cut_is code [] p h = absurd (none_is p h)
   where
@@ -162,6 +165,7 @@ kept_by a is =
     ∙ ap (λ t. cond (t && leb (length a) 700) (Some a) None) is.scheme
     ∙ ap (λ t. cond t (Some a) None) fits
 
+-- THE LAW: an address that isn't refused can be written, and such a one is written as it is
 pub addresses_are_written : AddressesAreWritten
 addresses_are_written = record {
   written = λ raw a h. written_by raw a (has_link_scheme raw && leb (length (written_address raw)) longest_address) refl h;
@@ -187,6 +191,7 @@ open_safe n a small is =
       short = omega (arith, length-append (id_parameter n) (59 ∷ a), digits, is.short);
     }
 
+-- THE LAW: no byte of an address ends a command, or is a control byte
 pub commands_are_safe : CommandsAreSafe
 commands_are_safe = record {
   opens = open_safe;
@@ -213,6 +218,7 @@ numbered n (Some a) link small e = (sym (ap (λ (l : Link). l.id) (some_is (reco
     some_is : (x y : Link) → Some x ≡ Some y → x ≡ y
     some_is x y k = cc
 
+-- THE LAW: links of two numbers are one link exactly where the numbers are the same
 pub numbers_are_links : NumbersAreLinks
 numbers_are_links = record {
   same = λ addresses n a known e. same_by n (address_of addresses n) a e (known.written n a e).1;

@@ -44,6 +44,7 @@ use Rattle.mad_links.specs.LinkedLines.{composite_links, SaysCompounds, ShowsCom
 
 -- ---- pieces without links
 
+-- what is written of pieces without links is what is written of rows
 pub unlinked_is : (ps : List LinkedPiece) → unlinked_bytes ps ≡ pieces_bytes (without_links ps)
 unlinked_is [] = refl
 unlinked_is (p ∷ ps) = ap (λ l. piece_bytes p.style p.text ++ l) (unlinked_is ps)
@@ -56,11 +57,13 @@ without_again : (ps : List RowPiece) → without_links (map in_no_link ps) ≡ p
 without_again [] = refl
 without_again (p ∷ ps) = ap (λ l. p ∷ l) (without_again ps)
 
+-- of pieces in no link nothing is written of links
 pub no_link_no_byte : (addresses : List (Option (List ℕ))) (ps : List RowPiece) → linked_bytes addresses (map in_no_link ps) ≡ pieces_bytes ps
 no_link_no_byte addresses ps = writes_nothing addresses (map in_no_link ps) (none_linked addresses ps) ∙ unlinked_is (map in_no_link ps) ∙ ap pieces_bytes (without_again ps)
 
 -- ---- rows
 
+-- pieces are those that the laws speak of, where they are so without links
 pub pieces_are : (ps : List LinkedPiece) → AreKnown (without_links ps) → AreShownPieces (without_links ps) → AreLinkedPieces ps
 pieces_are [] known shown = tt
 pieces_are (p ∷ ps) known shown = (record { utf8 = shown.0.utf8; shown = shown.0.shown; style = known.0 }, pieces_are ps known.1 shown.1)
@@ -100,6 +103,7 @@ count_is row y (suc count) = ap suc (count_is row (suc y) count)
 fills : (row : ℕ → List LinkedPiece) (addresses : List (Option (List ℕ))) (area : Area) → AreLinkedRows row addresses area → FillsFrom row area.width 0 area.height
 fills row addresses area is k low high = (is.fill k (omega arith), is.known k (omega arith))
 
+-- THE LAW: the rows of an area lead where their links do
 pub links_in_areas : (row : ℕ → List LinkedPiece) (addresses : List (Option (List ℕ))) (area : Area) → AreLinkedRows row addresses area → AreLinkedRowsShown row addresses area (linked_rows_bytes row addresses area)
 links_in_areas row addresses area is s on_screen =
     let rows : List (List LinkedPiece) = linked_rows_from row 0 area.height in
@@ -125,6 +129,7 @@ plain_rows row y zero = refl
 plain_rows row y (suc count) =
     ap (λ l. l ∷ map unlinked_bytes (linked_rows_from row (suc y) count)) (unlinked_is (row y)) ∙ ap (λ l. pieces_bytes (without_links (row y)) ∷ l) (plain_rows row (suc y) count)
 
+-- THE LAW: a terminal that skips links shows of an area what is shown of it without them
 pub areas_are_the_same : (row : ℕ → List LinkedPiece) (addresses : List (Option (List ℕ))) (area : Area) → AreLinkedRows row addresses area
     → (g : Grid) → after_skipping g (linked_rows_bytes row addresses area) ≡ after_bytes g (rows_bytes (λ y. without_links (row y)) area)
 areas_are_the_same row addresses area is g =
@@ -138,6 +143,7 @@ areas_are_the_same row addresses area is g =
 
 -- ---- cuts and composites
 
+-- a text that is cut shows what it does uncut
 pub cuts_show_the_same : (style : ContentStyle) (a b : List ℕ) → IsUtf8 a
     → penned_chars (record { style = style; text = a } ∷ record { style = style; text = b } ∷ []) ≡ penned_chars (record { style = style; text = a ++ b } ∷ [])
 cuts_show_the_same style a b text =
@@ -152,6 +158,7 @@ without_both ps qs = map-append without_link ps qs
 step : (ps : List RowPiece) (qs : List LinkedPiece) (rs : List RowPiece) → without_links qs ≡ rs → without_links (map in_no_link ps ++ qs) ≡ ps ++ rs
 step ps qs rs e = without_both (map in_no_link ps) qs ∙ ap (λ l. l ++ without_links qs) (without_again ps) ∙ ap (λ l. ps ++ l) e
 
+-- a composite whose compounds have links, without the links
 pub composites_say_the_same : (skin : RowSkin) (outer : Option ℕ) (margins : ℕ × ℕ) (filled : Bool) (l : FmtComposite) (said : List LinkedPiece) → SaysCompounds skin l said
     → without_links (composite_links skin outer margins filled l said) ≡ composite_pieces skin outer margins filled l
 composites_say_the_same skin outer margins filled l said says =
@@ -179,6 +186,7 @@ around left said compounds right e =
     ∙ ap (λ l. penned_chars left ++ l) (penned_both said right ∙ ap (λ l. l ++ penned_chars right) e ∙ sym (penned_both compounds right))
     ∙ sym (penned_both left (compounds ++ right))
 
+-- a composite whose compounds are cut shows what it does uncut
 pub composites_show_the_same : (skin : RowSkin) (outer : Option ℕ) (margins : ℕ × ℕ) (filled : Bool) (l : FmtComposite) (said : List LinkedPiece) → ShowsCompounds skin l said
     → penned_chars (without_links (composite_links skin outer margins filled l said)) ≡ penned_chars (composite_pieces skin outer margins filled l)
 composites_show_the_same skin outer margins filled l said shows =
@@ -209,6 +217,7 @@ known_rows : (row : ℕ → List LinkedPiece) (w y count : ℕ) → FillsFrom ro
 known_rows row w y zero fill = tt
 known_rows row w y (suc count) fill = ((fill y (omega arith) (omega arith)).1, known_rows row w (suc y) count (fill_next row w y count fill))
 
+-- THE LAW: so does an area whose rows are cut
 pub areas_show_the_same : (row : ℕ → List LinkedPiece) (addresses : List (Option (List ℕ))) (area : Area) (uncut : ℕ → List RowPiece) → AreLinkedRows row addresses area
     → ((y : ℕ) → penned_chars (without_links (row y)) ≡ penned_chars (uncut y)) → (g : Grid) → IsOnScreen area g
     → (new : Grid) × (after_skipping g (linked_rows_bytes row addresses area) ≡ Some new) × IsGrid new × (new.pen ≡ plain_pen)
@@ -257,11 +266,13 @@ pub rows_asked : (row : ℕ → List LinkedPiece) (addresses : List (Option (Lis
     → AreLinkedRows row addresses area
 rows_asked row addresses area within fill known writable = record { within = within; fill = fill; known = known; writable = writable }
 
+-- where a device took the rows of an area, they are shown with their links
 pub took_shown : (row : ℕ → List LinkedPiece) (addresses : List (Option (List ℕ))) (area : Area) (old new : Trace) → new ≡ after old (linked_rows_bytes row addresses area) → AreLinkedRows row addresses area
     → TookWith old new (AreLinkedRowsShown row addresses area)
 took_shown row addresses area old new e is =
     took_with old new (linked_rows_bytes row addresses area) (AreLinkedRowsShown row addresses area) e (links_in_areas row addresses area is)
 
+-- and a terminal that skips links shows them without
 pub took_same : (row : ℕ → List LinkedPiece) (addresses : List (Option (List ℕ))) (area : Area) (old new : Trace) → new ≡ after old (linked_rows_bytes row addresses area) → AreLinkedRows row addresses area
     → TookWith old new (IsShownWithoutLinks row area)
 took_same row addresses area old new e is =
@@ -284,10 +295,12 @@ known_push : (ps : List LinkPiece) (p : LinkPiece) → AreKnown (without_links (
 known_push [] p known own = (own, tt)
 known_push (q ∷ ps) p known own = (known.0, known_push ps p known.1 own)
 
+-- the colors of one piece more are known
 pub style_more : (ps : List LinkPiece) (i : ℕ) (p : LinkPiece) → i < length ps → p ≡ get_or ps i p → AreKnown (without_links (map piece_of (take i ps))) → IsStyle p.style → AreKnown (without_links (map piece_of (take (i + 1) ps)))
 style_more ps i p below is before own =
     subst (λ (l : List LinkPiece). AreKnown (without_links (map piece_of l))) (sym (take_more ps i p below))
     (known_push (take i ps) (get_or ps i p) before (subst (λ (q : LinkPiece). IsStyle q.style) is own))
 
+-- so are those of all
 pub styles_all : (ps : List LinkPiece) (i : ℕ) → length ps ≤ i → AreKnown (without_links (map piece_of (take i ps))) → AreKnown (without_links (map piece_of ps))
 styles_all ps i all known = subst (λ (l : List LinkPiece). AreKnown (without_links (map piece_of l))) (take_all i ps all) known

@@ -13,6 +13,7 @@ skip_each : {R : Type 0} (t : Reader R) (a b : List ℕ) → ((s : Skipping R) �
 skip_each t a b h None = refl
 skip_each t a b h (Some s) = h s
 
+-- characters behind others, to a terminal that passes over links
 pub skip_all-append : {R : Type 0} (t : Reader R) (a b : List ℕ) (s : Skipping R) → skip_all t (a ++ b) s ≡ option_and_then (skip_all t b) (skip_all t a s)
 skip_all-append t [] b s = refl
 skip_all-append t (c ∷ a) b s = skip_each t a b (λ u. skip_all-append t a b u) (skip t s c)
@@ -21,6 +22,7 @@ read_each : {R : Type 0} (t : Reader R) (a b : List ℕ) → ((r : R) → read_a
 read_each t a b h None = refl
 read_each t a b h (Some r) = h r
 
+-- the same to the terminal itself
 pub read_all-append : {R : Type 0} (t : Reader R) (a b : List ℕ) (r : R) → read_all t (a ++ b) r ≡ option_and_then (read_all t b) (read_all t a r)
 read_all-append t [] b r = refl
 read_all-append t (c ∷ a) b r = read_each t a b (λ u. read_all-append t a b u) (t.feed r c)
@@ -29,6 +31,7 @@ link_each : (a b : List ℕ) → ((s : LinkReading) → link_feed_all (a ++ b) s
 link_each a b h None = refl
 link_each a b h (Some s) = h s
 
+-- the same to a terminal with links
 pub link_feed_all-append : (a b : List ℕ) (s : LinkReading) → link_feed_all (a ++ b) s ≡ option_and_then (link_feed_all b) (link_feed_all a s)
 link_feed_all-append [] b s = refl
 link_feed_all-append (c ∷ a) b s = link_each a b (λ t. link_feed_all-append a b t) (link_feed s c)
@@ -48,6 +51,7 @@ beside_step : (cs : List ℕ) (r : LinkReading) (c : ℕ) (o : Option (Skipping 
 beside_step cs r c None ih = refl
 beside_step cs r c (Some s) ih = ih (with_links r c s)
 
+-- without its links it is one that passes over them
 pub beside_all : (cs : List ℕ) (r : LinkReading) → option_map (λ (u : LinkReading). u.skipping) (link_feed_all cs r) ≡ skip_all plain_reader cs r.skipping
 beside_all [] r = refl
 beside_all (c ∷ cs) r = beside_step cs r c (skip plain_reader r.skipping c) (λ t. beside_all cs t)
@@ -65,6 +69,7 @@ tested_beside : (b : Bool) (o : Option LinkReading) (p : Option (Skipping Readin
 tested_beside false o p e = refl
 tested_beside true o p e = read_beside o ∙ ap (option_and_then skipped) e
 
+-- THE LAW: it shows what such a one does
 pub links_beside : (s : LinkScreen) (bytes : List ℕ) → option_map (λ (t : LinkScreen). t.grid) (after_linked s bytes) ≡ after_skipping s.grid bytes
 unfolding after_linked after_skipping
 links_beside s bytes = tested_beside (is_utf8 bytes) (link_feed_all (chars bytes) (link_resting s)) (skip_all plain_reader (chars bytes) (passing (resting s.grid))) (beside_all (chars bytes) (link_resting s))

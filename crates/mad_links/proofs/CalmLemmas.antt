@@ -51,6 +51,7 @@ goes_step : {R : Type 0} (t : Reader R) (P Q : R → Type 0) (cs : List ℕ) (o 
 goes_step t P Q cs None h ih = (refl, tt)
 goes_step t P Q cs (Some s) h ih = ((ih s h).same, (ih s h).after)
 
+-- characters of which none is an ESC
 pub no_escape_goes : {R : Type 0} (t : Reader R) (rests : R → Type 0) (is : IsReader t rests) (cs : List ℕ) (r : R) → NoEscape cs → t.at_escape r ≡ false → Goes t (IsOpen t) cs r
 no_escape_goes t rests is [] r none h = record { same = refl; after = h }
 no_escape_goes t rests is (c ∷ cs) r none h =
@@ -59,6 +60,7 @@ no_escape_goes t rests is (c ∷ cs) r none h =
 
 -- ---- one after another
 
+-- characters, and others behind them
 pub goes_both : {R : Type 0} (t : Reader R) (P Q : R → Type 0) (a b : List ℕ) (r : R) → Goes t P a r → ((s : R) → P s → Goes t Q b s) → Goes t Q (a ++ b) r
 goes_both t P Q a b r p q =
     let step = goes_step t P Q b (read_all t a r) p.after q in
@@ -67,6 +69,7 @@ goes_both t P Q a b r p q =
       after = subst (OfReading Q) (sym (read_all-append t a b r)) step.1;
     }
 
+-- so from rest to rest
 pub agrees_both : {R : Type 0} (t : Reader R) (rests : R → Type 0) (a b : List ℕ) → Agrees t rests a → Agrees t rests b → Agrees t rests (a ++ b)
 agrees_both t rests a b p q r h = goes_both t rests rests a b r (p r h) q
 
@@ -87,6 +90,7 @@ one_goes t P r c h then = record {
   after = one_after t P (t.feed r c) (of_feed P (t.feed r c) then);
 }
 
+-- a text without an ESC
 pub text_agrees : {R : Type 0} (t : Reader R) (rests : R → Type 0) → IsReader t rests → (cs : List ℕ) → NoEscape cs → Agrees t rests cs
 text_agrees t rests is [] none r h = record { same = refl; after = h }
 text_agrees t rests is (c ∷ cs) none r h =
@@ -98,6 +102,7 @@ no_escape_both : (a b : List ℕ) → NoEscape a → NoEscape b → NoEscape (a 
 no_escape_both [] b p q = q
 no_escape_both (c ∷ a) b p q = (p.0, no_escape_both a b p.1 q)
 
+-- a number of the machine has no ESC
 pub decimal_no_escape : (n : ℕ) → n < 2 ^ 64 → NoEscape (decimal n)
 decimal_no_escape n small =
     decimal_by_steps (λ n ds. NoEscape ds)
@@ -121,6 +126,7 @@ numbers_no_escape (n ∷ ns) small = no_escape_both (decimal n) (flat_map (λ m.
 bracket_skips : {R : Type 0} (t : Reader R) (e s : R) → t.at_escape e ≡ true → t.feed e 91 ≡ Some s → skip t (passing e) 91 ≡ Some (passing s)
 bracket_skips t e s h f = ap (λ k. cond (k && eqb 91 93) (Some (record { plain = t.before_escape e; mode = InCommand [] })) (option_map passing (t.feed e 91))) h ∙ ap (option_map passing) f
 
+-- a command that ends in a letter
 pub command_agrees : {R : Type 0} (t : Reader R) (rests : R → Type 0) → IsReader t rests → (ns : List ℕ) (letter : ℕ) → AreMachine ns → 64 ≤ letter → Agrees t rests (command_bytes ns letter)
 command_agrees t rests is ns letter small low r h =
     let begun = is.escape r h in
@@ -142,6 +148,7 @@ command_agrees t rests is ns letter small low r h =
 abbrev pub AreCommandChars : List ℕ → Type 0
 AreCommandChars cs = AllByRecursion (λ c. is_command_char c ≡ true) cs
 
+-- what may be in the command of a link is no ESC
 pub char_no_escape : (c : ℕ) → is_command_char c ≡ true → eqb c 27 ≡ false
 char_no_escape c h = grind (arith, nat_tests, h)
 
@@ -161,6 +168,7 @@ in_command t (c ∷ cs) text r are =
 abbrev pub NoSemicolon : List ℕ → Type 0
 NoSemicolon cs = AllByRecursion (λ c. c ≢ 59) cs
 
+-- a text is cut at the first of such characters
 pub cut_there : (code : ℕ) (front rest : List ℕ) → AllByRecursion (λ c. c ≢ code) front → cut_at code (front ++ code ∷ rest) ≡ Some (front, rest)
 cut_there code [] rest none =
     let here : eqb code code ≡ true = grind (arith, nat_tests) in
@@ -171,6 +179,7 @@ cut_there code (c ∷ cs) rest none =
     ap (λ (b : Bool). cond b (Some ([], cs ++ code ∷ rest)) (option_map (λ (p : List ℕ × List ℕ). (c ∷ p.0, p.1)) (cut_at code (cs ++ code ∷ rest)))) not_here
     ∙ ap (option_map (λ (p : List ℕ × List ℕ). (c ∷ p.0, p.1))) (cut_there code cs rest none.1)
 
+-- the parameters and the address of a command are read as they were written
 pub command_is : (parameters address : List ℕ) → NoSemicolon parameters → link_command (command_text parameters address) ≡ Some (parameters, address)
 command_is parameters address none = cut_there 59 parameters address none
 
@@ -180,6 +189,7 @@ begins t e r h f =
     ap (λ k. cond (k && eqb 93 93) (Some (record { plain = t.before_escape e; mode = InCommand [] })) (option_map passing (t.feed e 93))) h
     ∙ ap (λ (s : _). Some (record { plain = s; mode = InCommand [] })) f
 
+-- the command of a link is passed over
 pub link_command_skipped : {R : Type 0} (t : Reader R) (rests : R → Type 0) → IsReader t rests → (parameters address : List ℕ) → AreCommandChars (command_text parameters address) → NoSemicolon parameters → (r : R) → rests r
     → skip_all t (link_command_bytes parameters address) (passing r) ≡ Some (passing r)
 link_command_skipped t rests is parameters address are none r h =
@@ -199,6 +209,7 @@ ascii_chars : (cs : List ℕ) → AreCommandChars cs → IsAscii cs
 ascii_chars [] are = IsAscii-nil
 ascii_chars (c ∷ cs) are = IsAscii-cons c cs (small_char c are.0) (ascii_chars cs are.1)
 
+-- it is of ASCII
 pub ascii_link_command : (parameters address : List ℕ) → AreCommandChars (command_text parameters address) → IsAscii (link_command_bytes parameters address)
 ascii_link_command parameters address are =
     let text : List ℕ = command_text parameters address in
@@ -217,6 +228,7 @@ calm_utf8 t (calm_text t' text none) = text
 calm_utf8 t (calm_command t' ns letter small low high e) = subst IsUtf8 (sym e) (IsUtf8-from_ascii (command_bytes ns letter) (ascii_command ns letter small high))
 calm_utf8 t (calm_both t' a b p q e) = subst IsUtf8 (sym e) (IsUtf8-append a b (calm_utf8 a p) (calm_utf8 b q))
 
+-- woven bytes are texts, where those between them are
 pub woven_texts : (linked plain : List ℕ) → IsWoven linked plain → AreTexts linked plain
 woven_texts linked plain (woven_calm t calm) = record { first = calm_utf8 t calm; second = calm_utf8 t calm }
 woven_texts linked plain (woven_command t parameters address are none e) = record {
@@ -259,6 +271,7 @@ weaves_both t rests a b c d r v w =
       after = subst (OfReading rests) (sym (read_all-append t c d r)) step.1;
     }
 
+-- a reader ends as it does without the commands of links, at rest again
 pub weaves : {R : Type 0} (t : Reader R) (rests : R → Type 0) → IsReader t rests → (linked plain : List ℕ) → IsWoven linked plain → (r : R) → rests r → Weaves t rests (chars linked) (chars plain) r
 weaves t rests is linked plain (woven_calm x calm) r h =
     let goes = calm_agrees t rests is x calm r h in

@@ -123,6 +123,7 @@ row_has s left top cells h pen closed in_height fits = record {
   closed = closed;
 }
 
+-- bytes that paint the rows lead to the screen after them
 pub drawing_links : (ts : List (List ℕ)) (rs : List (List LinkedCell)) (s : LinkScreen) (left top w : ℕ) → LinkPaintRows ts rs → AllByRecursion (λ r. length r ≡ w) rs → IsLinkScreen s → s.grid.pen ≡ plain_pen → s.current ≡ None → 0 < w → left + w ≤ s.grid.width → top + length rs ≤ s.grid.height → left + 1 < 2 ^ 32 → top + length rs < 2 ^ 32
     → IsUtf8 (drawing left top ts) × LinkLeads (link_resting s) (chars (drawing left top ts)) (link_resting (painted_link_rows s left top rs))
 unfolding link_painted painted
@@ -179,6 +180,7 @@ rows_end (r ∷ rs) s left top w wide h fits_x fits_y =
     rows_end rs (link_painted (moved s left top) r) left (suc top) w wide.1
     (record { screen = painted_is_screen s left top r h.screen (omega arith) (omega (arith, wide.0)); pen = h.pen; closed = h.closed }) fits_x (omega arith)
 
+-- that screen shows the rows and leads where their cells do
 pub painted_rows_show : (rs : List (List LinkedCell)) (s : LinkScreen) (left top w : ℕ) → AllByRecursion (λ r. length r ≡ w) rs → IsLinkScreen s → left + w ≤ s.grid.width → top + length rs ≤ s.grid.height
     → ShowsLinkedRows left top w (length rs) rs s (painted_link_rows s left top rs)
 unfolding link_painted painted
@@ -204,6 +206,7 @@ unfolding after_linked LinkLeads
 linked_read s new bytes text h =
     ap (λ b. cond b (option_and_then link_settled (link_feed_all (chars bytes) (link_resting s))) None) (is_utf8-from_IsUtf8 bytes text) ∙ ap (option_and_then link_settled) h
 
+-- THE LAW: rows of bytes that paint cells with links show these in an area
 pub linked_drawn : (left top : ℕ) (ts : List (List ℕ)) (rs : List (List LinkedCell)) → left < 2 ^ 16 → top + length rs < 2 ^ 32 → LinkPaintRows ts rs → LinkedDrawnAs left top rs (drawing left top ts)
 linked_drawn left top ts rs small_x small_y paints s w fits =
     let new : LinkScreen = painted_link_rows s left top rs in
@@ -221,6 +224,7 @@ rows_paint : (addresses : List (Option (List ℕ))) (rows : List (List LinkedPie
 rows_paint addresses [] are known = tt
 rows_paint addresses (r ∷ rs) are known = (links_are_in_their_cells addresses r are.0 known, rows_paint addresses rs are.1 known)
 
+-- THE LAW: so do rows of pieces
 pub links_drawn : (left top : ℕ) (addresses : List (Option (List ℕ))) (rows : List (List LinkedPiece)) → left < 2 ^ 16 → top + length rows < 2 ^ 32 → AllByRecursion AreLinkedPieces rows → AreAddresses addresses
     → LinkedDrawnAs left top (map (row_cells addresses) rows) (drawing left top (map (linked_bytes addresses) rows))
 links_drawn left top addresses rows small_x small_y are known =

@@ -99,11 +99,13 @@ calm_commands = record {
   both = λ a b p q. calm_both (a ++ b) a b p q refl;
 }
 
+-- a piece is calm
 pub calm_piece : (s : ContentStyle) (text : List ℕ) → IsStyle s → IsUtf8 text → IsPrinted (chars text) → IsCalm (piece_bytes s text)
 calm_piece s text known utf8 printed =
     calm_both (piece_bytes s text) (opening_bytes s) (text ++ closing_bytes s) (of_opening IsCalm calm_commands s known)
     (calm_both (text ++ closing_bytes s) text (closing_bytes s) (calm_text text utf8 (printed_no_escape (chars text) printed)) (of_closing IsCalm calm_commands s) refl) refl
 
+-- no bytes are woven of none
 pub woven_nothing : IsWoven [] []
 woven_nothing = woven_calm [] calm_nothing
 
@@ -124,6 +126,7 @@ chars_both (c ∷ a) b p q = (p.0, chars_both a b p.1 q)
 abbrev pub is_decimal_digit : ℕ → Bool
 is_decimal_digit c = leb 48 c && leb c 57
 
+-- each is a digit
 abbrev pub AreDigits : List ℕ → Type 0
 AreDigits cs = AllByRecursion (λ c. is_decimal_digit c ≡ true) cs
 
@@ -131,6 +134,7 @@ digits_both : (a b : List ℕ) → AreDigits a → AreDigits b → AreDigits (a 
 digits_both [] b p q = q
 digits_both (c ∷ a) b p q = (p.0, digits_both a b p.1 q)
 
+-- a number of the machine has digits alone
 pub decimal_digits : (n : ℕ) → n < 2 ^ 64 → AreDigits (decimal n)
 decimal_digits n small =
     decimal_by_steps (λ n ds. AreDigits ds)
@@ -164,13 +168,16 @@ digits_whole (c ∷ cs) h =
 pub id_is : (n : ℕ) → n < 2 ^ 64 → id_of (id_parameter n) ≡ decimal n
 id_is n small = ap (λ (parts : List (List ℕ)). id_in (with_first 105 (with_first 100 (with_first 61 parts)))) (digits_whole (decimal n) (decimal_digits n small))
 
+-- the text of a command that opens a link has characters of commands alone
 pub open_chars : (n : ℕ) (a : List ℕ) → n < 2 ^ 64 → IsWritten a → AreCommandChars (command_text (id_parameter n) a)
 open_chars n a small written =
     (refl, (refl, chars_both (id_parameter n) (59 ∷ a) (refl, (refl, (refl, digits_chars (decimal n) (decimal_digits n small)))) (refl, command_chars a written.kept)))
 
+-- its parameters have no semicolon
 pub open_no_semicolon : (n : ℕ) → n < 2 ^ 64 → NoSemicolon (id_parameter n)
 open_no_semicolon n small = (omega arith, (omega arith, (omega arith, digits_no_semicolon (decimal n) (decimal_digits n small))))
 
+-- the text of the command that closes it has characters of commands alone
 pub close_chars : AreCommandChars (command_text [] [])
 close_chars = (refl, (refl, (refl, tt)))
 
@@ -198,12 +205,14 @@ woven_from addresses was (p ∷ ps) are known =
     (woven_calm (piece_bytes p.style p.text) (calm_piece p.style p.text are.0.style are.0.utf8 are.0.shown.printed))
     (woven_from addresses now ps are.1 known) refl refl) refl refl
 
+-- THE LAW: a row's pieces with links are those without, with commands between them
 pub rows_are_woven : (addresses : List (Option (List ℕ))) (ps : List LinkedPiece) → AreLinkedPieces ps → AreAddresses addresses → IsWoven (linked_bytes addresses ps) (unlinked_bytes ps)
 rows_are_woven addresses ps are known = woven_from addresses None ps are known
 
 nothing_between : (addresses : List (Option (List ℕ))) (now : Option ℕ) → now ≡ None → change_bytes addresses None now ≡ []
 nothing_between addresses now e = ap (change_bytes addresses None) e
 
+-- THE LAW: where no link has an address nothing is written of links
 pub writes_nothing : (addresses : List (Option (List ℕ))) (ps : List LinkedPiece) → AllByRecursion (λ p. written_link addresses p.link ≡ None) ps → linked_bytes addresses ps ≡ unlinked_bytes ps
 writes_nothing addresses [] none = refl
 writes_nothing addresses (p ∷ ps) none =
@@ -211,6 +220,7 @@ writes_nothing addresses (p ∷ ps) none =
     ∙ ap (λ (n : Option ℕ). piece_bytes p.style p.text ++ linked_bytes_from addresses n ps) none.0
     ∙ ap (λ l. piece_bytes p.style p.text ++ l) (writes_nothing addresses ps none.1)
 
+-- THE LAW: a row can be written in steps
 pub rows_in_steps : (addresses : List (Option (List ℕ))) (was : Option ℕ) (ps qs : List LinkedPiece)
     → linked_bytes_from addresses was (ps ++ qs) ≡ (begun_bytes addresses was ps).0 ++ linked_bytes_from addresses (begun_bytes addresses was ps).1 qs
 rows_in_steps addresses was [] qs = refl
@@ -331,6 +341,7 @@ map_both : {A B : Type 0} (f : A → B) (xs ys : List A) → map f (xs ++ ys) �
 map_both f [] ys = refl
 map_both f (x ∷ xs) ys = ap (λ l. f x ∷ l) (map_both f xs ys)
 
+-- as many are made as were there
 pub map_length : {A B : Type 0} (f : A → B) (xs : List A) → length (map f xs) ≡ length xs
 map_length f [] = refl
 map_length f (x ∷ xs) = ap suc (map_length f xs)
@@ -403,6 +414,7 @@ row_leads addresses was (p ∷ ps) s are known is h pen =
     (link_leads_both (link_resting s) (beside s.links t (resting s.grid)) _ (chars change) (chars piece ++ chars others) opens
     (link_leads_both (beside s.links t (resting s.grid)) (link_resting after) _ (chars piece) (chars others) shows goes_on)))
 
+-- THE LAW: a row writes its cells, each with the link of its piece
 pub links_are_in_their_cells : (addresses : List (Option (List ℕ))) (ps : List LinkedPiece) → AreLinkedPieces ps → AreAddresses addresses → LinkPaints (linked_bytes addresses ps) (row_cells addresses ps)
 unfolding link_painted
 links_are_in_their_cells addresses ps are known = record {

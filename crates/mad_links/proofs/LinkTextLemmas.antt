@@ -44,6 +44,7 @@ pub record IsFurther (g : Grid) (n : ℕ) (r : Reading) : Type 0 where
   pub row : r.grid.y ≡ g.y
   pub width : r.grid.width ≡ g.width
 
+-- so a reading, if there is one, n columns further
 abbrev pub Moves : Grid → ℕ → Option Reading → Type 0
 Moves g n None = Unit {0}
 Moves g n (Some r) = IsFurther g n r
@@ -98,6 +99,7 @@ follow_step cs m n g links link (Some r) h ih =
     further None k = tt
     further (Some s) k = record { mode = k.mode; column = omega (arith, k.column, h.column); row = k.row ∙ h.row; width = k.width ∙ h.width }
 
+-- a text that is shown
 pub printed_follows : (cs : List ℕ) → IsPrinted cs → (g : Grid) (links : List (Option Link)) (link : Option Link) → Follows cs (sum_by char_columns cs) g links link
 printed_follows [] printed g links link = record { same = refl; moves = record { mode = refl; column = omega arith; row = refl; width = refl } }
 printed_follows (c ∷ cs) printed g links link =
@@ -127,6 +129,7 @@ quiet_step b links link (Some r) h ih =
       subst (λ (s : Reading). Rests (feed_all b s)) (sym out) (ih r.grid).rests,
     )
 
+-- what leaves the links, and more that does
 pub quiet_both : (a b : List ℕ) → ((g : Grid) → Quiet a g) → ((g : Grid) → Quiet b g) → (g : Grid) → Quiet (a ++ b) g
 quiet_both a b p q g = record {
   same = λ links link.
@@ -136,6 +139,7 @@ quiet_both a b p q g = record {
   rests = subst Rests (sym (feed_all-append a b (resting g))) (quiet_step b [] None (feed_all a (resting g)) (p g).rests q).1;
 }
 
+-- no characters leave them
 pub quiet_nothing : (g : Grid) → Quiet [] g
 quiet_nothing g = record { same = λ links link. refl; rests = refl }
 
@@ -143,6 +147,7 @@ quiet_nothing g = record { same = λ links link. refl; rests = refl }
 abbrev pub is_number_char : ℕ → Bool
 is_number_char c = leb 48 c && leb c 59
 
+-- each is one of these
 abbrev pub NumberChars : List ℕ → Type 0
 NumberChars cs = AllByRecursion (λ c. is_number_char c ≡ true) cs
 
@@ -244,10 +249,12 @@ escape_columns : char_columns 27 ≡ 0
 unfolding char_columns char_width
 escape_columns = refl
 
+-- an ESC begins a sequence, and leaves the links
 pub escape_feeds : (g : Grid) (links : List (Option Link)) (link : Option Link) → link_feed (beside links link (resting g)) 27 ≡ Some (beside links link (record { grid = g; mode = Escape }))
 escape_feeds g links link =
     ap (λ n. Some (beside (linked_cells links (row_start g + g.x) n link) link (record { grid = g; mode = Escape }))) escape_columns
 
+-- a command that is no erasure leaves them
 pub quiet_command : (ns : List ℕ) (letter : ℕ) → AreMachine ns → 64 ≤ letter → IsNoErasure letter → (g : Grid) → Quiet (command_bytes ns letter) g
 quiet_command ns letter small low keeps g = record {
   same = λ links link.
@@ -260,6 +267,7 @@ quiet_command ns letter small low keeps g = record {
 pub quiet_sgr : (ns : List ℕ) → AreMachine ns → (g : Grid) → Quiet (command_bytes ns 109) g
 quiet_sgr ns small g = quiet_command ns 109 small (lit≤ tt) (record { of_screen = refl; of_row = refl }) g
 
+-- so does a move
 pub quiet_move : (x y : ℕ) → x + 1 < 2 ^ 64 → y + 1 < 2 ^ 64 → (g : Grid) → Quiet (move_to_bytes x y) g
 quiet_move x y small_x small_y g = quiet_command ((y + 1) ∷ (x + 1) ∷ []) 72 (small_y, (small_x, tt)) (lit≤ tt) (record { of_screen = refl; of_row = refl }) g
 
@@ -299,10 +307,12 @@ link_command_opens parameters address are none g links link =
 
 -- ---- one after another
 
+-- characters that lead on from where others lead
 pub link_leads_both : (r s t : LinkReading) (a b : List ℕ) → LinkLeads r a s → LinkLeads s b t → LinkLeads r (a ++ b) t
 unfolding LinkLeads
 link_leads_both r s t a b p q = link_feed_all-append a b r ∙ ap (option_and_then (link_feed_all b)) p ∙ q
 
+-- no characters lead nowhere else
 pub link_leads_nothing : (r : LinkReading) → LinkLeads r [] r
 unfolding LinkLeads
 link_leads_nothing r = refl

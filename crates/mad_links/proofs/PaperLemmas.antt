@@ -113,6 +113,7 @@ passed_is None r h = absurd (clash h)
     clash e = cc
 passed_is (Some s) r h = ap Some (ap (λ (x : Skipping PaperReading). x.plain) (some_same (passing s) (passing r) h))
 
+-- THE LAW: a terminal that scrolls reads texts with links as those without, where it skips links
 pub papers_are_the_same : (linked plain : List ℕ) → IsWoven linked plain → (p q : Paper) → ReadsSkipping p linked q ↔ Reads p plain q
 papers_are_the_same linked plain woven p q =
     let texts : AreTexts linked plain = woven_texts linked plain woven in

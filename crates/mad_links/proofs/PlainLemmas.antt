@@ -25,14 +25,17 @@ IsPlainOpen r = after_escape r.mode ≡ false
 pub of_some : {R : Type 0} (P : R → Type 0) (o : Option R) (s : R) → OfReading P o → o ≡ Some s → P s
 of_some P o s h e = subst (OfReading P) e h
 
+-- what holds of each that can be made holds of the one that is made
 pub mapped : {A R : Type 0} (P : R → Type 0) (f : A → R) → ((a : A) → P (f a)) → (o : Option A) → OfReading P (option_map f o)
 mapped P f h None = tt
 mapped P f h (Some a) = h a
 
+-- what holds of both holds of the one that is chosen
 pub either : {R : Type 0} (P : R → Type 0) (b : Bool) (x y : Option R) → OfReading P x → OfReading P y → OfReading P (cond b x y)
 either P true x y p q = p
 either P false x y p q = q
 
+-- a test tells another character from this one
 pub other : (c d : ℕ) → c ≢ d → eqb c d ≡ false
 other c d h = grind (arith, nat_tests, h)
 
@@ -79,6 +82,7 @@ rest_is r h = ap (λ (m : Mode). record { grid = r.grid; mode = m }) h
 escape_begins : (r : Reading) → PlainRests r → (e : Reading) × (feed r 27 ≡ Some e) × (after_escape e.mode ≡ true) × (resting e.grid ≡ r)
 escape_begins r h = (record { grid = r.grid; mode = Escape }, ap (λ (s : Reading). feed s 27) (rest_is r h), refl, sym (rest_is r h))
 
+-- where there are two that are the same, they have the same
 pub some_same : {A : Type 0} (x y : A) → Some x ≡ Some y → x ≡ y
 some_same x y k = cc
 
@@ -87,6 +91,7 @@ bracket_goes_on r e h f =
     let is : record { grid = r.grid; mode = Escape } ≡ e = some_same (record { grid = r.grid; mode = Escape }) e (sym (ap (λ (s : Reading). feed s 27) (rest_is r h)) ∙ f) in
     (numbers r.grid [] None, ap (λ (s : Reading). feed s 91) (sym is), refl)
 
+-- the plain terminal is a reader
 pub plain_is_reader : IsReader plain_reader PlainRests
 plain_is_reader = record {
   at_rest = λ r h. ap after_escape h;
@@ -109,12 +114,14 @@ not_escape c true e some =
     let same : c ≡ 27 = grind (arith, nat_tests) in
     absurd (false≢true (subst (λ (o : Option ℕ). IsSome o) (ap (char_width false) same ∙ no_escape) some))
 
+-- a character that is shown is no ESC
 pub printed_not_escape : (c : ℕ) → IsSome (char_width false c) → eqb c 27 ≡ false
 printed_not_escape c some = not_escape c (eqb c 27) refl some
 
 printed_other : (c : ℕ) → IsSome (char_width false c) → c ≢ 27
 printed_other c some = let e : eqb c 27 ≡ false = printed_not_escape c some in grind (arith, nat_tests, e)
 
+-- a text that is shown has none
 pub printed_no_escape : (cs : List ℕ) → IsPrinted cs → NoEscape cs
 printed_no_escape [] printed = tt
 printed_no_escape (c ∷ cs) printed = (printed_other c printed.0, printed_no_escape cs printed.1)
@@ -125,6 +132,7 @@ read_each : (cs : List ℕ) (o : Option Reading) → ((s : Reading) → read_all
 read_each cs None h = refl
 read_each cs (Some s) h = h s
 
+-- as a reader it reads what it reads by itself
 pub read_is_fed : (cs : List ℕ) (r : Reading) → read_all plain_reader cs r ≡ feed_all cs r
 read_is_fed [] r = refl
 read_is_fed (c ∷ cs) r = read_each cs (feed r c) (λ s. read_is_fed cs s)
@@ -133,6 +141,7 @@ settled_same : (o : Option Reading) → option_and_then skipped (option_map pass
 settled_same None = refl
 settled_same (Some r) = refl
 
+-- THE LAW: passing over links it shows what it does without them
 pub shows_the_same : (linked plain : List ℕ) → IsWoven linked plain → (g : Grid) → after_skipping g linked ≡ after_bytes g plain
 unfolding after_skipping after_bytes
 shows_the_same linked plain woven g =
@@ -146,6 +155,7 @@ shows_the_same linked plain woven g =
 abbrev pub Rests : Option Reading → Type 0
 Rests = OfReading PlainRests
 
+-- a command that ends in a letter leaves it at rest
 pub command_rests : (ns : List ℕ) (letter : ℕ) → AreMachine ns → 64 ≤ letter → (g : Grid) → Rests (feed_all (command_bytes ns letter) (resting g))
 command_rests ns letter small low g =
     let goes : Goes plain_reader PlainRests (command_bytes ns letter) (resting g) = command_agrees plain_reader PlainRests plain_is_reader ns letter small low (resting g) refl in

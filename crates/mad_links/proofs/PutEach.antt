@@ -3,10 +3,12 @@ use Rattle.std.proofs.Common.{◌≡◌, ◌≢◌, ◌⊎◌, inl, inr, ⊎_eli
 use Rattle.std.proofs.lemmas.List.{get_or-set_same, get_or-set_other, length-replicate, replicate-append-replicate}
 use Rattle.mad_links.specs.LinkTerminal.{put_each}
 
+-- as many values are there as before
 pub length-put_each : {A : Type 0} (xs : List A) (i : ℕ) (ys : List A) → length (put_each xs i ys) ≡ length xs
 length-put_each xs i [] = refl
 length-put_each xs i (y ∷ ys) = length-put_each (set xs i y) (suc i) ys ∙ length-set xs i y
 
+-- values, and others behind them
 pub put_each-append : {A : Type 0} (xs : List A) (i : ℕ) (ys zs : List A) → put_each xs i (ys ++ zs) ≡ put_each (put_each xs i ys) (i + length ys) zs
 put_each-append xs i [] zs = ap (λ j. put_each xs j zs) (omega arith)
 put_each-append xs i (y ∷ ys) zs =

@@ -45,6 +45,7 @@ row_erased (n ∷ []) g new h = by_number (eqb n 2) h
     by_number false k = none_is k
 row_erased (n ∷ m ∷ ps) g new h = none_is h
 
+-- THE LAW: an erasure takes the links off the cells that the plain terminal erases
 pub erases_links : (c : ℕ) (ps : List ℕ) (g new : Grid) → (c ≡ 74) ⊎ (c ≡ 75) → perform c ps g ≡ Some new → new ≡ erased (erased_cells c ps g).0 (erased_cells c ps g).1 g
 erases_links c ps g new which h =
     ⊎_elim
@@ -52,6 +53,7 @@ erases_links c ps g new which h =
     (λ e. subst (λ d. new ≡ erased (erased_cells d ps g).0 (erased_cells d ps g).1 g) (sym e) (row_erased ps g new (ap (λ d. perform d ps g) (sym e) ∙ h)))
     which
 
+-- THE LAW: a character gives its link to the cells that it takes
 pub writes_links : (g new : Grid) (c k : ℕ) → char_width false c ≡ Some (suc k) → put g c ≡ Some new → (new ≡ painted g (glyphs (c ∷ []) k g.pen)) × (char_columns c ≡ suc k)
 unfolding char_columns
 writes_links g new c k wide h =
@@ -70,6 +72,7 @@ writes_links g new c k wide h =
 calm_move : (x y : ℕ) → x + 1 < 2 ^ 64 → y + 1 < 2 ^ 64 → IsCalm (move_to_bytes x y)
 calm_move x y small_x small_y = calm_command (move_to_bytes x y) ((y + 1) ∷ (x + 1) ∷ []) 72 (small_y, (small_x, tt)) (omega arith) (omega arith) refl
 
+-- THE LAW: what is shown of rows with links in an area is what is shown of them without
 pub drawings_are_woven : (left top : ℕ) (addresses : List (Option (List ℕ))) (rows : List (List LinkedPiece)) → left < 2 ^ 16 → top + length rows < 2 ^ 32 → AllByRecursion AreLinkedPieces rows → AreAddresses addresses
     → IsWoven (drawing left top (map (linked_bytes addresses) rows)) (drawing left top (map unlinked_bytes rows))
 drawings_are_woven left top addresses [] small_x small_y are known = woven_nothing
@@ -90,6 +93,7 @@ calm_newline =
     let ascii : IsAscii (10 ∷ []) = IsAscii-cons 10 [] (lit< tt) IsAscii-nil in
     calm_text (10 ∷ []) (IsUtf8-from_ascii (10 ∷ []) ascii) (subst NoEscape (sym (chars-IsAscii (10 ∷ []) ascii)) (omega arith, tt))
 
+-- THE LAW: the same of rows one below the other
 pub texts_are_woven : (addresses : List (Option (List ℕ))) (rows : List (List LinkedPiece)) → AllByRecursion AreLinkedPieces rows → AreAddresses addresses
     → IsWoven (linked_text_bytes addresses rows) (unlinked_text_bytes rows)
 texts_are_woven addresses [] are known = woven_nothing

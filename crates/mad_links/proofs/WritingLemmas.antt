@@ -22,6 +22,7 @@ use Rattle.mad_links.proofs.LinkRowLemmas.{rows_in_steps}
 
 -- ---- the scheme
 
+-- a text without the character isn't cut
 pub none_cut : (code : ℕ) (cs : List ℕ) → ((i : ℕ) → i < length cs → get_or cs i 0 ≢ code) → cut_at code cs ≡ None
 none_cut code [] h = refl
 none_cut code (c ∷ cs) h =
@@ -34,6 +35,7 @@ none_of : (code : ℕ) (cs : List ℕ) → ((i : ℕ) → i < length cs → get_
 none_of code [] h = tt
 none_of code (c ∷ cs) h = (h 0 (omega arith), none_of code cs (λ i k. h (suc i) (omega arith)))
 
+-- one with it is cut at the first
 pub some_cut : (code : ℕ) (cs xs ys : List ℕ) → cs ≡ xs ++ code ∷ ys → ((i : ℕ) → i < length xs → get_or xs i 0 ≢ code) → cut_at code cs ≡ Some (xs, ys)
 some_cut code cs xs ys e h = ap (cut_at code) e ∙ cut_there code xs ys (none_of code xs h)
 
@@ -87,11 +89,13 @@ pub address_written : (a : List ℕ) → percent_encode ESCAPED a ≡ written_ad
 unfolding percent_encode
 address_written a = bytes_written a
 
+-- the bytes that the code found are the address as it is written
 pub encoded : (out start text given raw : List ℕ) → out ≡ start ++ text → start ≡ [] → text ≡ percent_encode ESCAPED given → given ≡ raw → out ≡ written_address raw
 encoded out start text given raw a b c d = a ∙ ap (λ l. l ++ text) b ∙ c ∙ ap (percent_encode ESCAPED) d ∙ address_written raw
 
 -- ---- the length
 
+-- an address that is too long is refused
 pub too_long : (raw : List ℕ) → 700 < length (written_address raw) → link_address raw ≡ None
 too_long raw long =
     let test : leb (length (written_address raw)) 700 ≡ false = grind (arith, nat_tests) in
@@ -101,6 +105,7 @@ too_long raw long =
     refused true b e = ap (λ t. cond t (Some (written_address raw)) None) e
     refused false b e = refl
 
+-- one that isn't, with one of the schemes, is written
 pub fits : (raw : List ℕ) → has_link_scheme raw ≡ true → length (written_address raw) ≤ 700 → link_address raw ≡ Some (written_address raw)
 fits raw scheme short =
     let test : leb (length (written_address raw)) 700 ≡ true = grind (arith, nat_tests) in
@@ -109,6 +114,7 @@ fits raw scheme short =
 
 -- ---- rows
 
+-- a piece more of a row, with a command where its link is another
 pub write_step : (addresses : List (Option (List ℕ))) (ps : List LinkPiece) (i : ℕ) (was now : Option ℕ) (p : LinkPiece) (before row more : List ℕ) → i < length ps → p ≡ get_or ps i p
     → before ≡ row ++ linked_bytes_from addresses was (map piece_of (drop i ps))
     → more ≡ row ++ (begun_bytes addresses was (piece_of p ∷ [])).0 → now ≡ (begun_bytes addresses was (piece_of p ∷ [])).1
@@ -123,6 +129,7 @@ write_step addresses ps i was now p before row more below is inv written opens =
     ∙ ap (λ (o : Option ℕ). (row ++ begun.0) ++ linked_bytes_from addresses o rest) (sym opens)
     ∙ ap (λ l. l ++ linked_bytes_from addresses now rest) (sym written)
 
+-- no piece is left: the last link is closed
 pub write_end : (addresses : List (Option (List ℕ))) (ps : List LinkPiece) (i : ℕ) (was : Option ℕ) (before row done : List ℕ) → length ps ≤ i
     → before ≡ row ++ linked_bytes_from addresses was (map piece_of (drop i ps)) → done ≡ row ++ linked_bytes_from addresses was [] → done ≡ before
 write_end addresses ps i was before row done all inv last =
@@ -137,6 +144,7 @@ AreWrittenBefore n addresses = (k : ℕ) (a : List ℕ) → k < n → address_of
 at_index : (addresses : List (Option (List ℕ))) (k : ℕ) (o : Option (List ℕ)) → k < length addresses → o ≡ get_or addresses k o → address_of addresses k ≡ o
 at_index addresses k o below is = ap (option_and_then (λ (a : Option (List ℕ)). a)) (slice_get_read addresses (length addresses) k o refl below is)
 
+-- an address more can be written
 pub one_more_written : (addresses : List (Option (List ℕ))) (n : ℕ) (o : Option (List ℕ)) → n < length addresses → o ≡ get_or addresses n o → IfSome o IsWritten → AreWrittenBefore n addresses → AreWrittenBefore (n + 1) addresses
 one_more_written addresses n o below is written before k a small e =
     ⊎_elim (λ (less : k < n). before k a less e)
@@ -158,6 +166,7 @@ within addresses k a e =
     (λ (past : length addresses ≤ k). none_some (sym (ap (option_and_then (λ (b : Option (List ℕ)). b)) (slice_get_past addresses k past)) ∙ e))
     (cases_lt k (length addresses))
 
+-- so all can
 pub all_written : (addresses : List (Option (List ℕ))) (n : ℕ) → length addresses ≤ n → length addresses < 2 ^ 64 → AreWrittenBefore n addresses → AreAddresses addresses
 all_written addresses n all small before = record {
   written = λ k a e. let there : k < length addresses = within addresses k a e in (before k a (omega arith) e, omega arith);
@@ -171,6 +180,7 @@ all_push : {A : Type 0} (P : A → Type 0) (xs : List A) (x : A) → AllByRecurs
 all_push P [] x h k = (k, tt)
 all_push P (y ∷ xs) x h k = (h.0, all_push P xs x h.1 k)
 
+-- a piece more is one that the laws speak of
 pub one_more_piece : (ps : List LinkPiece) (n : ℕ) (p : LinkPiece) → n < length ps → p ≡ get_or ps n p → AllByRecursion IsKnownPiece (take n ps) → IsKnownPiece p → AllByRecursion IsKnownPiece (take (n + 1) ps)
 one_more_piece ps n p below is before own =
     subst (AllByRecursion IsKnownPiece) (sym (take_more ps n p below)) (all_push IsKnownPiece (take n ps) (get_or ps n p) before (subst IsKnownPiece is own))
@@ -179,5 +189,6 @@ known_pieces : (ps : List LinkPiece) → AllByRecursion IsKnownPiece ps → AreS
 known_pieces [] known shown = tt
 known_pieces (p ∷ ps) known shown = (known.0 shown.0, known_pieces ps known.1 shown.1)
 
+-- so all are
 pub all_known : (ps : List LinkPiece) (n : ℕ) → length ps ≤ n → AllByRecursion IsKnownPiece (take n ps) → AreShownTexts ps → AreLinkedPieces (map piece_of ps)
 all_known ps n all known shown = known_pieces ps (subst (AllByRecursion IsKnownPiece) (take_all n ps all) known) shown

@@ -13,6 +13,7 @@ is_kept_byte b = nat_le 33 b && nat_le b 126
 abbrev pub written_byte : ℕ → List ℕ
 written_byte b = if is_kept_byte b then b ∷ [] else percent_encode_byte b
 
+-- an address byte by byte, whatever its scheme and its length
 abbrev pub written_address : List ℕ → List ℕ
 written_address address = flat_map written_byte address
 
@@ -29,6 +30,7 @@ abbrev pub has_scheme_in : Option (List ℕ × List ℕ) → Bool
 has_scheme_in None = false
 has_scheme_in (Some p) = is_link_scheme p.0
 
+-- whether an address has one of the schemes
 abbrev pub has_link_scheme : List ℕ → Bool
 has_link_scheme address = has_scheme_in (cut_at 58 address)
 

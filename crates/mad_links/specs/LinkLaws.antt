@@ -134,6 +134,7 @@ pub record IsSafeCommand (longest : ℕ) (bytes : List ℕ) : Type 0 where
   pub visible : AllByRecursion (λ b. is_kept_byte b ≡ true) text
   pub short : length text ≤ longest
 
+-- the command that opens a link is safe, and so is the one that closes it
 pub record CommandsAreSafe : Type 0 where
   pub opens : (n : ℕ) (a : List ℕ) → n < 2 ^ 64 → IsWritten a → IsSafeCommand 726 (open_bytes n a)
   pub closes : IsSafeCommand 3 close_bytes

@@ -10,10 +10,11 @@ use Rattle.mad_links.specs.LinkTerminal.{Link, LinkedCell}
 
 -- ---- commands
 
--- ESC and `]`, `8;`, parameters, a semicolon and an address, ESC and a backslash
+-- The command of a link is ESC and `]`, its text, and ESC and a backslash. The text is `8;`, parameters, a semicolon and an address.
 abbrev pub command_text : List ℕ → List ℕ → List ℕ
 command_text parameters address = 56 ∷ 59 ∷ (parameters ++ 59 ∷ address)
 
+-- the whole command: that text between its ends
 abbrev pub link_command_bytes : List ℕ → List ℕ → List ℕ
 link_command_bytes parameters address = 27 ∷ 93 ∷ (command_text parameters address ++ 27 ∷ 92 ∷ [])
 
@@ -21,10 +22,11 @@ link_command_bytes parameters address = 27 ∷ 93 ∷ (command_text parameters a
 abbrev pub id_parameter : ℕ → List ℕ
 id_parameter n = 105 ∷ 100 ∷ 61 ∷ decimal n
 
--- the command that opens the link of this number, and the one that closes it
+-- the command that opens the link of this number
 abbrev pub open_bytes : ℕ → List ℕ → List ℕ
 open_bytes n address = link_command_bytes (id_parameter n) address
 
+-- the command that closes the link that is open
 abbrev pub close_bytes : List ℕ
 close_bytes = link_command_bytes [] []
 
@@ -48,6 +50,7 @@ written_link addresses link = option_and_then (λ n. option_map (λ _. n) (addre
 abbrev pub target : List (Option (List ℕ)) → Option ℕ → Option Link
 target addresses link = option_and_then (λ n. option_map (λ a. record { id = decimal n; address = a }) (address_of addresses n)) link
 
+-- whether two links have the same number, or both are none
 abbrev pub same_number : Option ℕ → Option ℕ → Bool
 same_number None None = true
 same_number None (Some n) = false
@@ -59,6 +62,7 @@ abbrev pub number_bytes : ℕ → Option (List ℕ) → List ℕ
 number_bytes n None = close_bytes
 number_bytes n (Some address) = open_bytes n address
 
+-- the command to the next link, or to none
 abbrev pub link_bytes : List (Option (List ℕ)) → Option ℕ → List ℕ
 link_bytes addresses None = close_bytes
 link_bytes addresses (Some n) = number_bytes n (address_of addresses n)
@@ -89,10 +93,11 @@ linked_bytes addresses ps = linked_bytes_from addresses None ps
 abbrev pub unlinked_bytes : List LinkedPiece → List ℕ
 unlinked_bytes ps = flat_map (λ p. piece_bytes p.style p.text) ps
 
--- rows one below the other, each with a newline (10), with links and without
+-- rows one below the other, each with a newline (10)
 abbrev pub linked_text_bytes : List (Option (List ℕ)) → List (List LinkedPiece) → List ℕ
 linked_text_bytes addresses rows = flat_map (λ ps. linked_bytes addresses ps ++ 10 ∷ []) rows
 
+-- such rows without links
 abbrev pub unlinked_text_bytes : List (List LinkedPiece) → List ℕ
 unlinked_text_bytes rows = flat_map (λ ps. unlinked_bytes ps ++ 10 ∷ []) rows
 
@@ -102,6 +107,7 @@ unlinked_text_bytes rows = flat_map (λ ps. unlinked_bytes ps ++ 10 ∷ []) rows
 abbrev pub piece_linked_cells : List (Option (List ℕ)) → LinkedPiece → List LinkedCell
 piece_linked_cells addresses p = map (λ g. record { glyph = g; link = target addresses p.link }) (piece_cells p.style p.text)
 
+-- the cells of a row
 abbrev pub row_cells : List (Option (List ℕ)) → List LinkedPiece → List LinkedCell
 row_cells addresses ps = flat_map (piece_linked_cells addresses) ps
 
@@ -113,6 +119,7 @@ pub record IsLinkedPiece (p : LinkedPiece) : Type 0 where
   pub shown : IsShown (chars p.text)
   pub style : IsStyle p.style
 
+-- so is each of several pieces
 abbrev pub AreLinkedPieces : List LinkedPiece → Type 0
 AreLinkedPieces ps = AllByRecursion IsLinkedPiece ps
 

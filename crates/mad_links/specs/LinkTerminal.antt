@@ -24,11 +24,12 @@ pub record IsOneLink (a b : Option Link) : Type 0 where
   pub second : b ≡ Some link
   pub named : link.id ≢ []
 
--- the parts of a text between characters of this code
+-- a character put in front of the first part
 abbrev pub with_first : ℕ → List (List ℕ) → List (List ℕ)
 with_first c [] = (c ∷ []) ∷ []
 with_first c (part ∷ parts) = (c ∷ part) ∷ parts
 
+-- the parts of a text between characters of this code; without such a character the text is one part
 abbrev pub split_at_code : ℕ → List ℕ → List (List ℕ)
 split_at_code code [] = [] ∷ []
 split_at_code code (c ∷ cs) = if c == code then [] ∷ split_at_code code cs else with_first c (split_at_code code cs)
@@ -66,6 +67,7 @@ pub record LinkedCell : Type 0 where
   pub glyph : Glyph
   pub link : Option Link
 
+-- a blank cell that leads nowhere
 abbrev pub unlinked : LinkedCell
 unlinked = record { glyph = blank; link = None }
 
@@ -89,15 +91,17 @@ linked_cells links from count link = put_each links from (replicate count link)
 
 -- ---- what characters do to the links of cells
 
--- the indexes between which a command erases (74 is `J`, 75 `K`); a command that isn't one erases nothing
+-- the indexes between which an erasure of the screen (74, `J`) erases, by its numbers
 abbrev pub erased_of_screen : List ℕ → Grid → ℕ × ℕ
 erased_of_screen [] g = (row_start g + g.x, screen_end g)
 erased_of_screen (n ∷ ns) g = (0, if n == 1 then row_start g + min (g.x + 1) g.width else screen_end g)
 
+-- those of an erasure of the row (75, `K`)
 abbrev pub erased_of_row : List ℕ → Grid → ℕ × ℕ
 erased_of_row [] g = (row_start g + g.x, row_end g)
 erased_of_row (n ∷ ns) g = (row_start g, row_end g)
 
+-- those of any command; one that isn't an erasure erases nothing
 abbrev pub erased_cells : ℕ → List ℕ → Grid → ℕ × ℕ
 erased_cells c ps g = if c == 74 then erased_of_screen ps g else if c == 75 then erased_of_row ps g else (0, 0)
 
@@ -121,12 +125,13 @@ pub record LinkReading : Type 0 where
   pub links : List (Option Link)
   pub current : Option Link
 
--- the links of the cells after any character, and the link that is open after it
+-- the links of the cells after any character
 abbrev pub next_links : LinkMode → Reading → ℕ → Option Link → List (Option Link) → List (Option Link)
 next_links NoCommand r c link links = links_after r.mode r.grid c link links
 next_links (InCommand text) r c link links = links
 next_links (AtItsEnd text) r c link links = links
 
+-- the link that is open after it
 abbrev pub next_link : LinkMode → Option Link → Option Link
 next_link NoCommand link = link
 next_link (InCommand text) link = link

@@ -12,13 +12,15 @@ use Rattle.mad_links.specs.declared.rows.LinkPiece.{LinkPiece}
 use Rattle.mad_links.specs.LinkRows.{LinkedPiece, linked_bytes, row_cells}
 use Rattle.mad_links.specs.LinkTerminal.{LinkScreen, IsLinkScreen, ShowsLinkedRows, after_linked}
 
--- a piece without its link, and one that is in none
+-- a piece without its link
 abbrev pub without_link : LinkedPiece → RowPiece
 without_link p = record { style = p.style; text = p.text }
 
+-- a piece that is in no link
 abbrev pub in_no_link : RowPiece → LinkedPiece
 in_no_link p = record { style = p.style; text = p.text; link = None }
 
+-- several pieces without their links
 abbrev pub without_links : List LinkedPiece → List RowPiece
 without_links ps = map without_link ps
 
@@ -54,5 +56,6 @@ abbrev pub given_pieces : Option (Bor (List LinkPiece)) → List LinkPiece
 given_pieces None = []
 given_pieces (Some row) = row.now
 
+-- that row as the definitions see it
 abbrev pub given_row : List (Bor (List LinkPiece)) → ℕ → List LinkedPiece
 given_row rows y = map piece_of (given_pieces (slice_get rows y))

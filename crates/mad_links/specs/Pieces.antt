@@ -6,6 +6,7 @@ use Rattle.mad_screen.specs.Painting.{IsShown}
 use Rattle.mad_links.specs.declared.rows.LinkPiece.{LinkPiece}
 use Rattle.mad_links.specs.LinkRows.{LinkedPiece}
 
+-- a piece of a program: its text is what its reference points to
 abbrev pub piece_of : LinkPiece → LinkedPiece
 piece_of p = record { style = p.style; text = p.text.now; link = p.link }
 

@@ -50,6 +50,7 @@ skip_in t (InCommand text) r c =
     else if is_command_char c then Some (record { plain = r; mode = InCommand (text ++ c ∷ []) }) else None
 skip_in t (AtItsEnd text) r c = if c == 92 then option_map (λ _. passing r) (link_command text) else None
 
+-- the same of a terminal and how far its command has come
 abbrev pub skip : {R : Type 0} → Reader R → Skipping R → ℕ → Option (Skipping R)
 skip t s c = skip_in t s.mode s.plain c
 
@@ -71,6 +72,7 @@ after_escape Outside = false
 after_escape Escape = true
 after_escape (Numbers ps now) = false
 
+-- the plain terminal as such a reader
 abbrev pub plain_reader : Reader Reading
 plain_reader = record { feed = feed; at_escape = λ r. after_escape r.mode; before_escape = λ r. resting r.grid }
 
@@ -80,6 +82,7 @@ skipped_in NoCommand r = settled r
 skipped_in (InCommand text) r = None
 skipped_in (AtItsEnd text) r = None
 
+-- the same of the plain terminal and how far its command has come
 abbrev pub skipped : Skipping Reading → Option Grid
 skipped s = skipped_in s.mode s.plain
 

@@ -3,7 +3,7 @@ use Rattle.std.proofs.Common.{◌≡◌, Bool, true, false, ℕ, zero, suc, ◌+
 use Rattle.std.specs.Prelude.{replicate, nat_lt}
 use Rattle.std.proofs.lemmas.Bool.Decides.{nat_tests}
 use Rattle.mad_mark_runs.specs.Marks.{value_at}
-use Rattle.mad_mark_runs.specs.Values.{AreRising, end_from, values_from, values_of}
+use Rattle.mad_mark_runs.specs.Values.{AreRising, end_from, run_behind, values_from, values_of}
 use Rattle.mad_mark_runs.specs.declared.mark_runs.MarkRun.{MarkRun}
 
 -- joined runs end where the second ones do, which begin where the first ones end
@@ -26,6 +26,11 @@ pub pushed_values : (runs : List MarkRun) (value count end : ℕ) → end ≡ en
 pushed_values runs value count end e =
     values_joined 0 runs (record { value = value; end = end } ∷ [])
     ∙ ap (λ l. values_of runs ++ l) (append-nil (replicate (end - end_from 0 runs) value) ∙ ap (λ (n : ℕ). replicate n value) (omega arith))
+
+-- so it is the run behind them
+pub pushed_run : (runs new : List MarkRun) (value count end : ℕ) → 0 < count → end ≡ end_from 0 runs + count → new ≡ runs ++ record { value = value; end = end } ∷ [] → new ≡ runs ++ run_behind (end_from 0 runs) value count
+pushed_run runs new value zero end some e is = absurd (omega arith)
+pushed_run runs new value (suc n) end some e is = is ∙ ap (λ (m : ℕ). runs ++ record { value = value; end = m } ∷ []) e
 
 -- with one more run, which stands for a value at least, the ends rise
 pub pushed_rising : (runs : List MarkRun) (value count end : ℕ) → AreRising 0 runs → 0 < count → end ≡ end_from 0 runs + count → AreRising 0 (runs ++ record { value = value; end = end } ∷ [])

@@ -2,14 +2,16 @@
 
 ghost use Rattle.std.specs.Prelude.{◌≡◌, ◌++◌, chars, replicate, OnErr, OnOk};
 ghost use Rattle.mad_mark_runs.specs.Marks.{value_at, blank_value, next_start, count_of};
-ghost use Rattle.mad_mark_runs.specs.Values.{AreRising, end_from, values_of};
+ghost use Rattle.mad_mark_runs.specs.Values.{AreRising, end_from, run_behind, values_of};
 
 use std::alloc::AllocError;
 
 /// Counted characters that have the same mark: those from the end of the run before up to this number.
-#[derive(Clone, Copy)]
+#[derive(Clone, Copy, PartialEq, Debug)]
 pub struct MarkRun {
+    /// The mark; 0 is none.
     pub value: usize,
+    /// How many counted characters stand before the next run.
     pub end: usize,
 }
 
@@ -96,6 +98,7 @@ pub fn push_run(runs: &mut Vec<MarkRun>, value: usize, count: usize) -> Result<(
     requires { AreRising 0 runs.old.items }
     ensures rising { AreRising 0 runs.new.items }
     ensures values { OnOk result (values_of runs.new.items ≡ values_of runs.old.items ++ replicate count value) }
+    ensures runs { OnOk result (runs.new.items ≡ runs.old.items ++ run_behind (end_from 0 runs.old.items) value count) }
     ensures kept { OnErr result (runs.new.items ≡ runs.old.items) }
 {
     if count == 0 {

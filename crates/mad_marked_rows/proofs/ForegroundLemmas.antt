@@ -62,6 +62,7 @@ tells_nothing : (styles : List CompoundStyle) → AllByRecursion SetsForegroundA
 tells_nothing styles h zero style = refl
 tells_nothing styles h (suc n) style = painted_told (slice_get styles n) style (λ over e. at styles n over h e)
 
+-- THE LAW: where styles set a foreground alone, nothing else changes in the cells of a line
 pub foregrounds_alone : (styles : List CompoundStyle) (has : CompositeKind → Flags → Bool) (runs : List MarkRun) (skin : RowSkin) (outer : Option ℕ) (filled : Bool) (numbers : List ℕ) (line : FmtLine) → AllByRecursion SetsForegroundAlone styles → AreTexts line
     → told_cells but_foreground (marked_line (paint_by styles) has runs skin outer filled numbers line) ≡ told_cells but_foreground (line_pieces skin outer filled line)
 foregrounds_alone styles has runs skin outer filled numbers line h texts = line_told but_foreground (paint_by styles) has runs skin outer filled numbers line (tells_nothing styles h) texts

@@ -52,10 +52,11 @@ compounds_told tell paint has runs skin style n (k ∷ ks) nothing utf8 =
     ∙ sym (told_joined tell (compound_piece skin style k ∷ []) (map (compound_piece skin style) ks))
 
 -- pieces amid others
-told_after : (tell : Look → Look) (xs ps qs : List RowPiece) → told_chars tell ps ≡ told_chars tell qs → told_chars tell (xs ++ ps) ≡ told_chars tell (xs ++ qs)
+pub told_after : (tell : Look → Look) (xs ps qs : List RowPiece) → told_chars tell ps ≡ told_chars tell qs → told_chars tell (xs ++ ps) ≡ told_chars tell (xs ++ qs)
 told_after tell xs ps qs e = told_joined tell xs ps ∙ ap (λ l. told_chars tell xs ++ l) e ∙ sym (told_joined tell xs qs)
 
-told_before : (tell : Look → Look) (ps qs xs : List RowPiece) → told_chars tell ps ≡ told_chars tell qs → told_chars tell (ps ++ xs) ≡ told_chars tell (qs ++ xs)
+-- the same where other pieces are behind them
+pub told_before : (tell : Look → Look) (ps qs xs : List RowPiece) → told_chars tell ps ≡ told_chars tell qs → told_chars tell (ps ++ xs) ≡ told_chars tell (qs ++ xs)
 told_before tell ps qs xs e = told_joined tell ps xs ∙ ap (λ l. l ++ told_chars tell xs) e ∙ sym (told_joined tell qs xs)
 
 composite_told : (tell : Look → Look) (paint : ℕ → ContentStyle → ContentStyle) (has : CompositeKind → Flags → Bool) (runs : List MarkRun) (skin : RowSkin) (outer : Option ℕ) (margins : ℕ × ℕ) (filled : Bool) (n : ℕ) (l : FmtComposite) → TellsNothing tell paint
@@ -79,7 +80,8 @@ row_cells_told tell paint has runs skin ns (c ∷ cs) nothing utf8 =
     (told_after tell (vertical_piece skin ∷ []) _ _ (composite_told tell paint has runs skin None (0, 0) false (slice_index ns 0) c nothing utf8.0))
     ∙ told_after tell (cell_pieces skin c) _ _ (row_cells_told tell paint has runs skin (drop 1 ns) cs nothing utf8.1)
 
-chars_told : (tell : Look → Look) (paint : ℕ → ContentStyle → ContentStyle) (has : CompositeKind → Flags → Bool) (runs : List MarkRun) (skin : RowSkin) (outer : Option ℕ) (filled : Bool) (numbers : List ℕ) (line : FmtLine) → TellsNothing tell paint → AreTexts line
+-- what is told of the characters of a line is the same with marks
+pub chars_told : (tell : Look → Look) (paint : ℕ → ContentStyle → ContentStyle) (has : CompositeKind → Flags → Bool) (runs : List MarkRun) (skin : RowSkin) (outer : Option ℕ) (filled : Bool) (numbers : List ℕ) (line : FmtLine) → TellsNothing tell paint → AreTexts line
     → told_chars tell (marked_line paint has runs skin outer filled numbers line) ≡ told_chars tell (line_pieces skin outer filled line)
 chars_told tell paint has runs skin outer filled numbers (Normal l) nothing utf8 = composite_told tell paint has runs skin outer (margins_of skin outer l) filled (slice_index numbers 0) l nothing utf8.0
 chars_told tell paint has runs skin outer filled numbers (TableRow row) nothing utf8 =
@@ -103,11 +105,13 @@ shown_both : (ps qs : List RowPiece) → AreShownPieces ps → AreShownPieces qs
 shown_both [] qs a b = b
 shown_both (p ∷ ps) qs a b = (a.0, shown_both ps qs a.1 b)
 
-shown_left : (ps qs : List RowPiece) → AreShownPieces (ps ++ qs) → AreShownPieces ps
+-- the first of pieces that show cells of their own
+pub shown_left : (ps qs : List RowPiece) → AreShownPieces (ps ++ qs) → AreShownPieces ps
 shown_left [] qs h = tt
 shown_left (p ∷ ps) qs h = (h.0, shown_left ps qs h.1)
 
-shown_right : (ps qs : List RowPiece) → AreShownPieces (ps ++ qs) → AreShownPieces qs
+-- the last of them
+pub shown_right : (ps qs : List RowPiece) → AreShownPieces (ps ++ qs) → AreShownPieces qs
 shown_right [] qs h = h
 shown_right (p ∷ ps) qs h = shown_right ps qs h.1
 
@@ -158,6 +162,7 @@ cells_shown paint has runs skin ns (c ∷ cs) h =
     shown_both own (marked_cells paint has runs skin (drop 1 ns) cs) (first.0, composite_shown paint has runs skin None (0, 0) false (slice_index ns 0) c first.1)
     (cells_shown paint has runs skin (drop 1 ns) cs (shown_right (cell_pieces skin c) (flat_map (cell_pieces skin) cs) h))
 
+-- where a line shows cells of its own, it does so with marks
 pub line_shown : (paint : ℕ → ContentStyle → ContentStyle) (has : CompositeKind → Flags → Bool) (runs : List MarkRun) (skin : RowSkin) (outer : Option ℕ) (filled : Bool) (numbers : List ℕ) (line : FmtLine) → AreShownPieces (line_pieces skin outer filled line)
     → AreShownPieces (marked_line paint has runs skin outer filled numbers line)
 line_shown paint has runs skin outer filled numbers (Normal l) h = composite_shown paint has runs skin outer (margins_of skin outer l) filled (slice_index numbers 0) l h
@@ -183,6 +188,7 @@ as_wide ps qs a b e =
     sym (length-pieces_cells ps) ∙ sym (ap length (cells_of_pieces ps a)) ∙ sym (told_long (penned_cells (penned_chars ps))) ∙ ap length e
     ∙ told_long (penned_cells (penned_chars qs)) ∙ ap length (cells_of_pieces qs b) ∙ length-pieces_cells qs
 
+-- THE LAW: where it fills a row, it does so with marks
 pub line_fills : (width : ℕ) (paint : ℕ → ContentStyle → ContentStyle) (has : CompositeKind → Flags → Bool) (runs : List MarkRun) (skin : RowSkin) (outer : Option ℕ) (filled : Bool) (numbers : List ℕ) (line : FmtLine) → AreTexts line
     → FillsRow width (line_pieces skin outer filled line) → FillsRow width (marked_line paint has runs skin outer filled numbers line)
 line_fills width paint has runs skin outer filled numbers line utf8 h =

@@ -1,4 +1,5 @@
 pub mod CursorLemmas
+pub mod DisplayLemmas
 pub mod ForegroundLemmas
 pub mod LawLemmas
 pub mod LinkLawLemmas

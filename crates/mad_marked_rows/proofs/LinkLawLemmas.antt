@@ -13,8 +13,7 @@ use Rattle.mad_screen.specs.Painting.{piece_cells}
 use Rattle.mad_screen.specs.Terminal.{after_bytes}
 use Rattle.mad_style.specs.declared.kinds.CompositeKind.{CompositeKind}
 use Rattle.mad_style.specs.declared.line_styles.LineStyle.{LineStyle}
-use Rattle.mad_draw.specs.Pieces.{RowPiece, AreKnown, AreShownPieces, penned_chars, pieces_bytes, spaces}
-use Rattle.mad_draw.specs.PennedCells.{penned_cells}
+use Rattle.mad_draw.specs.Pieces.{RowPiece, AreKnown, AreShownPieces, pieces_bytes, spaces}
 use Rattle.mad_draw.proofs.CellLemmas.{cells_of_pieces}
 use Rattle.mad_draw.proofs.PieceLemmas.{known_both, pieces_cells}
 use Rattle.mad_format.specs.declared.composite.FmtComposite.{FmtComposite}
@@ -23,19 +22,18 @@ use Rattle.mad_format.specs.declared.line.FmtLine.TheVariants.{Normal, TableRow,
 use Rattle.mad_rows.specs.RowStyles.{compound_style, line_style}
 use Rattle.mad_rows.specs.Rows.{cell_pieces, composite_pieces, compound_piece, inner_blanks, left_of_place, line_pieces, margins_of, outer_blanks, prefix_pieces, right_of_place, row_columns, vertical_piece}
 use Rattle.mad_rows.specs.declared.row_skin.RowSkin.{RowSkin}
-use Rattle.mad_links.specs.LinkRows.{LinkedPiece, AreAddresses, AreLinkedPieces, linked_bytes, piece_linked_cells, row_cells, target, unlinked_bytes, written_link}
+use Rattle.mad_links.specs.LinkRows.{LinkedPiece, AreLinkedPieces, linked_bytes, piece_linked_cells, row_cells, target, unlinked_bytes, written_link}
 use Rattle.mad_links.specs.LinkTerminal.{LinkedCell, LinkPaints}
 use Rattle.mad_links.specs.SkippingTerminal.{after_skipping}
 use Rattle.mad_links.proofs.PlainLemmas.{shows_the_same}
 use Rattle.mad_links.proofs.LinkRowLemmas.{links_are_in_their_cells, rows_are_woven, writes_nothing}
 use Rattle.mad_links.specs.LinkedAreas.{in_no_link, without_link, without_links}
-use Rattle.mad_links.specs.LinkedLines.{composite_links}
 use Rattle.mad_links.proofs.AreaLemmas.{pieces_are, unlinked_is}
 use Rattle.mad_mark_runs.specs.declared.mark_runs.MarkRun.{MarkRun}
 use Rattle.mad_marks.specs.RowMarks.{counted}
 use Rattle.mad_marked_rows.specs.Told.{told_cell, told_cells, TellsNothing}
-use Rattle.mad_marked_rows.specs.LinkedTexts.{part_link, text_links}
-use Rattle.mad_marked_rows.specs.MarkedTexts.{LetterPart, letters_of, part_piece, parts_of, text_pieces}
+use Rattle.mad_marked_rows.specs.LinkedTexts.{part_link}
+use Rattle.mad_marked_rows.specs.MarkedTexts.{LetterPart, letters_of, part_piece, parts_of}
 use Rattle.mad_marked_rows.specs.RowLaws.{AreTexts}
 use Rattle.mad_marked_rows.specs.LinkLaws.{IsLinkableLine}
 use Rattle.mad_marked_rows.specs.LinkedRows.{linked_cells, linked_composite, linked_compound, linked_compounds, linked_line}
@@ -92,6 +90,7 @@ cells_without paint has runs skin ns (c ∷ cs) =
     (marked_composite paint has runs skin None (0, 0) false (slice_index ns 0) c) (marked_cells paint has runs skin (drop 1 ns) cs)
     (composite_without paint has runs skin None (0, 0) false (slice_index ns 0) c) (cells_without paint has runs skin (drop 1 ns) cs))
 
+-- THE LAW: the pieces of a line with links, without the links
 pub line_without : (paint : ℕ → ContentStyle → ContentStyle) (has : CompositeKind → Flags → Bool) (runs : List MarkRun) (skin : RowSkin) (outer : Option ℕ) (filled : Bool) (numbers : List ℕ) (line : FmtLine)
     → without_links (linked_line paint has runs skin outer filled numbers line) ≡ marked_line paint has runs skin outer filled numbers line
 line_without paint has runs skin outer filled numbers (Normal l) = composite_without paint has runs skin outer (margins_of skin outer l) filled (slice_index numbers 0) l
@@ -117,6 +116,7 @@ all_unwritten : (ps : List LinkedPiece) → AllByRecursion (λ p. written_link [
 all_unwritten [] = tt
 all_unwritten (p ∷ ps) = (none_written p.link, all_unwritten ps)
 
+-- THE LAW: with no address nothing is written of links
 pub line_unaddressed : (paint : ℕ → ContentStyle → ContentStyle) (has : CompositeKind → Flags → Bool) (runs : List MarkRun) (skin : RowSkin) (outer : Option ℕ) (filled : Bool) (numbers : List ℕ) (line : FmtLine)
     → linked_bytes [] (linked_line paint has runs skin outer filled numbers line) ≡ pieces_bytes (marked_line paint has runs skin outer filled numbers line)
 line_unaddressed paint has runs skin outer filled numbers line =
@@ -139,7 +139,8 @@ known_after xs ps qs f h = known_both xs ps (known_left xs qs h) (f (known_right
 known_before : (ps qs xs : List RowPiece) → (AreKnown qs → AreKnown ps) → AreKnown (qs ++ xs) → AreKnown (ps ++ xs)
 known_before ps qs xs f h = known_both ps xs (f (known_left qs xs h)) (known_right qs xs h)
 
-abbrev KeepsKnown : (ℕ → ContentStyle → ContentStyle) → Type 0
+-- where the numbers of a style's colors are bytes, so are those of what marks make of it
+abbrev pub KeepsKnown : (ℕ → ContentStyle → ContentStyle) → Type 0
 KeepsKnown paint = (v : ℕ) (style : ContentStyle) → IsStyle style → IsStyle (paint v style)
 
 parts_known : (paint : ℕ → ContentStyle → ContentStyle) (style : ContentStyle) (ps : List LetterPart) → KeepsKnown paint → IsStyle style → AreKnown (map (part_piece paint style) ps)
@@ -178,7 +179,8 @@ cells_known paint has runs skin ns (c ∷ cs) keeps h =
     known_both own (marked_cells paint has runs skin (drop 1 ns) cs) (first.0, composite_known paint has runs skin None (0, 0) false (slice_index ns 0) c keeps first.1)
     (cells_known paint has runs skin (drop 1 ns) cs keeps (known_right (cell_pieces skin c) (flat_map (cell_pieces skin) cs) h))
 
-line_known : (paint : ℕ → ContentStyle → ContentStyle) (has : CompositeKind → Flags → Bool) (runs : List MarkRun) (skin : RowSkin) (outer : Option ℕ) (filled : Bool) (numbers : List ℕ) (line : FmtLine) → KeepsKnown paint → AreKnown (line_pieces skin outer filled line)
+-- where the numbers of a line's colors are bytes, they are so with marks
+pub line_known : (paint : ℕ → ContentStyle → ContentStyle) (has : CompositeKind → Flags → Bool) (runs : List MarkRun) (skin : RowSkin) (outer : Option ℕ) (filled : Bool) (numbers : List ℕ) (line : FmtLine) → KeepsKnown paint → AreKnown (line_pieces skin outer filled line)
     → AreKnown (marked_line paint has runs skin outer filled numbers line)
 line_known paint has runs skin outer filled numbers (Normal l) keeps h = composite_known paint has runs skin outer (margins_of skin outer l) filled (slice_index numbers 0) l keeps h
 line_known paint has runs skin outer filled numbers (TableRow row) keeps h =
@@ -199,6 +201,7 @@ line_linked paint has runs skin outer filled numbers line addresses is =
     pieces_are (linked_line paint has runs skin outer filled numbers line) (subst AreKnown e (line_known paint has runs skin outer filled numbers line is.paint_known is.known))
     (subst AreShownPieces e (line_shown paint has runs skin outer filled numbers line is.shown))
 
+-- THE LAW: a terminal that skips links shows of a line with links what is shown of it without them
 pub line_same : (paint : ℕ → ContentStyle → ContentStyle) (has : CompositeKind → Flags → Bool) (runs : List MarkRun) (skin : RowSkin) (outer : Option ℕ) (filled : Bool) (numbers : List ℕ) (line : FmtLine) (addresses : List (Option (List ℕ)))
     → IsLinkableLine paint skin outer filled line addresses
     → (g : Grid) → after_skipping g (linked_bytes addresses (linked_line paint has runs skin outer filled numbers line)) ≡ after_bytes g (pieces_bytes (marked_line paint has runs skin outer filled numbers line))
@@ -207,6 +210,7 @@ line_same paint has runs skin outer filled numbers line addresses is g =
     shows_the_same (linked_bytes addresses ps) (unlinked_bytes ps) (rows_are_woven addresses ps (line_linked paint has runs skin outer filled numbers line addresses is) is.writable) g
     ∙ ap (after_bytes g) (unlinked_is ps ∙ ap pieces_bytes (line_without paint has runs skin outer filled numbers line))
 
+-- THE LAW: a terminal that knows links shows each character in the link of its mark
 pub line_leads : (paint : ℕ → ContentStyle → ContentStyle) (has : CompositeKind → Flags → Bool) (runs : List MarkRun) (skin : RowSkin) (outer : Option ℕ) (filled : Bool) (numbers : List ℕ) (line : FmtLine) (addresses : List (Option (List ℕ)))
     → IsLinkableLine paint skin outer filled line addresses
     → LinkPaints (linked_bytes addresses (linked_line paint has runs skin outer filled numbers line)) (row_cells addresses (linked_line paint has runs skin outer filled numbers line))
@@ -227,6 +231,7 @@ row_glyphs tell addresses (p ∷ ps) =
     ∙ ap (λ l. map (told_cell tell) (piece_cells p.style p.text) ++ l) (row_glyphs tell addresses ps)
     ∙ sym (map-append (told_cell tell) (piece_cells p.style p.text) (pieces_cells (without_links ps)))
 
+-- THE LAW: the cells of a line with links are those without marks, but for what marks make of styles
 pub linked_told : (tell : Look → Look) (paint : ℕ → ContentStyle → ContentStyle) (has : CompositeKind → Flags → Bool) (runs : List MarkRun) (skin : RowSkin) (outer : Option ℕ) (filled : Bool) (numbers : List ℕ) (line : FmtLine) (addresses : List (Option (List ℕ)))
     → TellsNothing tell paint → AreTexts line → AreShownPieces (line_pieces skin outer filled line)
     → map (λ c. told_cell tell c.glyph) (row_cells addresses (linked_line paint has runs skin outer filled numbers line)) ≡ told_cells tell (line_pieces skin outer filled line)

@@ -6,6 +6,7 @@ use Rattle.mad_links.specs.LinkRows.{LinkedPiece, change_bytes, linked_bytes, li
 use Rattle.mad_links.specs.LinkedAreas.{in_no_link}
 use Rattle.mad_marked_rows.specs.LinkedTexts.{piece_on, pieces_on}
 
+-- pieces behind others, in two steps
 pub on_both : (a : List (Option (List ℕ))) (row : List ℕ × Option ℕ) (ps qs : List LinkedPiece) → pieces_on a row (ps ++ qs) ≡ pieces_on a (pieces_on a row ps) qs
 on_both a row [] qs = refl
 on_both a row (p ∷ ps) qs = on_both a (piece_on a row p) ps qs

@@ -19,6 +19,7 @@ last_one : (ts : List (String Global)) (t d : String Global) → get_or (ts ++ t
 last_one [] t d = refl
 last_one (x ∷ xs) t d = last_one xs t d
 
+-- no command is one of no style
 pub openings_none : (styles : List CompoundStyle) (base : ContentStyle) (ts : List (String Global)) → ts ≡ [] → AreOpenings styles base ts
 openings_none styles base ts none = λ v d h. absurd (omega (arith, ap length none, h))
 

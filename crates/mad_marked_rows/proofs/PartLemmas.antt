@@ -114,6 +114,7 @@ part_ended paint a runs style old new now all rest n v none is now_is h =
 pub empty_on : (paint : ℕ → ContentStyle → ContentStyle) (a : List (Option (List ℕ))) (runs : List MarkRun) (style : ContentStyle) (row : List ℕ × Option ℕ) (text : List ℕ) (n : ℕ) → length text ≡ 0 → pieces_on a row (text_links paint runs style n (chars text)) ≡ row
 empty_on paint a runs style row text n none = ap (λ (cs : List ℕ). pieces_on a row (text_links paint runs style n cs)) (chars_of_empty text none)
 
+-- nothing is counted of it
 pub empty_count : (text : List ℕ) (n : ℕ) → length text ≡ 0 → n ≡ n + count_of (chars text)
 empty_count text n none =
     let zero_is : count_of (chars text) ≡ 0 = ap count_of (chars_of_empty text none) in
@@ -123,6 +124,7 @@ empty_count text n none =
 pub text_counted_on : (rest next : List ℕ) (n c m : ℕ) → chars rest ≡ c ∷ chars next → m ≡ number_next n c → m + count_of (chars next) ≡ n + count_of (chars rest)
 text_counted_on rest next n c m chars_is m_is = ap (λ (k : ℕ). k + count_of (chars next)) m_is ∙ count_step n c (chars next) ∙ ap (λ (cs : List ℕ). n + count_of cs) (sym chars_is)
 
+-- at its end nothing is left to count
 pub no_more : (rest : List ℕ) (m t : ℕ) → length rest ≡ 0 → m + count_of (chars rest) ≡ t → m ≡ t
 no_more rest m t none h =
     let zero_is : count_of (chars rest) ≡ 0 = ap count_of (chars_of_empty rest none) in

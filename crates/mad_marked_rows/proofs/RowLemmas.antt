@@ -19,6 +19,7 @@ use Rattle.mad_format.specs.declared.table.FmtTableRow.{FmtTableRow}
 use Rattle.mad_rows.specs.RowStyles.{compound_style, line_style}
 use Rattle.mad_rows.specs.Rows.{blanks_beside, compound_piece, inner_blanks, left_of_place, line_pieces, outer_blanks, prefix_pieces, right_of_place, row_columns, vertical_piece}
 use Rattle.mad_rows.specs.declared.row_skin.RowSkin.{RowSkin}
+use Rattle.mad_rows.proofs.PieceLemmas.{asked_behind, asked_bytes}
 use Rattle.mad_links.specs.LinkRows.{LinkedPiece, change_bytes, linked_bytes}
 use Rattle.mad_links.specs.LinkedAreas.{in_no_link}
 use Rattle.mad_links.specs.LinkedLines.{composite_links}
@@ -35,12 +36,14 @@ use Rattle.mad_marked_rows.proofs.LinkLemmas.{on_both, on_end, plain_then, then_
 
 -- ---- a compound
 
+-- one that is counted, by what the code found
 pub counted_on : (paint : ℕ → ContentStyle → ContentStyle) (has : Flags → Bool) (runs : List MarkRun) (skin : RowSkin) (style : LineStyle) (n : ℕ) (k : Compound) (own : CompoundStyle) (a : List (Option (List ℕ))) (row new : List ℕ × Option ℕ) (t : Bool)
     → t ≡ has (flags_of k) → t ≡ true → own ≡ compound_style skin style (run_of k) → pieces_on a row (text_links paint runs own.object_style n (chars k.src.now)) ≡ new → pieces_on a row (linked_compound paint has runs skin style n k) ≡ new
 counted_on paint has runs skin style n k own a row new t test holds own_is is =
     ap (λ (u : Bool). pieces_on a row (cond u (text_links paint runs (compound_style skin style (run_of k)).object_style n (chars k.src.now)) (in_no_link (compound_piece skin style k) ∷ []))) (sym test ∙ holds)
     ∙ ap (λ (s : CompoundStyle). pieces_on a row (text_links paint runs s.object_style n (chars k.src.now))) (sym own_is) ∙ is
 
+-- one that isn't: the link that is open ends before it
 pub bare_on : (paint : ℕ → ContentStyle → ContentStyle) (has : Flags → Bool) (runs : List MarkRun) (skin : RowSkin) (style : LineStyle) (n : ℕ) (k : Compound) (own : CompoundStyle) (a : List (Option (List ℕ))) (old one new : List ℕ) (was : Option ℕ) (t : Bool)
     → t ≡ has (flags_of k) → t ≡ false → own ≡ compound_style skin style (run_of k) → one ≡ old ++ change_bytes a was None → new ≡ one ++ piece_bytes own.object_style k.src.now
     → pieces_on a (old, was) (linked_compound paint has runs skin style n k) ≡ (new, None)
@@ -52,9 +55,11 @@ bare_on paint has runs skin style n k own a old one new was t test fails own_is 
     ap (λ (u : Bool). pieces_on a (old, was) (cond u (text_links paint runs (compound_style skin style (run_of k)).object_style n (chars k.src.now)) (in_no_link (compound_piece skin style k) ∷ []))) (sym test ∙ fails)
     ∙ ap (λ (l : List ℕ). let x : List ℕ × Option ℕ = (l, None) in x) written
 
+-- how many characters are counted of one that is
 pub counted_number : (has : Flags → Bool) (k : Compound) (n m : ℕ) (t : Bool) → t ≡ has (flags_of k) → t ≡ true → m ≡ n + count_of (chars k.src.now) → m ≡ n + counted has (flagged_of k)
 counted_number has k n m t test holds is = is ∙ ap (λ (x : ℕ). n + x) (sym (compound_count has k true (sym test ∙ holds)))
 
+-- none is of one that isn't
 pub bare_number : (has : Flags → Bool) (k : Compound) (n : ℕ) (t : Bool) → t ≡ has (flags_of k) → t ≡ false → n ≡ n + counted has (flagged_of k)
 bare_number has k n t test fails = omega (arith, compound_count has k false (sym test ∙ fails))
 
@@ -64,6 +69,7 @@ compound_same : (paint : ℕ → ContentStyle → ContentStyle) (has : Flags →
 compound_same paint has a b skin style n k same =
     ap (λ ls. cond (has (flags_of k)) (map (part_link paint (compound_style skin style (run_of k)).object_style) (parts_of ls)) (in_no_link (compound_piece skin style k) ∷ [])) (letters_same a b n (chars k.src.now) same)
 
+-- a compound more, by runs that say the same
 pub compound_gone : (paint : ℕ → ContentStyle → ContentStyle) (has : Flags → Bool) (a b : List MarkRun) (skin : RowSkin) (style : LineStyle) (addresses : List (Option (List ℕ))) (row next all : List ℕ × Option ℕ) (ks : List Compound) (i : ℕ) (d : Compound) (n m : ℕ) → i < length ks → SameFrom a b n
     → pieces_on addresses row (linked_compound paint has b skin style n (get_or ks i d)) ≡ next → m ≡ n + counted has (flagged_of (get_or ks i d))
     → pieces_on addresses row (linked_compounds paint has a skin style n (drop i ks)) ≡ all → pieces_on addresses next (linked_compounds paint has a skin style m (drop (i + 1) ks)) ≡ all
@@ -97,10 +103,6 @@ compounds_done paint has a skin style addresses row old new said ks i n h before
 
 -- ---- a composite
 
-asked_bytes : (right : Bool) (style : CompoundStyle) (n : ℕ) → pieces_bytes (spaces style (if right then n else 0)) ≡ pieces_bytes (if right then spaces style n else [])
-asked_bytes true style n = refl
-asked_bytes false style n = refl
-
 -- what is in front of some pieces, they, and what is after them
 pub composite_bytes : (skin : RowSkin) (outer : Option ℕ) (margins : ℕ × ℕ) (filled : Bool) (l : FmtComposite) (style : LineStyle) (a : List (Option (List ℕ))) (text : List LinkedPiece) (old one two new : List ℕ) → style ≡ line_style skin l.kind
     → one ≡ old ++ pieces_bytes (spaces skin.paragraph.compound_style (outer_blanks style.align outer margins l).0 ++ (spaces style.compound_style (inner_blanks l).0 ++ prefix_pieces skin l.kind))
@@ -120,7 +122,7 @@ composite_bytes skin outer margins filled l style a text old one two new style_i
     let end : List LinkedPiece = map in_no_link after ++ map in_no_link last in
     let e : linked_bytes a (text ++ end) ≡ linked_bytes a text ++ pieces_bytes (after ++ filling) =
     ap (λ l. linked_bytes a (text ++ l)) (sym (map-append in_no_link after last)) ∙ then_plain a None text (after ++ last)
-    ∙ ap (λ bs. linked_bytes a text ++ bs) (bytes_both after last ∙ ap (λ bs. pieces_bytes after ++ bs) (sym (asked_bytes filled blank blanks.1)) ∙ sym (bytes_both after filling)) in
+    ∙ ap (λ bs. linked_bytes a text ++ bs) (sym (asked_behind filled blank blanks.1 after)) in
     let f : linked_bytes a (composite_links skin outer margins filled l text) ≡ pieces_bytes front ++ linked_bytes a (text ++ end) =
     plain_then a before (map in_no_link inner ++ (map in_no_link prefix ++ (text ++ end))) ∙ ap (λ bs. pieces_bytes before ++ bs) (plain_then a inner (map in_no_link prefix ++ (text ++ end)) ∙ ap (λ bs. pieces_bytes inner ++ bs) (plain_then a prefix (text ++ end)))
     ∙ ap (λ bs. pieces_bytes before ++ bs) (sym (append_assoc (pieces_bytes inner) (pieces_bytes prefix) (linked_bytes a (text ++ end))) ∙ ap (λ bs. bs ++ linked_bytes a (text ++ end)) (sym (bytes_both inner prefix)))
@@ -132,22 +134,17 @@ composite_bytes skin outer margins filled l style a text old one two new style_i
     ∙ ap (λ bs. old ++ bs) (ap (λ bs. pieces_bytes front ++ bs) (sym e) ∙ sym f)
 
 -- the same by what the code found
-pub composite_row : (paint : ℕ → ContentStyle → ContentStyle) (has : CompositeKind → Flags → Bool) (runs : List MarkRun) (skin : RowSkin) (outer : Option ℕ) (margins : ℕ × ℕ) (filled : Bool) (n : ℕ) (l : FmtComposite) (style : LineStyle) (beside inner : ℕ × ℕ) (ks : List Compound) (a : List (Option (List ℕ))) (old one two new : List ℕ)
-    → style ≡ line_style skin l.kind → beside ≡ blanks_beside style.align outer margins filled l → inner ≡ inner_blanks l → ks ≡ l.compounds.items
-    → one ≡ old ++ pieces_bytes (spaces skin.paragraph.compound_style beside.0 ++ (spaces style.compound_style inner.0 ++ prefix_pieces skin l.kind))
+pub composite_row : (paint : ℕ → ContentStyle → ContentStyle) (has : CompositeKind → Flags → Bool) (runs : List MarkRun) (skin : RowSkin) (outer : Option ℕ) (margins : ℕ × ℕ) (filled : Bool) (n : ℕ) (l : FmtComposite) (style : LineStyle) (ks : List Compound) (a : List (Option (List ℕ))) (old one two new : List ℕ)
+    → style ≡ line_style skin l.kind → ks ≡ l.compounds.items
+    → one ≡ old ++ pieces_bytes (spaces skin.paragraph.compound_style (blanks_beside style.align outer margins filled l).0 ++ (spaces style.compound_style (inner_blanks l).0 ++ prefix_pieces skin l.kind))
     → two ≡ one ++ linked_bytes a (linked_compounds paint (has l.kind) runs skin style n ks)
-    → new ≡ two ++ pieces_bytes (spaces style.compound_style inner.1 ++ spaces skin.paragraph.compound_style beside.1)
+    → new ≡ two ++ pieces_bytes (spaces style.compound_style (inner_blanks l).1 ++ spaces skin.paragraph.compound_style (blanks_beside style.align outer margins filled l).1)
     → new ≡ old ++ linked_bytes a (linked_composite paint has runs skin outer margins filled n l)
-composite_row paint has runs skin outer margins filled n l style beside inner ks a old one two new style_is beside_is inner_is ks_are one_is two_is new_is =
-    let blank : CompoundStyle = skin.paragraph.compound_style in
-    let prefix : List RowPiece = prefix_pieces skin l.kind in
-    composite_bytes skin outer margins filled l style a (linked_compounds paint (has l.kind) runs skin (line_style skin l.kind) n l.compounds.items) old one two new style_is
-    (one_is ∙ ap (λ (b : ℕ × ℕ). old ++ pieces_bytes (spaces blank b.0 ++ (spaces style.compound_style inner.0 ++ prefix))) beside_is
-    ∙ ap (λ (b : ℕ × ℕ). old ++ pieces_bytes (spaces blank (outer_blanks style.align outer margins l).0 ++ (spaces style.compound_style b.0 ++ prefix))) inner_is)
+composite_row paint has runs skin outer margins filled n l style ks a old one two new style_is ks_are one_is two_is new_is =
+    composite_bytes skin outer margins filled l style a (linked_compounds paint (has l.kind) runs skin (line_style skin l.kind) n l.compounds.items) old one two new style_is one_is
     (two_is ∙ ap (λ (xs : List Compound). one ++ linked_bytes a (linked_compounds paint (has l.kind) runs skin style n xs)) ks_are
     ∙ ap (λ (s : LineStyle). one ++ linked_bytes a (linked_compounds paint (has l.kind) runs skin s n l.compounds.items)) style_is)
-    (new_is ∙ ap (λ (b : ℕ × ℕ). two ++ pieces_bytes (spaces style.compound_style inner.1 ++ spaces blank b.1)) beside_is
-    ∙ ap (λ (b : ℕ × ℕ). two ++ pieces_bytes (spaces style.compound_style b.1 ++ spaces blank (if filled then (outer_blanks style.align outer margins l).1 else 0))) inner_is)
+    new_is
 
 -- ---- cells
 
@@ -158,6 +155,7 @@ cells_behind paint has runs skin a ps ns [] = ap (linked_bytes a) (append-nil ps
 cells_behind paint has runs skin a ps ns (c ∷ cs) =
     then_border a None ps (vertical_piece skin) (linked_composite paint has runs skin None (0, 0) false (slice_index ns 0) c ++ linked_cells paint has runs skin (drop 1 ns) cs)
 
+-- a cell more, behind its border
 pub cell_gone : (paint : ℕ → ContentStyle → ContentStyle) (has : CompositeKind → Flags → Bool) (runs : List MarkRun) (skin : RowSkin) (a : List (Option (List ℕ))) (old one new all : List ℕ) (ns next : List ℕ) (cs : List FmtComposite) (i n : ℕ) (d : FmtComposite) → i < length cs
     → one ≡ old ++ piece_bytes (vertical_piece skin).style (vertical_piece skin).text → n ≡ slice_index ns 0 → new ≡ one ++ linked_bytes a (linked_composite paint has runs skin None (0, 0) false n (get_or cs i d)) → next ≡ drop 1 ns
     → old ++ linked_bytes a (linked_cells paint has runs skin ns (drop i cs)) ≡ all → new ++ linked_bytes a (linked_cells paint has runs skin next (drop (i + 1) cs)) ≡ all
@@ -172,6 +170,7 @@ cell_gone paint has runs skin a old one new all ns next cs i n d h one_is n_is n
     ∙ ap (λ l. old ++ (border ++ l)) (sym (cells_behind paint has runs skin a own (drop 1 ns) (drop (i + 1) cs)))
     ∙ sym (at_drop_more (λ l. old ++ linked_bytes a (linked_cells paint has runs skin ns l)) cs i d h) ∙ before
 
+-- no cell is left
 pub cells_done : (paint : ℕ → ContentStyle → ContentStyle) (has : CompositeKind → Flags → Bool) (runs : List MarkRun) (skin : RowSkin) (a : List (Option (List ℕ))) (now all ns : List ℕ) (cs : List FmtComposite) (i : ℕ) → length cs ≤ i
     → now ++ linked_bytes a (linked_cells paint has runs skin ns (drop i cs)) ≡ all → now ≡ all
 cells_done paint has runs skin a now all ns cs i h before = sym (append-nil now) ∙ sym (ap (λ l. now ++ linked_bytes a (linked_cells paint has runs skin ns l)) (drop_all i cs h)) ∙ before

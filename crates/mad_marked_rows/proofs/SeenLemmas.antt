@@ -1,5 +1,5 @@
 -- Characters that are put after others, with their marks.
-use Rattle.std.proofs.Common.{◌≡◌, ℕ, ◌+◌, ◌<◌, ◌≤◌, Bool, true, false, cond, List, [], ◌∷◌, ◌++◌, length, drop, get_or, refl, sym, ap, ◌∙◌, arith, append_assoc, append-nil}
+use Rattle.std.proofs.Common.{◌≡◌, ℕ, ◌+◌, ◌<◌, ◌≤◌, Bool, true, false, cond, List, [], ◌∷◌, ◌++◌, length, drop, get_or, sym, ap, ◌∙◌, arith, append_assoc, append-nil}
 use Rattle.std.specs.Prelude.{chars}
 use Rattle.std.proofs.StrCases.{chars_of_empty}
 use Rattle.std.proofs.lemmas.List.{at_drop_more, drop_all}
@@ -42,6 +42,7 @@ letter_gone paint runs style old new all rest next n c v u w m chars_are u_is m_
 pub letter_ended : (paint : ℕ → ContentStyle → ContentStyle) (runs : List MarkRun) (style : CompoundStyle) (old all : List SeenChar) (rest : List ℕ) (n v : ℕ) → length rest ≡ 0 → old ++ seen_from paint style v (letters_of runs n (chars rest)) ≡ all → old ≡ all
 letter_ended paint runs style old all rest n v none h = sym (append-nil old) ∙ ap (λ (cs : List ℕ). old ++ seen_from paint style v (letters_of runs n cs)) (sym (chars_of_empty rest none)) ∙ h
 
+-- a text without characters
 pub nothing_seen : (paint : ℕ → ContentStyle → ContentStyle) (runs : List MarkRun) (style : CompoundStyle) (old : List SeenChar) (text : List ℕ) (n : ℕ) → length text ≡ 0 → old ≡ old ++ counted_text paint runs style n (chars text)
 nothing_seen paint runs style old text n none = sym (append-nil old) ∙ ap (λ (cs : List ℕ). old ++ counted_text paint runs style n cs) (sym (chars_of_empty text none))
 
@@ -52,17 +53,20 @@ bare_gone style old new all rest next c chars_are is h =
     ap (λ (l : List SeenChar). l ++ bare_text style (chars next)) is ∙ append_assoc old (record { value = 0; char = record { compound_style = style; nude_char = c } } ∷ []) (bare_text style (chars next))
     ∙ ap (λ (cs : List ℕ). old ++ bare_text style cs) (sym chars_are) ∙ h
 
+-- no more of them
 pub bare_ended : (style : CompoundStyle) (old all : List SeenChar) (rest : List ℕ) → length rest ≡ 0 → old ++ bare_text style (chars rest) ≡ all → old ≡ all
 bare_ended style old all rest none h = sym (append-nil old) ∙ ap (λ (cs : List ℕ). old ++ bare_text style cs) (sym (chars_of_empty rest none)) ∙ h
 
 -- ---- compounds
 
+-- the characters of a compound that is counted, by what the code found
 pub counted_put : (paint : ℕ → ContentStyle → ContentStyle) (has : Flags → Bool) (runs : List MarkRun) (skin : RowSkin) (style : LineStyle) (n : ℕ) (k : Compound) (own : CompoundStyle) (old new : List SeenChar) (t : Bool)
     → t ≡ has (flags_of k) → t ≡ true → own ≡ compound_style skin style (run_of k) → new ≡ old ++ counted_text paint runs own n (chars k.src.now) → new ≡ old ++ seen_compound paint has runs skin style n k
 counted_put paint has runs skin style n k own old new t test holds own_is is =
     is ∙ ap (λ (s : CompoundStyle). old ++ counted_text paint runs s n (chars k.src.now)) own_is
     ∙ ap (λ (u : Bool). old ++ cond u (counted_text paint runs (compound_style skin style (run_of k)) n (chars k.src.now)) (bare_text (compound_style skin style (run_of k)) (chars k.src.now))) (sym holds ∙ test)
 
+-- those of one that isn't
 pub bare_put : (paint : ℕ → ContentStyle → ContentStyle) (has : Flags → Bool) (runs : List MarkRun) (skin : RowSkin) (style : LineStyle) (n : ℕ) (k : Compound) (own : CompoundStyle) (old new : List SeenChar) (t : Bool)
     → t ≡ has (flags_of k) → t ≡ false → own ≡ compound_style skin style (run_of k) → new ≡ old ++ bare_text own (chars k.src.now) → new ≡ old ++ seen_compound paint has runs skin style n k
 bare_put paint has runs skin style n k own old new t test fails own_is is =
@@ -73,6 +77,7 @@ seen_compound_same : (paint : ℕ → ContentStyle → ContentStyle) (has : Flag
 seen_compound_same paint has a b skin style n k same =
     ap (λ ls. cond (has (flags_of k)) (seen_letters paint (compound_style skin style (run_of k)) ls) (bare_text (compound_style skin style (run_of k)) (chars k.src.now))) (letters_same a b n (chars k.src.now) same)
 
+-- a compound more, by runs that say the same
 pub seen_compound_gone : (paint : ℕ → ContentStyle → ContentStyle) (has : Flags → Bool) (a b : List MarkRun) (skin : RowSkin) (style : LineStyle) (old new all : List SeenChar) (every ks : List Compound) (i : ℕ) (d : Compound) (n m : ℕ) → every ≡ ks → i < length every → SameFrom a b n
     → new ≡ old ++ seen_compound paint has b skin style n (get_or every i d) → m ≡ n + counted has (flagged_of (get_or every i d))
     → old ++ seen_compounds paint has a skin style n (drop i ks) ≡ all → new ++ seen_compounds paint has a skin style m (drop (i + 1) ks) ≡ all
@@ -86,6 +91,7 @@ seen_compound_gone paint has a b skin style old new all every ks i d n m every_i
     ∙ append_assoc old own rest
     ∙ sym (at_drop_more (λ l. old ++ seen_compounds paint has a skin style n l) ks i d within) ∙ before
 
+-- no compound is left
 pub seen_compounds_done : (paint : ℕ → ContentStyle → ContentStyle) (has : Flags → Bool) (a : List MarkRun) (skin : RowSkin) (style line : LineStyle) (now : List SeenChar) (every ks : List Compound) (i n number : ℕ) → every ≡ ks → length every ≤ i → style ≡ line
     → now ++ seen_compounds paint has a skin style n (drop i ks) ≡ seen_compounds paint has a skin style number ks → now ≡ seen_compounds paint has a skin line number ks
 seen_compounds_done paint has a skin style line now every ks i n number every_is h style_is before =

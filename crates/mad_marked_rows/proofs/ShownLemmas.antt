@@ -82,6 +82,7 @@ compounds_penned paint has runs skin style n (k ∷ ks) utf8 =
     ∙ ap (λ l. map penned (seen_compound paint has runs skin style n k) ++ l) (compounds_penned paint has runs skin style m ks utf8.1)
     ∙ sym (map-append penned (seen_compound paint has runs skin style n k) (seen_compounds paint has runs skin style m ks))
 
+-- THE LAW: the characters of a composite, each with its pen, are those of its pieces
 pub seen_shown : (paint : ℕ → ContentStyle → ContentStyle) (has : CompositeKind → Flags → Bool) (runs : List MarkRun) (skin : RowSkin) (n : ℕ) (l : FmtComposite) → AllByRecursion (λ k. IsUtf8 k.src.now) l.compounds.items
     → map penned (seen_text paint has runs skin n l) ≡ penned_chars (marked_compounds paint (has l.kind) runs skin (line_style skin l.kind) n l.compounds.items)
 seen_shown paint has runs skin n l utf8 = sym (compounds_penned paint (has l.kind) runs skin (line_style skin l.kind) n l.compounds.items utf8)

@@ -43,11 +43,13 @@ attached_told tell (c ∷ cs) = ap (λ (r : List ℕ × List Glyph). attach (Som
 pub cells_told : (tell : Look → Look) (ps : List RowPiece) → told_cells tell ps ≡ penned_cells (told_chars tell ps)
 cells_told tell ps = sym (ap (λ (r : List ℕ × List Glyph). r.1) (attached_told tell (penned_chars ps)))
 
+-- where the same is told of characters, it is of cells
 pub same_cells : (tell : Look → Look) (ps qs : List RowPiece) → told_chars tell ps ≡ told_chars tell qs → told_cells tell ps ≡ told_cells tell qs
 same_cells tell ps qs e = cells_told tell ps ∙ ap penned_cells e ∙ sym (cells_told tell qs)
 
 -- ---- pieces, one after the other
 
+-- characters of pieces behind others
 pub told_joined : (tell : Look → Look) (ps qs : List RowPiece) → told_chars tell (ps ++ qs) ≡ told_chars tell ps ++ told_chars tell qs
 told_joined tell ps qs = ap (map (told_char tell)) (penned_both ps qs) ∙ map-append (told_char tell) (penned_chars ps) (penned_chars qs)
 
@@ -67,6 +69,7 @@ piece_told tell style own cs same scalar_all =
     ∙ ap (λ (l : List ℕ). map (λ (c : ℕ). let x : PennedChar = record { char = c; pen = tell (look_of_style own) } in x) l) (chars-encodes cs scalar_all)
     ∙ ap (λ (pen : Look). map (λ (c : ℕ). let x : PennedChar = record { char = c; pen = pen } in x) cs) same
 
+-- a scalar value behind others
 pub scalars_more : (cs : List ℕ) (c : ℕ) → scalars cs ≡ true → scalar c ≡ true → scalars (cs ++ c ∷ []) ≡ true
 scalars_more [] c a b = ap (λ t. t && true) b
 scalars_more (x ∷ xs) c a b =
@@ -92,6 +95,7 @@ from_told tell paint style (c ∷ cs) nothing all p a =
     let both = and_parts _ _ all in
     told_by_part tell paint style p c cs (goes_on p.value c.value c.char) nothing a both.0 (from_told tell paint style cs nothing both.1)
 
+-- without its marks a text is as it was
 pub letters_said : (runs : List MarkRun) (n : ℕ) (cs : List ℕ) → map (λ (c : Letter). c.char) (letters_of runs n cs) ≡ cs
 letters_said runs n [] = refl
 letters_said runs n (c ∷ cs) = ap (λ l. c ∷ l) (letters_said runs (number_next n c) cs)

@@ -26,11 +26,12 @@ text_links paint runs style n cs = map (part_link paint style) (parts_of (letter
 
 -- ---- what is written
 
--- A row so far is its bytes and the number of the link that is open. A piece behind it, and pieces one after the other: as `linked_bytes` has them, but
+-- A row so far is its bytes and the number of the link that is open. A piece behind it: as `linked_bytes` has it, but
 -- for the end of the last link.
 abbrev pub piece_on : List (Option (List ℕ)) → List ℕ × Option ℕ → LinkedPiece → List ℕ × Option ℕ
 piece_on addresses row p = (row.0 ++ (change_bytes addresses row.1 (written_link addresses p.link) ++ piece_bytes p.style p.text), written_link addresses p.link)
 
+-- so are pieces, one after the other
 abbrev pub pieces_on : List (Option (List ℕ)) → List ℕ × Option ℕ → List LinkedPiece → List ℕ × Option ℕ
 pieces_on addresses row [] = row
 pieces_on addresses row (p ∷ ps) = pieces_on addresses (piece_on addresses row p) ps

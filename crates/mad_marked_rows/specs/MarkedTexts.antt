@@ -1,7 +1,8 @@
 -- A text with marks, all of which is counted that isn't blank: its parts of one mark each, as pieces.
-use Rattle.std.specs.Prelude.{◌≡◌, ℕ, suc, ◌+◌, ◌≤◌, ◌==◌, ◌||◌, Bool, List, [], ◌∷◌, ◌++◌, map, encode_utf8_all, if◌then◌else◌}
+use Rattle.std.specs.Prelude.{◌≡◌, ℕ, suc, ◌+◌, ◌≤◌, ◌==◌, ◌||◌, Bool, List, [], ◌∷◌, ◌++◌, map, encode_utf8, encode_utf8_all, if◌then◌else◌}
 use Rattle.std.specs.Char.{is_whitespace}
 use Rattle.mad_characters.specs.Columns.{char_columns}
+use Rattle.mad_term.specs.Styles.{closing_bytes, opening_bytes}
 use Rattle.mad_term.specs.declared.styles.ContentStyle.{ContentStyle}
 use Rattle.mad_draw.specs.Pieces.{RowPiece}
 use Rattle.mad_mark_runs.specs.Marks.{value_at, blank_value}
@@ -63,6 +64,14 @@ text_pieces paint runs style n cs = map (part_piece paint style) (parts_of (lett
 -- the value of the part that a character is in
 abbrev pub next_value : ℕ → ℕ → ℕ → ℕ
 next_value value other c = if goes_on value other c then value else other
+
+-- what is written of the first character of a part
+abbrev pub first_char : (ℕ → ContentStyle → ContentStyle) → ContentStyle → ℕ → ℕ → List ℕ
+first_char paint style value c = opening_bytes (paint value style) ++ encode_utf8 c
+
+-- what is written of a character, where a part of this value is open
+abbrev pub part_char : (ℕ → ContentStyle → ContentStyle) → ContentStyle → ℕ → ℕ → ℕ → List ℕ
+part_char paint style value other c = if goes_on value other c then encode_utf8 c else closing_bytes (paint value style) ++ first_char paint style other c
 
 -- The runs say the same of what a cursor can ask behind so many counted characters: of the one before it too, for a blank between them.
 abbrev pub SameFrom : List MarkRun → List MarkRun → ℕ → Type 0

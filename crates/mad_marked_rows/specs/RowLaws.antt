@@ -39,6 +39,7 @@ pub record IsWholeText (k : Compound) : Type 0 where
   pub utf8 : IsUtf8 k.src.now
   pub some : 0 < length (chars k.src.now)
 
+-- so does each compound of a line
 abbrev pub AreWholeTexts : FmtLine → Type 0
 AreWholeTexts line = AllByRecursion (λ (l : FmtComposite). AllByRecursion IsWholeText l.compounds.items) (cells_of line)
 

@@ -31,6 +31,7 @@ abbrev pub seen_letters : (ℕ → ContentStyle → ContentStyle) → CompoundSt
 seen_letters paint style [] = []
 seen_letters paint style (c ∷ cs) = seen_char paint style c.value c.char ∷ seen_from paint style c.value cs
 
+-- the same, before which so many counted characters stand
 abbrev pub counted_text : (ℕ → ContentStyle → ContentStyle) → List MarkRun → CompoundStyle → ℕ → List ℕ → List SeenChar
 counted_text paint runs style n cs = seen_letters paint style (letters_of runs n cs)
 
@@ -38,11 +39,12 @@ counted_text paint runs style n cs = seen_letters paint style (letters_of runs n
 abbrev pub bare_text : CompoundStyle → List ℕ → List SeenChar
 bare_text style cs = map (λ c. record { value = 0; char = styled_char style c }) cs
 
--- of compounds
+-- of a compound
 abbrev pub seen_compound : (ℕ → ContentStyle → ContentStyle) → (Flags → Bool) → List MarkRun → RowSkin → LineStyle → ℕ → Compound → List SeenChar
 seen_compound paint has runs skin style n k =
     if has (flags_of k) then counted_text paint runs (compound_style skin style (run_of k)) n (chars k.src.now) else bare_text (compound_style skin style (run_of k)) (chars k.src.now)
 
+-- of compounds in a row
 abbrev pub seen_compounds : (ℕ → ContentStyle → ContentStyle) → (Flags → Bool) → List MarkRun → RowSkin → LineStyle → ℕ → List Compound → List SeenChar
 seen_compounds paint has runs skin style n [] = []
 seen_compounds paint has runs skin style n (k ∷ ks) = seen_compound paint has runs skin style n k ++ seen_compounds paint has runs skin style (n + counted has (flagged_of k)) ks

@@ -6,10 +6,11 @@ use Rattle.mad_screen.specs.Painting.{look_of_style}
 use Rattle.mad_draw.specs.Pieces.{PennedChar, RowPiece, penned_chars}
 use Rattle.mad_draw.specs.PennedCells.{penned_cells}
 
--- a character, a cell, by what is told of its pen
+-- a character, by what is told of its pen
 abbrev pub told_char : (Look → Look) → PennedChar → PennedChar
 told_char tell c = record { char = c.char; pen = tell c.pen }
 
+-- a cell, by what is told of its pen
 abbrev pub told_cell : (Look → Look) → Glyph → Glyph
 told_cell tell g = record { chars = g.chars; pen = tell g.pen }
 

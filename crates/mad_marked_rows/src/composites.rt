@@ -9,11 +9,10 @@ ghost use Rattle.mad_marks.specs.LineMarks.{has_mark};
 
 use crate::compounds::append_compounds;
 use crate::cursors::MarkCursor;
-use crate::fronts::{End, Front, blanks_beside, inner_blanks};
 use crate::lines::MarkedSkin;
 use mad_format::FmtComposite;
 use mad_mark_runs::runs_from;
-use mad_rows::RowPlace;
+use mad_rows::{PlacedComposite, RowPlace};
 use std::alloc::AllocError;
 
 /// A composite at its place, before which so many counted characters of the text stand.
@@ -28,21 +27,12 @@ pub(crate) fn append_composite(
     ensures { OnOk result (string_bytes rows.new ≡ string_bytes rows.old ++ linked_bytes skin.entry.addresses.now (linked_composite (paint_by skin.entry.paint.styles.now) has_mark skin.entry.runs.now skin.entry.skin.now place.outer place.margins place.filled number composite.now)) }
 {
     let style = skin.skin.line_style(composite.kind);
-    let (left, right) = blanks_beside(composite, style.align, place);
-    let (inner_left, inner_right) = inner_blanks(composite);
-    let front = Front {
+    let placed = PlacedComposite {
         skin: skin.skin,
-        style,
-        kind: composite.kind,
-        outer: left,
-        inner: inner_left,
+        composite,
+        place,
     };
-    let end = End {
-        skin: skin.skin,
-        style,
-        inner: inner_right,
-        outer: right,
-    };
+    let (front, end) = placed.ends(style);
     let mut cursor = MarkCursor {
         runs: runs_from(skin.runs, number.saturating_sub(1)),
         number,

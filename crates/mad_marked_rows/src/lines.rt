@@ -8,12 +8,14 @@ ghost use Rattle.mad_mark_runs.specs.Values.{AreRising};
 ghost use Rattle.mad_marks.specs.LineMarks.{has_mark};
 
 use crate::composites::append_composite;
-use crate::fronts::{spaces_beside, vertical};
 use crate::paints::Paint;
 use mad_format::{FmtComposite, FmtLine};
 use mad_links::LinkAddress;
 use mad_mark_runs::MarkRun;
-use mad_rows::{PlacedComposite, PlacedLine, RowPlace, RowSkin, line_blanks};
+use mad_rows::{
+    PlacedComposite, PlacedLine, RowPlace, RowSkin, line_blanks, row_columns, spaces_beside,
+    vertical,
+};
 use std::alloc::AllocError;
 
 /// What rows with marks are drawn in.
@@ -122,7 +124,8 @@ fn append_row(
     requires { AreRising 0 skin.runs.now }
     ensures { OnOk result (string_bytes rows.new ≡ string_bytes rows.old ++ linked_bytes skin.entry.addresses.now (linked_table_row (paint_by skin.entry.paint.styles.now) has_mark skin.entry.runs.now skin.entry.skin.now outer filled numbers.now cells.now)) }
 {
-    let (left, right) = spaces_beside(skin.skin, cells, outer, filled);
+    let columns = row_columns(cells);
+    let (left, right) = spaces_beside(skin.skin, columns, outer, filled);
     let border = vertical(skin.skin);
     write!(rows, "{left}")?;
     append_cells(rows, cells, numbers, skin)?;

@@ -6,7 +6,7 @@ use Rattle.mad_measure.proofs.AllLemmas.{all_joined, all_front, all_back}
 use Rattle.mad_md.specs.Lines.{LineContent}
 use Rattle.mad_format.specs.declared.line.FmtLine.{FmtLine}
 use Rattle.mad_draw.specs.Pieces.{FillsRow}
-use Rattle.mad_rows.specs.RowStyles.{line_rules}
+use Rattle.mad_rows.specs.RowStyles.{line_rules, tone_styles}
 use Rattle.mad_rows.specs.declared.row_skin.RowSkin.{RowSkin}
 use Rattle.mad_blocks.specs.LayoutParts.{wrap_width}
 use Rattle.mad_blocks.specs.Layouts.{IsLayoutAt}
@@ -26,10 +26,12 @@ use Rattle.mad_sections.proofs.RoomLemmas.{rooms_last, shown_are_last}
 use Rattle.mad_sections.specs.Unfolded.{unfolded}
 use Rattle.mad_format.specs.Lists.{EachBecomes}
 use Rattle.mad_pages.specs.PageLayouts.{IsSectionAt}
-use Rattle.mad_pages.specs.PageRows.{RowContent, behind, rest_behind}
+use Rattle.mad_pages.specs.PageRows.{RowContent, behind, marks_from, number_behind}
 use Rattle.mad_page_rows.specs.FaceLaws.{AreFacesShown, IsTypedGutter}
 use Rattle.mad_page_rows.specs.Faces.{has_ascii_boxes, line_skin, page_row_pieces}
 use Rattle.mad_page_rows.proofs.FillLemmas.{rows_fill}
+use Rattle.mad_page_rows.proofs.TonedLemmas.{toned_fills}
+use Rattle.mad_mark_runs.specs.declared.mark_runs.MarkRun.{MarkRun}
 use Rattle.mad_page_rows.proofs.BoxedLines.{drawable_behind}
 use Rattle.mad_page_rows.specs.PageFits.{KeepsRoom, AllFill, sections_at, SectionsFill, PagesFill}
 
@@ -58,7 +60,8 @@ pub row_fills : (skin : RowSkin) (drawn : ℕ) (row : RowContent) → AreFacesSh
 row_fills skin drawn row faces h =
     let inner : RowSkin = line_skin skin row.gutters in
     let rest : ℕ = drawn - columns_of (has_ascii_boxes skin) row.gutters in
-    rows_fill skin drawn row faces h.typed h.fits (record { shown = any_shown inner rest row.line h.line; columns = any_columns inner rest row.line h.line })
+    rows_fill skin drawn row faces h.typed h.fits
+    (toned_fills rest row.marks (tone_styles skin) row.number inner (Some rest) true row.line (record { shown = any_shown inner rest row.line h.line; columns = any_columns inner rest row.line h.line }))
 
 all_fill : (skin : RowSkin) (drawn : ℕ) (rows : List RowContent) → AreFacesShown skin → AreDrawableBehind skin drawn rows → AllFill skin drawn rows
 all_fill skin drawn [] faces h = tt
@@ -74,15 +77,11 @@ layout_drawable skin gutters room drawn text lines faces three wider bound keeps
     drawable_behind skin gutters drawn lines faces (subst (AreDrawable skin drawn) (take-length lines) first)
 
 -- lines behind gutters
-rest_drawable : (skin : RowSkin) (drawn : ℕ) (gs : List Gutter) (lines : List FmtLine) → AllByRecursion IsTypedGutter gs → columns_of (has_ascii_boxes skin) gs ≤ drawn
-    → AreDrawable (line_skin skin gs) (drawn - columns_of (has_ascii_boxes skin) gs) lines → AreDrawableBehind skin drawn (rest_behind gs lines)
-rest_drawable skin drawn gs [] typed fits h = tt
-rest_drawable skin drawn gs (l ∷ lines) typed fits h = (record { typed = typed; fits = fits; line = h.0 }, rest_drawable skin drawn gs lines typed fits h.1)
-
-lines_drawable : (skin : RowSkin) (drawn : ℕ) (gs : List Gutter) (fresh : ℕ) (lines : List FmtLine) → AllByRecursion IsTypedGutter gs → columns_of (has_ascii_boxes skin) gs ≤ drawn
-    → AreDrawable (line_skin skin gs) (drawn - columns_of (has_ascii_boxes skin) gs) lines → AreDrawableBehind skin drawn (behind gs fresh lines)
-lines_drawable skin drawn gs fresh [] typed fits h = tt
-lines_drawable skin drawn gs fresh (l ∷ lines) typed fits h = (record { typed = typed; fits = fits; line = h.0 }, rest_drawable skin drawn gs lines typed fits h.1)
+lines_drawable : (skin : RowSkin) (drawn : ℕ) (gs : List Gutter) (fresh : ℕ) (marks : List MarkRun) (n : ℕ) (lines : List FmtLine) → AllByRecursion IsTypedGutter gs → columns_of (has_ascii_boxes skin) gs ≤ drawn
+    → AreDrawable (line_skin skin gs) (drawn - columns_of (has_ascii_boxes skin) gs) lines → AreDrawableBehind skin drawn (behind gs fresh marks n lines)
+lines_drawable skin drawn gs fresh marks n [] typed fits h = tt
+lines_drawable skin drawn gs fresh marks n (l ∷ lines) typed fits h =
+    (record { typed = typed; fits = fits; line = h.0 }, lines_drawable skin drawn gs 0 (marks_from marks (number_behind marks n l)) (number_behind marks n l) lines typed fits h.1)
 
 -- from three columns on each row of a section is drawn exactly, in the columns of its layout and in more
 section_drawable : (skin : RowSkin) (width drawn : ℕ) (section : SectionContent) (rows : List RowContent) → 3 ≤ width → width ≤ drawn → drawn < 2 ^ 64 - 1 → AreFacesShown skin → KeepsRoom skin width section
@@ -93,7 +92,7 @@ section_drawable skin width drawn section rows three wider bound faces keeps s =
     let whole : columns_of ascii gs + room_at ascii width section.gutters ≡ width = (shown_are_last ascii width section.gutters).whole in
     let some : 3 ≤ room_at ascii width section.gutters = rooms_last ascii width section.gutters three in
     let lines = layout_drawable skin gs (room_at ascii width section.gutters) (drawn - columns_of ascii gs) section.lines s.lines faces some (omega (arith, whole, wider)) (omega (arith, bound)) keeps.premises s.layout in
-    subst (AreDrawableBehind skin drawn) (sym s.rows_are) (lines_drawable skin drawn gs section.fresh s.lines (typed_shown ascii width section.gutters keeps.gutters) (omega (arith, whole, wider)) lines)
+    subst (AreDrawableBehind skin drawn) (sym s.rows_are) (lines_drawable skin drawn gs section.fresh section.marks 0 s.lines (typed_shown ascii width section.gutters keeps.gutters) (omega (arith, whole, wider)) lines)
 
 -- so is each row of sections, one after the other
 pub shown_drawable : (skin : RowSkin) (width drawn : ℕ) (sections : List SectionContent) (rows : List RowContent) → 3 ≤ width → width ≤ drawn → drawn < 2 ^ 64 - 1 → AreFacesShown skin → AllByRecursion (KeepsRoom skin width) sections

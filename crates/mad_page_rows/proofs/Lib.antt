@@ -4,3 +4,4 @@ pub mod FaceLemmas
 pub mod FillLemmas
 pub mod FitLemmas
 pub mod KnownFaces
+pub mod TonedLemmas

@@ -2,11 +2,18 @@
 use Rattle.std.specs.Prelude.{ℕ, zero, suc, ◌+◌, ◌-◌, nat_lt, is_some, ◌&&◌, ◌||◌, Bool, true, false, List, [], ◌∷◌, ◌++◌, take, drop, length, Option, Some, None, if◌then◌else◌}
 use Rattle.std.specs.List.{flat_map, last_or}
 use Rattle.std.specs.Option.{option_and_then}
+use Rattle.mad_format.specs.declared.line.FmtLine.{FmtLine}
+use Rattle.mad_format.specs.declared.line.FmtLine.TheVariants.{Normal}
+use Rattle.mad_mark_runs.specs.declared.mark_runs.MarkRun.{MarkRun}
+use Rattle.mad_marked_rows.specs.MarkedRows.{marked_line}
+use Rattle.mad_marked_rows.specs.Paints.{paint_by}
+use Rattle.mad_marks.specs.LineMarks.{has_mark}
 use Rattle.mad_style.specs.StyledChars.{char_style, char_alone, styled_char}
+use Rattle.mad_style.specs.declared.compound_styles.CompoundStyle.{CompoundStyle}
 use Rattle.mad_style.specs.declared.styled_chars.StyledChar.{StyledChar}
 use Rattle.mad_draw.specs.Pieces.{RowPiece, pieces_bytes, char_piece, char_repeat, spaces}
 use Rattle.mad_rows.specs.Rows.{number_piece, line_pieces}
-use Rattle.mad_rows.specs.RowStyles.{header_style, ordered_item_style}
+use Rattle.mad_rows.specs.RowStyles.{header_style, ordered_item_style, tone_styles}
 use Rattle.mad_rows.specs.declared.page_styles.PageStyles.{PageStyles}
 use Rattle.mad_rows.specs.declared.row_skin.RowSkin.{RowSkin}
 use Rattle.mad_sections.specs.Gutters.{gutter_columns, columns_of}
@@ -144,9 +151,16 @@ ruled skin (Some level) = record skin { horizontal_rule = below_char skin.page l
 abbrev pub line_skin : RowSkin → List Gutter → RowSkin
 line_skin skin gs = ruled (if in_box skin gs then record skin { paragraph = skin.code_block } else skin) (level_above gs)
 
+-- A line with its marks. Where marks are left, and there are tones, a composite's text is cut where its mark changes, and each part is in the style that its
+-- tone makes of the text's. All else is as without marks. So many counted characters stand before the line.
+abbrev pub toned_pieces : List MarkRun → List CompoundStyle → ℕ → RowSkin → Option ℕ → Bool → FmtLine → List RowPiece
+toned_pieces (run ∷ runs) (tone ∷ tones) n skin outer filled (Normal l) = marked_line (paint_by (tone ∷ tones)) has_mark (run ∷ runs) skin outer filled (n ∷ []) (Normal l)
+toned_pieces runs tones n skin outer filled line = line_pieces skin outer filled line
+
 -- the pieces of a row's line, in the columns that its gutters leave; in a box it fills them
 abbrev pub behind_pieces : RowSkin → Option ℕ → Bool → RowContent → List RowPiece
-behind_pieces skin outer filled row = line_pieces (line_skin skin row.gutters) (columns_behind (has_ascii_boxes skin) outer row.gutters) (filled || in_box skin row.gutters) row.line
+behind_pieces skin outer filled row =
+    toned_pieces row.marks (tone_styles skin) row.number (line_skin skin row.gutters) (columns_behind (has_ascii_boxes skin) outer row.gutters) (filled || in_box skin row.gutters) row.line
 
 -- the pieces of a row at an outer width: the faces of its gutters, its line in the columns that they leave, and the other sides of boxes
 abbrev pub page_row_pieces : RowSkin → Option ℕ → Bool → RowContent → List RowPiece

@@ -96,6 +96,7 @@ pub fn push_blanks(bytes: &mut String, skin: &RowSkin, width: usize) -> Result<(
 fn know_behind(skin: &RowSkin, front: Front, line: &FmtLine, width: usize)
     ensures { AreKnown (behind_pieces skin.now (Some width) true (row_behind (front_content front.entry) line.now)) }
 {
+    know_styles(skin);
     let rest = columns_left(skin, front.gutters, width);
     know_row(&line_skin(skin, front.gutters), Some(line), rest);
 }

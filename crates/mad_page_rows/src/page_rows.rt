@@ -5,9 +5,12 @@ ghost use Rattle.mad_draw.specs.Pieces.{pieces_bytes};
 
 use crate::faces::{Faces, backs, columns_behind, has_ascii_boxes, is_filled, line_skin};
 use mad_format::FmtLine;
+use mad_mark_runs::MarkRun;
+use mad_marked_rows::MarkedComposite;
 use mad_pages::{Front, PageRow, front_of};
-use mad_rows::{PlacedLine, RowSkin};
+use mad_rows::{PlacedComposite, PlacedLine, RowSkin};
 use mad_sections::Gutter;
+use mad_style::CompoundStyle;
 use std::fmt::{self, Display};
 
 /// A line of a page at an outer width: the faces of what stands in front of it, the line behind them, and the other sides of boxes.
@@ -82,13 +85,71 @@ impl fmt::Display for LineBehind<'_, '_> {
     fn fmt<W: fmt::Write>(&self, f: &mut fmt::Formatter<W>) -> fmt::Result {
         let gutters = self.front.gutters;
         let skin = line_skin(self.skin, gutters);
-        let line = PlacedLine {
+        let line = TonedLine {
             skin: &skin,
+            tones: self.skin.tone_styles(),
+            marks: self.front.marks,
+            number: self.front.number,
             line: self.line,
             outer: columns_behind(gutters, self.outer, has_ascii_boxes(self.skin)),
             filled: is_filled(self.skin, gutters, self.filled),
         };
         line.fmt(f)
+    }
+}
+
+// A line with its marks.
+#[derive(Clone, Copy)]
+struct TonedLine<'a, 's> {
+    skin: &'a RowSkin,
+    tones: &'a [CompoundStyle],
+    marks: &'a [MarkRun],
+    number: usize,
+    line: &'a FmtLine<'s>,
+    outer: Option<usize>,
+    filled: bool,
+}
+
+impl fmt::Display for TonedLine<'_, '_> {
+    ghost use Rattle.mad_page_rows.specs.Faces.{toned_pieces};
+
+    ghost output = { λ l. Some (pieces_bytes (toned_pieces l.marks.now l.tones.now l.number l.skin.now l.outer l.filled l.line.now)) };
+
+    fn fmt<W: fmt::Write>(&self, f: &mut fmt::Formatter<W>) -> fmt::Result {
+        let plain = PlacedLine {
+            skin: self.skin,
+            line: self.line,
+            outer: self.outer,
+            filled: self.filled,
+        };
+        match self.marks {
+            [] => plain.fmt(f),
+            [_, ..] => match self.tones {
+                [] => plain.fmt(f),
+                [_, ..] => match self.line {
+                    FmtLine::Normal(composite) => {
+                        let placed = PlacedComposite::at(
+                            self.skin,
+                            composite,
+                            self.outer,
+                            self.filled,
+                        );
+                        let marked = MarkedComposite {
+                            skin: self.skin,
+                            styles: self.tones,
+                            runs: self.marks,
+                            number: self.number,
+                            composite,
+                            place: placed.place,
+                        };
+                        marked.fmt(f)
+                    }
+                    FmtLine::TableRow(_) | FmtLine::TableRule(_) | FmtLine::HorizontalRule => {
+                        plain.fmt(f)
+                    }
+                },
+            },
+        }
     }
 }
 

@@ -1,9 +1,10 @@
 -- The skin of a page of Markdown.
-use Rattle.std.specs.Prelude.{true, false}
+use Rattle.std.specs.Prelude.{Bool, true, false, ◌&&◌, List, [], ◌∷◌, Option, Some, None, if◌then◌else◌}
 use Rattle.mad_term.specs.declared.attribute.Attribute.TheVariants as attribute
 use Rattle.mad_style.specs.CompoundStyles.{unstyled}
+use Rattle.mad_style.specs.declared.compound_styles.CompoundStyle.{CompoundStyle}
 use Rattle.mad_style.specs.StyledChars.{styled_char}
-use Rattle.mad_rows.specs.RowStyles.{with_links}
+use Rattle.mad_rows.specs.RowStyles.{sets_nothing, with_links}
 use Rattle.mad_rows.specs.declared.row_skin.RowSkin.{RowSkin}
 use Rattle.mad_layout.specs.RowSkins.{page_styles, row_skin}
 use Rattle.mad_layout.specs.declared.skin.MadSkin.{MadSkin}
@@ -30,9 +31,20 @@ unstyled_code =
       deleted = unstyled;
     }
 
+-- nothing is set in any tone
+abbrev pub sets_no_tone : CodeStyles → Bool
+sets_no_tone code =
+    sets_nothing code.comment && sets_nothing code.string && sets_nothing code.number && sets_nothing code.keyword && sets_nothing code.name && sets_nothing code.key
+    && sets_nothing code.inserted && sets_nothing code.deleted
+
+-- the styles of the tones, as rows have them; where none sets anything, code has no tones
+abbrev pub code_tones : CodeStyles → Option (List CompoundStyle)
+code_tones code =
+    if sets_no_tone code then None else Some (code.comment ∷ code.string ∷ code.number ∷ code.keyword ∷ code.name ∷ code.key ∷ code.inserted ∷ code.deleted ∷ [])
+
 -- what rows show of the skin of a page: they keep words whole
 abbrev pub page_row_skin : PageSkin → RowSkin
-page_row_skin skin = record (row_skin skin.text) { link = skin.link; whole_words = true; page = skin.page }
+page_row_skin skin = record (row_skin skin.text) { link = skin.link; whole_words = true; page = skin.page; tones = code_tones skin.code }
 
 -- The skin of a page by that of the smaller grammar: links look as there, headings have neither rules nor signs, and what is new has no style. In a
 -- pager numbers of links, hits and the last row are reversed.

@@ -81,6 +81,7 @@ impl PageSkin {
             link: self.link,
             whole_words: true,
             page: self.page,
+            tones: self.code.tones(),
             ..self.text.row_skin()
         }
     }

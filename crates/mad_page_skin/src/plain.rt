@@ -1,6 +1,7 @@
 //! The skin without styles, for pipes and for terminals that shall show none.
 
-ghost use Rattle.std.specs.Prelude.{◌≡◌};
+ghost use Rattle.std.specs.Prelude.{◌≡◌, None};
+ghost use Rattle.mad_page_skin.specs.PageSkins.{page_row_skin};
 ghost use Rattle.mad_page_skin.specs.PlainSkins.{plain_signs, plain_skin, plain_text};
 
 use crate::page_skin::PageSkin;
@@ -10,9 +11,10 @@ use mad_rows::PageStyles;
 use mad_style::{ROUNDED_TABLE_BORDER_CHARS, ScrollBarStyle, StyledChar};
 
 impl PageSkin {
-    /// The skin without styles: rules below the first two levels of headings, signs in front of all others.
+    /// The skin without styles: rules below the first two levels of headings, signs in front of all others. Code has no tones in it.
     pub fn plain() -> PageSkin
-        ensures { result ≡ plain_skin }
+        ensures skin { result ≡ plain_skin }
+        ensures toneless { (page_row_skin result).tones ≡ None }
     {
         PageSkin {
             page: plain_signs(),

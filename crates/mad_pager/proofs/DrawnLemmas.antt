@@ -1,11 +1,12 @@
 -- What is shown of what was drawn in turn, and what goes out of it.
-use Rattle.std.proofs.Common.{◌≡◌, ℕ, ◌-◌, ◌<◌, ◌^◌, ◌≤◌, ◌||◌, ◌&&◌, ◌==◌, eq-eqb, nat_lt, Bool, true, false, List, [], ◌∷◌, ◌++◌, Option, Some, None, Result, Err, refl, ap, sym, ◌∙◌, subst, arith, take, length, min}
+use Rattle.std.proofs.Common.{◌≡◌, ℕ, ◌-◌, ◌<◌, ◌^◌, ◌≤◌, ◌||◌, ◌&&◌, ◌==◌, eq-eqb, nat_lt, Bool, true, false, List, [], ◌∷◌, ◌++◌, Option, Some, None, Result, Ok, Err, OnOk, inl, refl, ap, sym, ◌∙◌, subst, arith, take, length, min}
 use Rattle.std.proofs.lemmas.List.{append-nil}
 use Rattle.std.specs.List.{range_with_len}
 use Rattle.std.specs.Result.{IsErrAnd}
 use Rattle.std.specs.Prelude.{MatchResult}
 use Rattle.std.proofs.lemmas.Result.{err_from_is_err_and}
 use Rattle.std.specs.declared.io.Error as io
+use Rattle.mad_term.specs.Draws.{Draws}
 use Rattle.mad_term.specs.Trace.{Trace, after, failed, flushed, CutShort, TookWith}
 use Rattle.mad_term.specs.declared.errors.Error.{Error}
 use Rattle.mad_term.specs.declared.errors.Error.TheVariants.{IO}
@@ -30,8 +31,9 @@ use Rattle.mad_layout.specs.RowSkins.{row_skin}
 use Rattle.mad_layout.specs.ShownLayouts.{ShowsDrawable}
 use Rattle.mad_format.specs.declared.line.FmtLine.{FmtLine}
 use Rattle.mad_layout.specs.Drawable.{AreDrawable}
-use Rattle.mad_layout.specs.Shown.{area_row}
+use Rattle.mad_layout.specs.Shown.{area_bytes, area_row}
 use Rattle.mad_layout.specs.declared.skin.MadSkin.{MadSkin}
+use Rattle.mad_style.specs.declared.compound_styles.CompoundStyle.{CompoundStyle}
 use Rattle.mad_page_skin.specs.declared.page_skin.PageSkin.{PageSkin}
 use Rattle.mad_rows.specs.declared.row_skin.RowSkin.{RowSkin}
 use Rattle.mad_hits.specs.FrontHits.{AreRowsMarked}
@@ -40,7 +42,7 @@ use Rattle.mad_pages.specs.declared.fronts.Front.{Front}
 use Rattle.mad_pager.proofs.PageFills.{text_fills}
 use Rattle.std.proofs.lemmas.Bool.{ltb-false}
 use Rattle.std.proofs.lemmas.Bool.Decides.{nat_tests}
-use Rattle.mad_pager.specs.Screens.{status_skin, is_small, area_of, bar_of, text_pane, field_pane, prompt_pane, prompt_row, status_pane, status_words, AreHitsDrawn, ArePanesDrawn, IsFieldShown, IsLineIn, IsStatusLine, AreLinesShown, IsFieldRow, IsLastRow, IsStatus, IsDrawing, IsPicture, IsTypingShown, IsStatusShown, IsFieldInRow, IsShowing, IsShown, IsUnshown, question}
+use Rattle.mad_pager.specs.Screens.{status_skin, is_small, area_of, bar_of, text_pane, field_pane, prompt_pane, prompt_row, status_pane, status_words, AreHitsDrawn, ArePanesDrawn, IsFieldShown, IsLineIn, IsStatusLine, AreLinesShown, IsFieldRow, IsLastRow, IsStatus, IsDrawing, IsPicture, IsTypingShown, IsStatusShown, IsFieldInRow, IsShowing, IsShown, IsUnshown, WritesStatus, question}
 use Rattle.mad_pager.specs.Sessions.{State, paged_skin, field_row, last_row, prompt_cell, text_area}
 
 -- ---- what is shown
@@ -156,6 +158,17 @@ line_drawn dress line items area bytes old new are one took shown =
     known old new bytes (AreDrawable (row_skin dress) area.width (line ∷ [])) (AreRowsShown (area_row (row_skin dress) None (line ∷ []) area 0) area) took
     (λ drawable. here tt (subst (λ (n : ℕ). AreDrawable (row_skin dress) area.width (take n (line ∷ []))) (sym one) drawable))
 
+-- the same of a call that drew it, or was refused
+pub line_written : {T : Type 0} (r : Result T Error) (dress : MadSkin) (line : FmtLine) (items : List FmtLine) (area : Area) (old new : Trace) → items ≡ line ∷ [] → Draws old (area_bytes (row_skin dress) None items area 0) r new
+    → Draws old (area_bytes (row_skin dress) None (line ∷ []) area 0) r new
+line_written {T} r dress line items area old new are h = subst (λ (ls : List FmtLine). Draws old (area_bytes (row_skin dress) None ls area 0) r new) are h
+
+-- what is shown of it, where it was drawn
+pub line_shown : {T : Type 0} (r : Result T Error) (dress : MadSkin) (line : FmtLine) (items : List FmtLine) (area : Area) (bytes : List ℕ) (old new : Trace)
+    → items ≡ line ∷ [] → area.height ≡ 1 → Draws old bytes r new → OnOk r (ShowsDrawable (row_skin dress) None items area 0 old new) → OnOk r (TookWith old new (IsLineIn (row_skin dress) line area))
+line_shown {T} (Ok x) dress line items area bytes old new are one took shown = line_drawn dress line items area bytes old new are one took shown
+line_shown {T} (Err e) dress line items area bytes old new are one took shown = tt
+
 -- a status that was drawn in the last row
 pub status_drawn : (skin : PageSkin) (name words : List ℕ) (s : State) (dress : MadSkin) (line : FmtLine) (area : Area) (old new : Trace)
     → dress ≡ status_skin skin.status → words ≡ status_words name s → IsStatusLine dress words s.page.columns line → area ≡ last_row s.page.columns s.page.rows → TookWith old new (IsLineIn (row_skin dress) line area) → TookWith old new (IsStatus skin name s)
@@ -163,6 +176,25 @@ status_drawn skin name words s dress line area old new dressed said is at drawn 
     took_so old new (IsLineIn (row_skin dress) line (last_row s.page.columns s.page.rows)) (IsStatus skin name s)
     (λ text shown. record { dress = dress; dressed = dressed; line = line; is = subst (λ (w : List ℕ). IsStatusLine dress w s.page.columns line) said is; shown = shown })
     (subst (λ (a : Area). TookWith old new (IsLineIn (row_skin dress) line a)) at drawn)
+
+-- the same of a call that drew it, or was refused
+pub status_written : {T : Type 0} (r : Result T Error) (skin : PageSkin) (name words : List ℕ) (s : State) (dress : MadSkin) (line : FmtLine) (area : Area) (old new : Trace)
+    → dress ≡ status_skin skin.status → words ≡ status_words name s → IsStatusLine dress words s.page.columns line → area ≡ last_row s.page.columns s.page.rows
+    → Draws old (area_bytes (row_skin dress) None (line ∷ []) area 0) r new → WritesStatus skin name s old r new
+status_written {T} r skin name words s dress line area old new dressed said is at h =
+    let row : Area = last_row s.page.columns s.page.rows in
+    inl (
+      line,
+      subst (λ (d : MadSkin). IsStatusLine d (status_words name s) s.page.columns line) dressed (subst (λ (w : List ℕ). IsStatusLine dress w s.page.columns line) said is),
+      subst (λ (d : MadSkin). Draws old (area_bytes (row_skin d) None (line ∷ []) row 0) r new) dressed (subst (λ (a : Area). Draws old (area_bytes (row_skin dress) None (line ∷ []) a 0) r new) at h),
+    )
+
+-- what is shown of it, where it was drawn
+pub status_kept : {T : Type 0} (r : Result T Error) (skin : PageSkin) (name words : List ℕ) (s : State) (dress : MadSkin) (line : FmtLine) (area : Area) (old new : Trace)
+    → dress ≡ status_skin skin.status → words ≡ status_words name s → IsStatusLine dress words s.page.columns line → area ≡ last_row s.page.columns s.page.rows
+    → OnOk r (TookWith old new (IsLineIn (row_skin dress) line area)) → OnOk r (TookWith old new (IsStatus skin name s))
+status_kept {T} (Ok x) skin name words s dress line area old new dressed said is at drawn = status_drawn skin name words s dress line area old new dressed said is at drawn
+status_kept {T} (Err e) skin name words s dress line area old new dressed said is at drawn = tt
 
 -- ---- what goes out
 
@@ -202,11 +234,11 @@ unshown_exit skin name asks s old new r e is h =
     subst (λ (t : Result Unit Error). MatchResult t (λ _. IsShown skin name asks s old new) (λ d. IsUnshown skin name asks s old d new)) (sym (p.1 ∙ ap Err p.2)) h
 
 -- the hits of the rows on the screen, along what is equal
-pub hits_along : (skin dress : RowSkin) (width columns height rows top : ℕ) (text sought : List ℕ) (shown lines : List FmtLine) (front fronts : List Front) (given starts : List ℕ) (old new : Trace) → dress ≡ skin → width ≡ columns → height ≡ rows → text ≡ sought
-    → shown ≡ lines → front ≡ fronts → given ≡ starts → TookWith old new (AreRowsMarked dress width text shown front given 0 (range_with_len top (min height (length shown - top))))
-    → TookWith old new (AreRowsMarked skin columns sought lines fronts starts 0 (range_with_len top (min rows (length lines - top))))
-hits_along skin dress width columns height rows top text sought shown lines front fronts given starts old new a b d e f g i h =
-    let of : RowSkin → ℕ → ℕ → List ℕ → List FmtLine → List Front → List ℕ → Type 0 = λ k n r s ls fs ts. TookWith old new (AreRowsMarked k n s ls fs ts 0 (range_with_len top (min r (length ls - top)))) in
+pub hits_along : (skin dress : RowSkin) (style : CompoundStyle) (width columns height rows top : ℕ) (text sought : List ℕ) (shown lines : List FmtLine) (front fronts : List Front) (given starts : List ℕ) (old new : Trace) → dress ≡ skin → width ≡ columns → height ≡ rows → text ≡ sought
+    → shown ≡ lines → front ≡ fronts → given ≡ starts → TookWith old new (AreRowsMarked dress style width text shown front given 0 (range_with_len top (min height (length shown - top))))
+    → TookWith old new (AreRowsMarked skin style columns sought lines fronts starts 0 (range_with_len top (min rows (length lines - top))))
+hits_along skin dress style width columns height rows top text sought shown lines front fronts given starts old new a b d e f g i h =
+    let of : RowSkin → ℕ → ℕ → List ℕ → List FmtLine → List Front → List ℕ → Type 0 = λ k n r s ls fs ts. TookWith old new (AreRowsMarked k style n s ls fs ts 0 (range_with_len top (min r (length ls - top)))) in
     subst (λ (k : RowSkin). of k columns rows sought lines fronts starts) a
     (subst (λ (n : ℕ). of dress n rows sought lines fronts starts) b
     (subst (λ (r : ℕ). of dress width r sought lines fronts starts) d

@@ -48,7 +48,7 @@ counted skin width HorizontalRule h = tt
 
 -- each row from one on, as many as are left of so many
 stand_from : (skin : PageSkin) (s : State) (y n row : ℕ) (bytes : List ℕ) → 5 ≤ s.page.columns → s.page.columns < 2 ^ 16 → row ≡ s.page.top + y → y + n ≤ (area_of s).height → text_columns skin s < 2 ^ 16 → KeepsTextPremises skin s
-    → (marked : AreRowsMarked (paged_skin skin) (text_columns skin s) s.sought s.laid.lines.items s.laid.fronts.items s.laid.parts.items y (range_with_len row n) bytes) → StandOnScreen skin s y (range_with_len row n) bytes marked
+    → (marked : AreRowsMarked (paged_skin skin) skin.hit (text_columns skin s) s.sought s.laid.lines.items s.laid.fronts.items s.laid.parts.items y (range_with_len row n) bytes) → StandOnScreen skin s y (range_with_len row n) bytes marked
 stand_from skin s y zero row bytes wide short at fits narrow keeps marked = tt
 stand_from skin s y (suc n) row bytes wide short at fits narrow keeps marked =
     let dress : RowSkin = paged_skin skin in
@@ -57,7 +57,7 @@ stand_from skin s y (suc n) row bytes wide short at fits narrow keeps marked =
     let front : FrontContent = front_at s.laid.fronts.items row in
     let hits : List Marked = marked.3.hits in
     let line : FmtLine = marked.3.are.line in
-    let placed : List Marked = map (hit_behind (capped (fronts dress front.gutters))) hits in
+    let placed : List Marked = map (hit_behind skin.hit (capped (fronts dress front.gutters))) hits in
     let shown_is : slice_get (drop s.page.top lines) y ≡ Some line = got_behind lines s.page.top y ∙ (ap (slice_get lines) (sym at) ∙ marked.3.are.is) in
     let front_is : front_at (drop s.page.top s.laid.fronts.items) y ≡ front = front_behind s.laid.fronts.items s.page.top y ∙ ap (front_at s.laid.fronts.items) (sym at) in
     let drawn : IsDrawableBehind dress width (row_behind front line) =
@@ -65,8 +65,8 @@ stand_from skin s y (suc n) row bytes wide short at fits narrow keeps marked =
     (drawable_on_screen skin s y line wide short keeps (omega (arith, fits)) (ap (slice_get lines) (sym at) ∙ marked.3.are.is)) in
     let inner : RowSkin = line_skin dress front.gutters in
     let rest : ℕ = width - columns_of (has_ascii_boxes dress) front.gutters in
-    let stand : StandInRow dress width front line hits =
-    hits_change_no_character dress width s.sought lines front s.laid.parts.items row hits line marked.3.are.is narrow keeps.faces (record { typed = drawn.typed; counts = counted inner rest line drawn.line }) (any_shown inner rest line drawn.line) marked.3.are in (
+    let stand : StandInRow dress skin.hit width front line hits =
+    hits_change_no_character dress skin.hit width s.sought lines front s.laid.parts.items row hits line marked.3.are.is narrow keeps.faces (record { typed = drawn.typed; counts = counted inner rest line drawn.line }) (any_shown inner rest line drawn.line) marked.3.are in (
       subst (λ (o : Option FmtLine). AllByRecursion (StandsWithin width (row_shown dress width (front_at (drop s.page.top s.laid.fronts.items) y) o)) placed) (sym shown_is)
           (subst (λ (f : FrontContent). AllByRecursion (StandsWithin width (row_shown dress width f (Some line))) placed) (sym front_is) stand),
       stand_from skin s (y + 1) n (row + 1) marked.1 wide short (omega (arith, at)) (omega (arith, fits)) narrow keeps marked.4,

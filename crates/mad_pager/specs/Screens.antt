@@ -1,5 +1,5 @@
 -- What the screen shows of a session.
-use Rattle.std.specs.Prelude.{◌≡◌, ℕ, ◌+◌, ◌-◌, ◌<◌, ◌≤◌, ◌++◌, nat_lt, ◌||◌, Bool, true, false, List, [], ◌∷◌, length, count_by, min, take, codes, decimal, Option, Some, None, IfSome, if◌then◌else◌}
+use Rattle.std.specs.Prelude.{◌≡◌, ℕ, ◌+◌, ◌-◌, ◌<◌, ◌≤◌, ◌++◌, nat_lt, ◌||◌, Bool, true, false, List, [], ◌∷◌, length, count_by, min, take, codes, decimal, Option, Some, None, IfSome, Result, if◌then◌else◌}
 use Rattle.std.specs.List.{flat_map, range_with_len}
 use Rattle.std.specs.Str.{chars}
 use Rattle.mad_md.specs.Flagged.{flagged, flagged_of, unflagged}
@@ -23,6 +23,7 @@ use Rattle.mad_pages.specs.PagedPages.{sections_in}
 use Rattle.mad_rows.specs.RowStyles.{line_rules}
 use Rattle.mad_page.specs.Pages.{percent}
 use Rattle.mad_search.specs.Searches.{composite_text}
+use Rattle.mad_term.specs.Draws.{DrawsSome}
 use Rattle.mad_term.specs.Trace.{Trace, after, flushed, CutShort}
 use Rattle.mad_term.specs.declared.errors.Error.{Error}
 use Rattle.mad_term.specs.declared.errors.Error.TheVariants.{IO, InsufficientWidth, Memory}
@@ -38,7 +39,7 @@ use Rattle.mad_field.specs.Drawn.{row_pieces}
 use Rattle.mad_layout.specs.Drawable.{AreDrawable}
 use Rattle.mad_layout.specs.RowSkins.{row_skin}
 use Rattle.mad_layout.specs.Skins.{no_style_skin}
-use Rattle.mad_layout.specs.Shown.{area_row}
+use Rattle.mad_layout.specs.Shown.{area_bytes, area_row}
 use Rattle.mad_layout.specs.declared.skin.MadSkin.{MadSkin}
 use Rattle.mad_page_skin.specs.declared.page_skin.PageSkin.{PageSkin}
 use Rattle.mad_rows.specs.declared.row_skin.RowSkin.{RowSkin}
@@ -64,15 +65,19 @@ text_columns skin s = columns_beside (bar_of skin s) (area_of s).width
 
 -- the text's rows from the top one on, in these columns
 abbrev pub text_rows : PageSkin → State → ℕ → List RowPiece
-text_rows skin s = page_rows (paged_skin skin) (bar_of skin s) s.laid.lines.items s.laid.fronts.items s.page.top s.page.columns
+text_rows skin s = page_rows (paged_skin skin) (bar_of skin s) s.laid.lines.items s.laid.fronts.items s.page.top (area_of s).width
 
 -- the text's rows beside the bar
 abbrev pub text_pane : PageSkin → State → Pane
 text_pane skin s = record { area = area_of s; row = beside_bar (bar_of skin s) (text_rows skin s) }
 
--- one line in the last row
+-- the area of the status: the last row
+abbrev pub status_area : State → Area
+status_area s = last_row s.page.columns s.page.rows
+
+-- one line in it
 abbrev pub status_pane : RowSkin → FmtLine → State → Pane
-status_pane skin line s = record { area = last_row s.page.columns s.page.rows; row = area_row skin None (line ∷ []) (last_row s.page.columns s.page.rows) 0 }
+status_pane skin line s = record { area = status_area s; row = area_row skin None (line ∷ []) (status_area s) 0 }
 
 -- the slash before what is being typed
 abbrev pub prompt_row : ℕ → List RowPiece
@@ -126,8 +131,20 @@ pub record IsStatus (skin : PageSkin) (name : List ℕ) (s : State) (bytes : Lis
   pub dress : MadSkin
   pub dressed : dress ≡ status_skin skin.status
   pub line : FmtLine
-  pub is : IsStatusLine dress (status_words name s) s.page.columns line
-  pub shown : IsLineIn (row_skin dress) line (last_row s.page.columns s.page.rows) bytes
+  pub is : IsStatusLine dress (status_words name s) (status_area s).width line
+  pub shown : IsLineIn (row_skin dress) line (status_area s) bytes
+
+-- the line of a status
+abbrev pub IsLineOfStatus : PageSkin → List ℕ → State → FmtLine → Type 0
+IsLineOfStatus skin name s line = IsStatusLine (status_skin skin.status) (status_words name s) (status_area s).width line
+
+-- what is written of it
+abbrev pub status_bytes : PageSkin → State → FmtLine → List ℕ
+status_bytes skin s line = area_bytes (row_skin (status_skin skin.status)) None (line ∷ []) (status_area s) 0
+
+-- What a call does that draws a status: its line goes out whole, or it is refused. Where memory for the line is refused, nothing went out.
+abbrev pub WritesStatus : {T : Type 0} → PageSkin → List ℕ → State → Trace → Result T Error → Trace → Type 0
+WritesStatus skin name s old r new = DrawsSome (IsLineOfStatus skin name s) (status_bytes skin s) old r new
 
 -- ---- what a session keeps
 
@@ -158,7 +175,7 @@ pub record KeepsTextPremises (skin : PageSkin) (s : State) : Type 0 where
   pub laid : IsLaidFor skin page s.page.columns s.laid
   pub keeps : AllByRecursion (KeepsRoom (paged_skin skin) (layout_width s.page.columns)) (sections_at (paged_skin skin) (layout_width s.page.columns) (sections_in (take (count_begun s) page)))
   pub faces : AreFacesShown (paged_skin skin)
-  pub bar : IfSome (bar_of skin s) (IsBarShown s.page.columns)
+  pub bar : IfSome (bar_of skin s) (IsBarShown (area_of s).width)
 
 -- These bytes show the text from its top row on, beside its bar. The bar has bytes of its own, which show it in the last column whatever was read
 -- before them.
@@ -188,8 +205,8 @@ pub record IsStatusShown (skin : PageSkin) (name : List ℕ) (s : State) (bytes 
   pub dress : MadSkin
   pub dressed : dress ≡ status_skin skin.status
   pub line : FmtLine
-  pub status : IsStatusLine dress (status_words name s) s.page.columns line
-  pub shown : KeepsTextPremises skin s → AreDrawable (row_skin dress) s.page.columns (line ∷ []) → ArePanesShown (text_pane skin s ∷ status_pane (row_skin dress) line s ∷ []) bytes
+  pub status : IsStatusLine dress (status_words name s) (status_area s).width line
+  pub shown : KeepsTextPremises skin s → AreDrawable (row_skin dress) (status_area s).width (line ∷ []) → ArePanesShown (text_pane skin s ∷ status_pane (row_skin dress) line s ∷ []) bytes
 
 -- These bytes show the text and the last row of a session: one of these two. The text comes first, with its bar by moves of its own.
 pub record ArePanesDrawn (skin : PageSkin) (name : List ℕ) (s : State) (bytes : List ℕ) : Type 0 where
@@ -204,9 +221,9 @@ pub record ArePanesDrawn (skin : PageSkin) (name : List ℕ) (s : State) (bytes 
 abbrev pub rows_shown : State → List ℕ
 rows_shown s = range_with_len s.page.top (min (area_of s).height (length s.laid.lines.items - s.page.top))
 
--- these bytes mark what is sought in these rows, which have the columns that the text is drawn in
+-- these bytes mark what is sought in these rows, which have the columns that the text is drawn in, by the style of hits
 abbrev pub AreHitsDrawn : PageSkin → State → List ℕ → Type 0
-AreHitsDrawn skin s bytes = AreRowsMarked (paged_skin skin) (text_columns skin s) s.sought s.laid.lines.items s.laid.fronts.items s.laid.parts.items 0 (rows_shown s) bytes
+AreHitsDrawn skin s bytes = AreRowsMarked (paged_skin skin) skin.hit (text_columns skin s) s.sought s.laid.lines.items s.laid.fronts.items s.laid.parts.items 0 (rows_shown s) bytes
 
 -- These bytes show a session: first the text and the last row, and then, over the text, what is sought. Each byte of a hit is written in the cells of
 -- the hit alone.

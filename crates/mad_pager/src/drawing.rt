@@ -66,7 +66,7 @@ impl Session<'_> {
         self.page.columns < LEAST_COLUMNS || self.page.rows < LEAST_ROWS
     }
 
-    // Draws the text beside its bar, in the last row what is typed or the status, and last what is sought once more, reversed.
+    // Draws the text beside its bar, in the last row what is typed or the status, and last what is sought once more, in the style of hits.
     fn draw<O: Out>(&self, alloc: Global, out: &mut O) -> Result<(), Error>
         requires { is_small (state_of self.now) ≡ false }
         ensures { OnOk result (TookWith (O.seen out.old) (O.seen out.new) (IsDrawing self.now.skin.now self.now.name.now (state_of self.now))) }
@@ -86,7 +86,7 @@ impl Session<'_> {
         Ok(())
     }
 
-    // Draws what is sought once more, wherever it is on the screen.
+    // Draws what is sought once more in the style of hits, wherever it is on the screen.
     fn draw_hits<O: Out>(&self, alloc: Global, out: &mut O) -> Result<(), Error>
         ensures { OnOk result (TookWith (O.seen out.old) (O.seen out.new) (AreHitsDrawn self.now.skin.now (state_of self.now))) }
     {
@@ -94,6 +94,7 @@ impl Session<'_> {
             alloc,
             out,
             &paged_skin(self.skin),
+            self.skin.hit,
             self.laid.lines.as_slice(),
             self.laid.fronts.as_slice(),
             self.laid.parts.as_slice(),
@@ -105,7 +106,7 @@ impl Session<'_> {
         Ok(())
     }
 
-    // The bar beside the text, if not all its rows fit.
+    // The bar beside the text, if not all its rows fit, as the skin of texts has it.
     fn bar(&self) -> Option<ScrollBar>
         ensures { result ≡ bar_of self.now.skin.now (state_of self.now) }
     {
@@ -118,7 +119,7 @@ impl Session<'_> {
         )
     }
 
-    // Draws the text from its top row on, with links that one sees, and its bar by moves of its own.
+    // Draws the text from its top row on in the skin of pages, and its bar by moves of its own.
     fn draw_lines<O: Out>(&self, alloc: Global, out: &mut O) -> Result<(), Error>
         requires { is_small (state_of self.now) ≡ false }
         ensures { OnOk result (TookWith (O.seen out.old) (O.seen out.new) (AreLinesShown self.now.skin.now (state_of self.now))) }
@@ -150,7 +151,7 @@ impl Session<'_> {
         Ok(())
     }
 
-    // Draws a slash, and what is typed after it.
+    // Draws a slash without a style, and what is typed after it in the styles of its field.
     fn draw_typed<O: Out>(&self, alloc: Global, out: &mut O) -> Result<(), Error>
         ensures { OnOk result (TookWith (O.seen out.old) (O.seen out.new) (IsFieldRow (state_of self.now))) }
     {
@@ -159,7 +160,7 @@ impl Session<'_> {
         Ok(())
     }
 
-    // Draws what is typed.
+    // Draws what is typed in the styles of its field.
     fn draw_field<O: Out>(&self, out: &mut O) -> Result<(), Error>
         ensures { OnOk result (TookWith (O.seen out.old) (O.seen out.new) (IsFieldShown (state_of self.now))) }
     {

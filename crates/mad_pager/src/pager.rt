@@ -1,6 +1,6 @@
 //! A pager: a text, and a page over it while one is open.
 
-ghost use Rattle.std.specs.Prelude.{◌≡◌, IfOk, OnOk, MatchResult, None, option_map};
+ghost use Rattle.std.specs.Prelude.{◌≡◌, IfOk, OnErr, OnOk, MatchResult, None, option_map};
 ghost use Rattle.mad_pager.specs.Pagers.{leaf_of, turn_in, turn_over, view_of, IsDoneOver, IsOpened, IsOverSettled, IsOverStart, IsOverStep, IsPageStart, IsStep, IsTextStep, IsViewSettled, IsViewShown, IsViewUnshown};
 ghost use Rattle.mad_pager.specs.Sessions.{state_of, turn_of};
 ghost use Rattle.mad_outline.specs.Sources.{content_of, text_said};
@@ -55,6 +55,7 @@ impl<'s> Pager<'s> {
     pub fn apply(&mut self, alloc: Global, event: Event) -> Result<Turn, AllocError>
         ensures step { OnOk result (IsStep event (view_of self.old) (view_of self.new)) }
         ensures turn { IfOk result (λ turn. turn ≡ turn_in event (view_of self.old)) }
+        ensures err { OnErr result (self.new.over ≡ None) }
     {
         match self.over.take() {
             Some(over) => {
@@ -103,6 +104,7 @@ impl<'s> Pager<'s> {
         requires { self.now.over ≡ None }
         ensures step { OnOk result (IsTextStep event (leaf_of self.old.text) (view_of self.new)) }
         ensures turn { IfOk result (λ turn. turn ≡ turn_of event (state_of self.old.text)) }
+        ensures err { OnErr result (self.new.over ≡ None) }
     {
         let turn = self.text.apply(alloc, event)?;
         match turn.opens() {
@@ -188,6 +190,7 @@ impl<'s> Pager<'s> {
         requires { self.now.over ≡ None }
         ensures step { OnOk result (IsOverStep event (leaf_of over.entry) (leaf_of self.old.text) (view_of self.new)) }
         ensures turn { IfOk result (λ turn. turn ≡ turn_over event (leaf_of over.entry)) }
+        ensures err { OnErr result (self.new.over ≡ None) }
     {
         match over.over_answer(event) {
             Answer::Closes => Ok(Turn::Goes),
@@ -218,6 +221,7 @@ impl<'s> Pager<'s> {
         requires { self.now.over ≡ None }
         ensures step { OnOk result (IsDoneOver event (leaf_of over.entry) (leaf_of self.old.text) (view_of self.new)) }
         ensures turn { IfOk result (λ turn. turn ≡ turn_of event (state_of over.entry)) }
+        ensures err { OnErr result (self.new.over ≡ None) }
     {
         let mut over = over;
         self.text.hear(event);

@@ -1,11 +1,13 @@
 //! The last row of the screen: how much of the text was shown, its name, what is sought, and whether it wasn't found; or a colon that was typed.
 
-ghost use Rattle.std.specs.Prelude.{◌≡◌, ◌++◌, IfOk, OnOk, string_bytes};
+ghost use Rattle.std.specs.Prelude.{◌≡◌, ◌++◌, ◌∷◌, [], IfOk, OnOk, None, string_bytes};
+ghost use Rattle.mad_term.specs.Draws.{Draws};
 ghost use Rattle.mad_term.specs.Trace.{TookWith};
 ghost use Rattle.mad_measure.specs.Areas.{IsWithinLimits};
 ghost use Rattle.mad_layout.specs.RowSkins.{row_skin};
+ghost use Rattle.mad_layout.specs.Shown.{area_bytes};
 ghost use Rattle.mad_pager.specs.Sessions.{state_of};
-ghost use Rattle.mad_pager.specs.Screens.{sought_words, status_skin, status_words, IsLineIn, IsStatus, IsStatusLine};
+ghost use Rattle.mad_pager.specs.Screens.{sought_words, status_skin, status_words, IsLineIn, IsStatus, IsStatusLine, WritesStatus};
 
 use crate::places::last_row;
 use crate::session::Session;
@@ -18,20 +20,20 @@ use mad_term::{Error, Out};
 use std::alloc::{AllocError, Global};
 
 impl Session<'_> {
-    /// Draws the status in the screen's last row. Nothing is flushed.
+    /// Draws the status in the screen's last row, in the skin's style of it. Nothing is flushed.
     ///
     /// # Errors
     ///
     /// A fault of the device, or out of memory. What went out by then is a beginning of the whole.
     pub fn draw_status<O: Out>(&self, alloc: Global, out: &mut O) -> Result<(), Error>
-        ensures { OnOk result (TookWith (O.seen out.old) (O.seen out.new) (IsStatus self.now.skin.now self.now.name.now (state_of self.now))) }
+        ensures writes { WritesStatus self.now.skin.now self.now.name.now (state_of self.now) (O.seen out.old) result (O.seen out.new) }
+        ensures shown { OnOk result (TookWith (O.seen out.old) (O.seen out.new) (IsStatus self.now.skin.now self.now.name.now (state_of self.now))) }
     {
         let words = self.status_words(alloc)?;
         let skin = status_skin(self.skin.status);
         let line = status_line(alloc, words.as_str(), self.page.columns, &skin)?;
         let area = last_row(self.page.columns, self.page.rows);
-        draw_line(alloc, out, line, &skin, &area)?;
-        Ok(())
+        draw_line(alloc, out, line, &skin, &area)
     }
 
     // What the status says.
@@ -66,7 +68,7 @@ impl Session<'_> {
     }
 }
 
-// Draws a line in an area of one row.
+// Draws a line in a skin, in an area of one row.
 fn draw_line<O: Out>(
     alloc: Global,
     out: &mut O,
@@ -76,7 +78,8 @@ fn draw_line<O: Out>(
 ) -> Result<(), Error>
     requires within { IsWithinLimits area.now }
     requires one { area.now.height ≡ 1 }
-    ensures { OnOk result (TookWith (O.seen out.old) (O.seen out.new) (IsLineIn (row_skin skin.now) line.entry area.now)) }
+    ensures writes { Draws (O.seen out.old) (area_bytes (row_skin skin.now) None (line.entry ∷ []) area.now 0) result (O.seen out.new) }
+    ensures shown { OnOk result (TookWith (O.seen out.old) (O.seen out.new) (IsLineIn (row_skin skin.now) line.entry area.now)) }
 {
     let mut lines = Vec::new(alloc);
     lines.push(line)?;
@@ -85,8 +88,7 @@ fn draw_line<O: Out>(
         lines,
         width: None,
     };
-    draw_text(alloc, out, &text, area, 0, false)?;
-    Ok(())
+    draw_text(alloc, out, &text, area, 0, false)
 }
 
 // A text as a line of so many columns: what doesn't fit goes at its end, and blanks fill the rest.

@@ -8,6 +8,7 @@ use Rattle.mad_format.specs.Lists.{EachBecomes}
 use Rattle.mad_format.specs.declared.line.FmtLine.{FmtLine}
 use Rattle.mad_format.proofs.ListLemmas.{both_become}
 use Rattle.mad_blocks.specs.Layouts.{IsLayoutAt}
+use Rattle.mad_mark_runs.specs.declared.mark_runs.MarkRun.{MarkRun}
 use Rattle.mad_sections.specs.Gutters.{room, shown}
 use Rattle.mad_sections.specs.Sections.{SectionContent}
 use Rattle.mad_sections.specs.declared.gutters.Gutter.{Gutter}
@@ -15,22 +16,21 @@ use Rattle.mad_sections.specs.Unfolded.{unfolded}
 use Rattle.mad_pages.specs.PageCursors.{LaidSection}
 use Rattle.mad_pages.specs.PageLaws.{plain_rows, ArePlain, PlainIsLayout, PagesJoin, SectionsAreLayouts, LaterRowsAreOther}
 use Rattle.mad_pages.specs.PageLayouts.{IsSectionAt, BecomesAt, IsPageAt}
-use Rattle.mad_pages.specs.PageRows.{RowContent, row_content, rest_behind, behind}
+use Rattle.mad_pages.specs.PageRows.{RowContent, row_content, behind, marks_from, number_behind}
 use Rattle.mad_pages.specs.declared.page_rows.PageRow.{PageRow}
 
 -- ---- rows behind gutters
 
-rest_is : (gutters : List Gutter) (lines : List FmtLine) → behind gutters 0 lines ≡ rest_behind gutters lines
-rest_is gutters [] = refl
-rest_is gutters (line ∷ lines) = refl
-
 -- a row more; the rows from here on are the same
-pub row_more : (rows new : List PageRow) (row : PageRow) (rest : List FmtLine) → new ≡ rows ++ row ∷ [] → map row_content new ++ behind row.gutters.now 0 rest ≡ map row_content rows ++ behind row.gutters.now row.fresh (row.line ∷ rest)
-row_more rows new row rest h =
-    ap (λ (all : List PageRow). map row_content all ++ behind row.gutters.now 0 rest) h
-    ∙ ap (λ (all : List RowContent). all ++ behind row.gutters.now 0 rest) (map-append row_content rows (row ∷ []))
-    ∙ append_assoc (map row_content rows) (row_content row ∷ []) (behind row.gutters.now 0 rest)
-    ∙ ap (λ (all : List RowContent). map row_content rows ++ row_content row ∷ all) (rest_is row.gutters.now rest)
+pub row_more : (rows new : List PageRow) (row : PageRow) (marks : List MarkRun) (next : ℕ) (rest : List FmtLine) → new ≡ rows ++ row ∷ [] → next ≡ number_behind row.marks.now row.number row.line → marks ≡ marks_from row.marks.now next
+    → map row_content new ++ behind row.gutters.now 0 marks next rest ≡ map row_content rows ++ behind row.gutters.now row.fresh row.marks.now row.number (row.line ∷ rest)
+row_more rows new row marks next rest h next_is marks_are =
+    let after : List MarkRun → ℕ → List RowContent = λ m n. behind row.gutters.now 0 m n rest in
+    ap (λ (all : List PageRow). map row_content all ++ after marks next) h
+    ∙ ap (λ (all : List RowContent). all ++ after marks next) (map-append row_content rows (row ∷ []))
+    ∙ append_assoc (map row_content rows) (row_content row ∷ []) (after marks next)
+    ∙ ap (λ (m : List MarkRun). map row_content rows ++ row_content row ∷ after m next) marks_are
+    ∙ ap (λ (n : ℕ). map row_content rows ++ row_content row ∷ after (marks_from row.marks.now n) n) next_is
 
 -- ---- sections
 
@@ -110,49 +110,41 @@ laid_whole rules ascii width all left rows new h none same =
 
 -- ---- laws
 
-rest_lines : (gutters : List Gutter) (lines : List FmtLine) → map (λ (row : RowContent). row.line) (rest_behind gutters lines) ≡ lines
-rest_lines gutters [] = refl
-rest_lines gutters (line ∷ lines) = ap (λ (ls : List FmtLine). line ∷ ls) (rest_lines gutters lines)
-
 -- lines behind gutters are these lines
-pub lines_behind : (gutters : List Gutter) (fresh : ℕ) (lines : List FmtLine) → map (λ (row : RowContent). row.line) (behind gutters fresh lines) ≡ lines
-lines_behind gutters fresh [] = refl
-lines_behind gutters fresh (line ∷ lines) = ap (λ (ls : List FmtLine). line ∷ ls) (rest_lines gutters lines)
+pub lines_behind : (gutters : List Gutter) (fresh : ℕ) (marks : List MarkRun) (n : ℕ) (lines : List FmtLine) → map (λ (row : RowContent). row.line) (behind gutters fresh marks n lines) ≡ lines
+lines_behind gutters fresh marks n [] = refl
+lines_behind gutters fresh marks n (line ∷ lines) = ap (λ (ls : List FmtLine). line ∷ ls) (lines_behind gutters 0 (marks_from marks (number_behind marks n line)) (number_behind marks n line) lines)
 
-rest_gutters : (gutters : List Gutter) (lines : List FmtLine) → AllByRecursion (λ (row : RowContent). row.gutters ≡ gutters) (rest_behind gutters lines)
-rest_gutters gutters [] = tt
-rest_gutters gutters (line ∷ lines) = (refl, rest_gutters gutters lines)
-
-gutters_behind : (gutters : List Gutter) (fresh : ℕ) (lines : List FmtLine) → AllByRecursion (λ (row : RowContent). row.gutters ≡ gutters) (behind gutters fresh lines)
-gutters_behind gutters fresh [] = tt
-gutters_behind gutters fresh (line ∷ lines) = (refl, rest_gutters gutters lines)
+gutters_behind : (gutters : List Gutter) (fresh : ℕ) (marks : List MarkRun) (n : ℕ) (lines : List FmtLine) → AllByRecursion (λ (row : RowContent). row.gutters ≡ gutters) (behind gutters fresh marks n lines)
+gutters_behind gutters fresh marks n [] = tt
+gutters_behind gutters fresh marks n (line ∷ lines) = (refl, gutters_behind gutters 0 (marks_from marks (number_behind marks n line)) (number_behind marks n line) lines)
 
 -- the lines of a section's rows are a layout, and each row is behind the shown gutters
 pub sections_are_layouts : SectionsAreLayouts
 sections_are_layouts rules ascii width section rows s =
     let ends = shown ascii width section.gutters in
-    let lines : map (λ (row : RowContent). row.line) rows ≡ s.lines = ap (λ (l : List RowContent). map (λ (row : RowContent). row.line) l) s.rows_are ∙ lines_behind ends section.fresh s.lines in
+    let lines : map (λ (row : RowContent). row.line) rows ≡ s.lines = ap (λ (l : List RowContent). map (λ (row : RowContent). row.line) l) s.rows_are ∙ lines_behind ends section.fresh section.marks 0 s.lines in
     record {
       layout = subst (IsLayoutAt rules (room ascii width section.gutters) section.lines) (sym lines) s.layout;
-      gutters = subst (AllByRecursion (λ (row : RowContent). row.gutters ≡ ends)) (sym s.rows_are) (gutters_behind ends section.fresh s.lines);
+      gutters = subst (AllByRecursion (λ (row : RowContent). row.gutters ≡ ends)) (sym s.rows_are) (gutters_behind ends section.fresh section.marks 0 s.lines);
     }
 
-rest_fresh : (gutters : List Gutter) (lines : List FmtLine) → AllByRecursion (λ (row : RowContent). row.fresh ≡ 0) (rest_behind gutters lines)
-rest_fresh gutters [] = tt
-rest_fresh gutters (line ∷ lines) = (refl, rest_fresh gutters lines)
+later_fresh : (gutters : List Gutter) (marks : List MarkRun) (n : ℕ) (lines : List FmtLine) → AllByRecursion (λ (row : RowContent). row.fresh ≡ 0) (behind gutters 0 marks n lines)
+later_fresh gutters marks n [] = tt
+later_fresh gutters marks n (line ∷ lines) = (refl, later_fresh gutters (marks_from marks (number_behind marks n line)) (number_behind marks n line) lines)
 
 -- rows of which the first has so many first faces, and the others none
 abbrev OnlyFirst : ℕ → List RowContent → Type 0
 OnlyFirst fresh [] = Unit {0}
 OnlyFirst fresh (row ∷ rows) = (row.fresh ≡ fresh) × AllByRecursion (λ (row : RowContent). row.fresh ≡ 0) rows
 
-only_first : (gutters : List Gutter) (fresh : ℕ) (lines : List FmtLine) → OnlyFirst fresh (behind gutters fresh lines)
-only_first gutters fresh [] = tt
-only_first gutters fresh (line ∷ lines) = (refl, rest_fresh gutters lines)
+only_first : (gutters : List Gutter) (fresh : ℕ) (marks : List MarkRun) (n : ℕ) (lines : List FmtLine) → OnlyFirst fresh (behind gutters fresh marks n lines)
+only_first gutters fresh marks n [] = tt
+only_first gutters fresh marks n (line ∷ lines) = (refl, later_fresh gutters (marks_from marks (number_behind marks n line)) (number_behind marks n line) lines)
 
 -- no row of a section has first faces but its first one
 pub later_rows : LaterRowsAreOther
-later_rows rules ascii width section first others s = subst (OnlyFirst section.fresh) (sym s.rows_are) (only_first (shown ascii width section.gutters) section.fresh s.lines)
+later_rows rules ascii width section first others s = subst (OnlyFirst section.fresh) (sym s.rows_are) (only_first (shown ascii width section.gutters) section.fresh section.marks 0 s.lines)
 
 -- the rows of two pages are those of both together
 pub pages_join : PagesJoin
@@ -166,23 +158,23 @@ whole_room : (ascii : Bool) (width : Option ℕ) → room ascii width [] ≡ wid
 whole_room ascii None = refl
 whole_room ascii (Some width) = ap Some (omega arith)
 
-rows_plain : (lines : List FmtLine) → behind [] 0 lines ≡ plain_rows lines
+rows_plain : (lines : List FmtLine) → behind [] 0 [] 0 lines ≡ plain_rows lines
 rows_plain [] = refl
-rows_plain (line ∷ lines) = refl
+rows_plain (line ∷ lines) = ap (λ (rows : List RowContent). record { gutters = []; fresh = 0; marks = []; number = 0; line = line } ∷ rows) (rows_plain lines)
 
 plain_joined : (lines others : List FmtLine) → plain_rows (lines ++ others) ≡ plain_rows lines ++ plain_rows others
 plain_joined [] others = refl
-plain_joined (line ∷ lines) others = ap (λ (rows : List RowContent). record { gutters = []; fresh = 0; line = line } ∷ rows) (plain_joined lines others)
+plain_joined (line ∷ lines) others = ap (λ (rows : List RowContent). record { gutters = []; fresh = 0; marks = []; number = 0; line = line } ∷ rows) (plain_joined lines others)
 
 -- a section without gutters, which is told no gutters of a list, is shown as it is
-plain_one : (rules : LineRules) (ascii : Bool) (width : Option ℕ) (text : List LineContent) (own : List RowContent) → BecomesAt rules ascii width (record { gutters = []; fresh = 0; list = None; lines = text }) own → EachBecomes (IsSectionAt rules ascii width) (record { gutters = []; fresh = 0; list = None; lines = text } ∷ []) own
+plain_one : (rules : LineRules) (ascii : Bool) (width : Option ℕ) (text : List LineContent) (own : List RowContent) → BecomesAt rules ascii width (record { gutters = []; fresh = 0; list = None; marks = []; lines = text }) own → EachBecomes (IsSectionAt rules ascii width) (record { gutters = []; fresh = 0; list = None; marks = []; lines = text } ∷ []) own
 plain_one rules ascii None text own h = h
 plain_one rules ascii (Some width) text own h = h
 
 plain_first : (rules : LineRules) (ascii : Bool) (width : Option ℕ) (text : List LineContent) (texts : List (List LineContent)) (rows own others : List RowContent) → rows ≡ own ++ others
-    → EachBecomes (IsSectionAt rules ascii width) (record { gutters = []; fresh = 0; list = None; lines = text } ∷ []) own → ArePlain rules width texts others → ArePlain rules width (text ∷ texts) rows
+    → EachBecomes (IsSectionAt rules ascii width) (record { gutters = []; fresh = 0; list = None; marks = []; lines = text } ∷ []) own → ArePlain rules width texts others → ArePlain rules width (text ∷ texts) rows
 plain_first rules ascii width text texts rows own others joins (one, none, own_is, s, none_is) rest =
-    let rows_of : one ≡ plain_rows s.lines = s.rows_are ∙ ap (λ (gs : List Gutter). behind gs 0 s.lines) (no_gutters ascii width) ∙ rows_plain s.lines in
+    let rows_of : one ≡ plain_rows s.lines = s.rows_are ∙ ap (λ (gs : List Gutter). behind gs 0 [] 0 s.lines) (no_gutters ascii width) ∙ rows_plain s.lines in
     let own_rows : own ≡ plain_rows s.lines = own_is ∙ ap (λ (l : List RowContent). one ++ l) none_is ∙ append-nil one ∙ rows_of in
     record {
       lines = s.lines ++ rest.lines;

@@ -13,11 +13,11 @@ use Rattle.mad_pages.specs.PageRows.{RowContent}
 
 -- rows without gutters: these lines
 abbrev pub plain_rows : List FmtLine → List RowContent
-plain_rows lines = map (λ (line : FmtLine). record { gutters = []; fresh = 0; line = line }) lines
+plain_rows lines = map (λ (line : FmtLine). record { gutters = []; fresh = 0; marks = []; number = 0; line = line }) lines
 
 -- sections without gutters, none of which may be a list: these texts
 abbrev pub plain_sections : List (List LineContent) → List SectionContent
-plain_sections texts = map (λ (lines : List LineContent). record { gutters = []; fresh = 0; list = None; lines = lines }) texts
+plain_sections texts = map (λ (lines : List LineContent). record { gutters = []; fresh = 0; list = None; marks = []; lines = lines }) texts
 
 -- The rows of a page without gutters are lines without gutters, which are the layouts of its sections' lines one after the other.
 pub record ArePlain (rules : LineRules) (width : Option ℕ) (texts : List (List LineContent)) (rows : List RowContent) : Type 0 where

@@ -9,11 +9,12 @@ use Rattle.mad_sections.specs.Sections.{SectionContent}
 use Rattle.mad_sections.specs.Unfolded.{unfolded}
 use Rattle.mad_pages.specs.PageRows.{RowContent, behind}
 
--- The rows are those of a section at a width, if there is one: its lines laid out in the room behind its gutters, behind those that are shown.
+-- The rows are those of a section at a width, if there is one: its lines laid out in the room behind its gutters, behind those that are shown, with its
+-- marks.
 pub record IsSectionAt (rules : LineRules) (ascii : Bool) (width : Option ℕ) (section : SectionContent) (rows : List RowContent) : Type 0 where
   pub lines : List FmtLine
   pub layout : IsLayoutAt rules (room ascii width section.gutters) section.lines lines
-  pub rows_are : rows ≡ behind (shown ascii width section.gutters) section.fresh lines
+  pub rows_are : rows ≡ behind (shown ascii width section.gutters) section.fresh section.marks 0 lines
 
 -- what becomes of a section: the rows of those that are shown in its place
 abbrev pub BecomesAt : LineRules → Bool → Option ℕ → SectionContent → List RowContent → Type 0

@@ -1,9 +1,12 @@
 //! What stands in front of the lines of a page.
 
 ghost use Rattle.std.specs.Prelude.{◌≡◌, ◌++◌, OnOk, map};
-ghost use Rattle.mad_pages.specs.Fronts.{front_at, front_content, fronts_behind};
+ghost use Rattle.mad_pages.specs.Fronts.{front_at, front_content, front_of};
+ghost use Rattle.mad_pages.specs.PageRows.{behind};
 
-use crate::page_rows::PageRow;
+use crate::page_rows::{PageRow, marks_from, number_behind};
+use mad_format::FmtLine;
+use mad_mark_runs::MarkRun;
 use mad_sections::Gutter;
 use std::alloc::AllocError;
 
@@ -14,6 +17,10 @@ pub struct Front<'s> {
     pub gutters: &'s [Gutter],
     /// How many of the last gutters have their first face; the others have their other face.
     pub fresh: usize,
+    /// The marks of its section, from the character before the line on.
+    pub marks: &'s [MarkRun],
+    /// How many counted characters of its section stand before the line.
+    pub number: usize,
 }
 
 /// The front of this number. Past the last one nothing stands in front.
@@ -25,22 +32,26 @@ pub fn front_at<'s>(fronts: &[Front<'s>], row: usize) -> Front<'s>
         None => Front {
             gutters: &[],
             fresh: 0,
+            marks: &[],
+            number: 0,
         },
     }
 }
 
 /// What stands in front of a row's line.
 pub fn front_of<'s>(row: &PageRow<'s>) -> Front<'s>
-    ensures { result ≡ record { gutters = row.now.gutters; fresh = row.now.fresh } }
+    ensures { result ≡ record { gutters = row.now.gutters; fresh = row.now.fresh; marks = row.now.marks; number = row.now.number } }
 {
     Front {
         gutters: row.gutters,
         fresh: row.fresh,
+        marks: row.marks,
+        number: row.number,
     }
 }
 
-/// Puts what stands in front of so many rows of a section behind the fronts that are there. The last `fresh` gutters have their first face in the
-/// first row.
+/// Puts what stands in front of the rows of a section behind the fronts that are there. The last `fresh` gutters have their first face in the
+/// first row, whose line begins with the first of the marks.
 ///
 /// # Errors
 ///
@@ -49,16 +60,23 @@ pub(crate) fn push_fronts<'s>(
     fronts: &mut Vec<Front<'s>>,
     gutters: &'s [Gutter],
     fresh: usize,
-    count: usize,
+    marks: &'s [MarkRun],
+    lines: &[FmtLine],
 ) -> Result<(), AllocError>
-    ensures { OnOk result (map front_content fronts.new.items ≡ map front_content fronts.old.items ++ fronts_behind gutters.entry.now fresh count) }
+    ensures { OnOk result (map front_content fronts.new.items ≡ map front_content fronts.old.items ++ map front_of (behind gutters.entry.now fresh marks.entry.now 0 lines.now)) }
 {
     let mut here = fresh;
-    for _row in 0..count {
+    let mut left = marks;
+    let mut number = 0;
+    for line in lines {
         fronts.push(Front {
             gutters,
             fresh: here,
+            marks: left,
+            number,
         })?;
+        number = number_behind(left, number, line)?;
+        left = marks_from(left, number);
         here = 0;
     }
     Ok(())

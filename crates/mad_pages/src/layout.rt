@@ -109,5 +109,5 @@ fn push_folded<'s, S: LineSkin>(
 {
     let room = room_behind(section.gutters, width, ascii);
     let lines = lay_text(alloc, skin, section.text, room.columns)?;
-    push_behind(rows, room.gutters, section.fresh, lines)
+    push_behind(rows, room.gutters, section.fresh, section.marks, lines)
 }

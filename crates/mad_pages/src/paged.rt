@@ -1,6 +1,6 @@
 //! A page that is laid out for a pager: its lines, what stands in front of each, and where its sections and their parts begin.
 
-ghost use Rattle.std.specs.Prelude.{◌≡◌, ◌++◌, [], ◌∷◌, IfOk, OnOk, List, ℕ, length, map};
+ghost use Rattle.std.specs.Prelude.{◌≡◌, ◌++◌, [], ◌∷◌, IfOk, OnOk, List, ℕ, drop, length, map};
 ghost use Rattle.std.specs.List.{flat_map};
 ghost use Rattle.mad_blocks.specs.Layouts.{IsLayoutAt};
 ghost use Rattle.mad_md.specs.Lines.{contents};
@@ -154,8 +154,13 @@ impl<'s> PagedPage<'s> {
             room.columns,
             skin,
         )?;
-        let count = count_of(&self.lines).saturating_sub(above);
-        push_fronts(&mut self.fronts, room.gutters, section.fresh, count)?;
+        push_fronts(
+            &mut self.fronts,
+            room.gutters,
+            section.fresh,
+            section.marks,
+            lines_below(&self.lines, above),
+        )?;
         Ok(())
     }
 }
@@ -185,6 +190,17 @@ fn first_start(alloc: Global) -> Result<Vec<usize>, AllocError>
     let mut starts = Vec::new(alloc);
     starts.push(0)?;
     Ok(starts)
+}
+
+// The lines behind so many.
+fn lines_below<'l, 's>(lines: &'l Vec<FmtLine<'s>>, count: usize) -> &'l [FmtLine<'s>]
+    ensures { result.now ≡ drop count lines.now.items }
+{
+    if count < lines.len() {
+        &lines.as_slice()[count..]
+    } else {
+        &[]
+    }
 }
 
 // How many lines there are.

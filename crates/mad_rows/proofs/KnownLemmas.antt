@@ -34,7 +34,8 @@ or_known : (a b : Option Color) → IsColorOrNone a → IsColorOrNone b → IsCo
 or_known None b h k = k
 or_known (Some a) b h k = h
 
-overwritten_known : (style other : CompoundStyle) → IsStyle style.object_style → IsStyle other.object_style → IsStyle (overwritten style other).object_style
+-- of a style put over another the colors' numbers are bytes, where those of both are
+pub overwritten_known : (style other : CompoundStyle) → IsStyle style.object_style → IsStyle other.object_style → IsStyle (overwritten style other).object_style
 overwritten_known style other h k = record {
   foreground = or_known other.object_style.foreground_color style.object_style.foreground_color k.foreground h.foreground;
   background = or_known other.object_style.background_color style.object_style.background_color k.background h.background;

@@ -60,9 +60,26 @@ free_bytes skin kind k style ps items kind_is style_is items_are =
 
 -- ---- lines of tables
 
-asked_bytes : (right : Bool) (style : CompoundStyle) (n : ℕ) → pieces_bytes (spaces style (if right then n else 0)) ≡ pieces_bytes (if right then spaces style n else [])
+-- blanks of a number that is 0 where they aren't asked for
+pub asked_bytes : (right : Bool) (style : CompoundStyle) (n : ℕ) → pieces_bytes (spaces style (if right then n else 0)) ≡ pieces_bytes (if right then spaces style n else [])
 asked_bytes true style n = refl
 asked_bytes false style n = refl
+
+-- the same behind other pieces
+pub asked_behind : (right : Bool) (style : CompoundStyle) (n : ℕ) (ps : List RowPiece) → pieces_bytes (ps ++ spaces style (if right then n else 0)) ≡ pieces_bytes (ps ++ (if right then spaces style n else []))
+asked_behind right style n ps =
+    bytes_both ps (spaces style (if right then n else 0)) ∙ ap (λ bs. pieces_bytes ps ++ bs) (asked_bytes right style n) ∙ sym (bytes_both ps (if right then spaces style n else []))
+
+-- the bytes of what is in front of a text in a row, of it, and of what is after it, whose blanks at the end are asked for or not
+pub placed_joined : (before inner prefix text after : List RowPiece) (filled : Bool) (style : CompoundStyle) (n : ℕ)
+    → (pieces_bytes (before ++ (inner ++ prefix)) ++ pieces_bytes text) ++ pieces_bytes (after ++ spaces style (if filled then n else 0))
+    ≡ pieces_bytes (before ++ (inner ++ (prefix ++ (text ++ (after ++ (if filled then spaces style n else []))))))
+placed_joined before inner prefix text after filled style n =
+    let front : List RowPiece = before ++ (inner ++ prefix) in
+    let end : List RowPiece = after ++ (if filled then spaces style n else []) in
+    ap (λ bs. (pieces_bytes front ++ pieces_bytes text) ++ bs) (asked_behind filled style n after) ∙ append_assoc (pieces_bytes front) (pieces_bytes text) (pieces_bytes end)
+    ∙ ap (λ bs. pieces_bytes front ++ bs) (sym (bytes_both text end)) ∙ sym (bytes_both front (text ++ end))
+    ∙ ap pieces_bytes (append_assoc before (inner ++ prefix) (text ++ end) ∙ ap (λ qs. before ++ qs) (append_assoc inner prefix (text ++ end)))
 
 -- the bytes of a composite in its row: what is in front of its compounds, they, and what is after them
 placed_bytes_joined : (skin : RowSkin) (outer : Option ℕ) (margins : ℕ × ℕ) (filled : Bool) (l : FmtComposite) → let style = line_style skin l.kind in
@@ -72,18 +89,7 @@ placed_bytes_joined skin outer margins filled l =
     let style : LineStyle = line_style skin l.kind in
     let blank : CompoundStyle = skin.paragraph.compound_style in
     let blanks : ℕ × ℕ = outer_blanks style.align outer margins l in
-    let before : List RowPiece = spaces blank blanks.0 in
-    let inner : List RowPiece = spaces style.compound_style (inner_blanks l).0 in
-    let prefix : List RowPiece = prefix_pieces skin l.kind in
-    let text : List RowPiece = map (compound_piece skin style) l.compounds.items in
-    let after : List RowPiece = spaces style.compound_style (inner_blanks l).1 in
-    let filling : List RowPiece = spaces blank (if filled then blanks.1 else 0) in
-    let last : List RowPiece = if filled then spaces blank blanks.1 else [] in
-    let front : List RowPiece = before ++ (inner ++ prefix) in
-    let rest : List RowPiece = text ++ (after ++ last) in
-    ap (λ bs. (pieces_bytes front ++ pieces_bytes text) ++ bs) (bytes_both after filling ∙ ap (λ bs. pieces_bytes after ++ bs) (asked_bytes filled blank blanks.1) ∙ sym (bytes_both after last))
-    ∙ append_assoc (pieces_bytes front) (pieces_bytes text) (pieces_bytes (after ++ last)) ∙ ap (λ bs. pieces_bytes front ++ bs) (sym (bytes_both text (after ++ last))) ∙ sym (bytes_both front rest)
-    ∙ ap pieces_bytes (append_assoc before (inner ++ prefix) rest ∙ ap (λ qs. before ++ qs) (append_assoc inner prefix rest))
+    placed_joined (spaces blank blanks.0) (spaces style.compound_style (inner_blanks l).0) (prefix_pieces skin l.kind) (map (compound_piece skin style) l.compounds.items) (spaces style.compound_style (inner_blanks l).1) filled blank blanks.1
 
 -- the same by the line's style and the compounds that were found
 pub composite_joined : (skin : RowSkin) (outer : Option ℕ) (margins : ℕ × ℕ) (filled : Bool) (l : FmtComposite) (style : LineStyle) (ps : List Compound) → style ≡ line_style skin l.kind → ps ≡ l.compounds.items

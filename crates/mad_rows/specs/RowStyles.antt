@@ -1,5 +1,5 @@
 -- The styles of a skin's parts.
-use Rattle.std.specs.Prelude.{ℕ, zero, suc, Bool, List, [], ◌∷◌, slice_get, unwrap_or, min, None, is_none, ◌&&◌, ◌==◌, if◌then◌else◌}
+use Rattle.std.specs.Prelude.{ℕ, zero, suc, Bool, List, [], ◌∷◌, slice_get, unwrap_or, min, Option, Some, None, is_none, ◌&&◌, ◌==◌, if◌then◌else◌}
 use Rattle.std.specs.List.{AllByRecursion}
 use Rattle.std.specs.Str.{bytes_eq}
 use Rattle.mad_md.specs.Flagged.{Run}
@@ -79,6 +79,19 @@ IsKnownLine s = IsStyle s.compound_style.object_style
 abbrev pub IsKnownItem : OrderedItemStyle → Type 0
 IsKnownItem s = IsStyle s.index_style.object_style × IsStyle (char_style s.index_suffix).object_style
 
+-- so are those of a tone
+abbrev pub IsKnownTone : CompoundStyle → Type 0
+IsKnownTone s = IsStyle s.object_style
+
+-- what the tones of code add, the first mark's first; none in a skin without tones
+abbrev pub tones_in : Option (List CompoundStyle) → List CompoundStyle
+tones_in None = []
+tones_in (Some tones) = tones
+
+-- so in a skin
+abbrev pub tone_styles : RowSkin → List CompoundStyle
+tone_styles skin = tones_in skin.tones
+
 -- so are those of what a page shows beside its text
 pub record AreKnownSigns (page : PageStyles) : Type 0 where
   pub task : IsStyle (char_style page.task).object_style
@@ -112,6 +125,7 @@ pub record AreKnownStyles (skin : RowSkin) : Type 0 where
   pub parts : AreKnownParts skin
   pub headers : AllByRecursion IsKnownLine skin.headers
   pub items : AllByRecursion IsKnownItem skin.ordered_item_styles
+  pub tones : AllByRecursion IsKnownTone (tone_styles skin)
 
 -- how items of this level look among these; levels past the last take the last
 abbrev pub item_style_at : List OrderedItemStyle → ℕ → OrderedItemStyle

@@ -69,11 +69,16 @@ impl fmt::Display for Prefix<'_> {
 
 /// What is in front of a composite's compounds in its row: blanks outside of its place and in it, and its prefix.
 #[derive(Clone, Copy)]
-pub(crate) struct CompositeFront<'a> {
+pub struct CompositeFront<'a> {
+    /// The skin, in whose paragraphs' style the blanks outside are.
     pub skin: &'a RowSkin,
+    /// The style of the composite's line.
     pub style: &'a LineStyle,
+    /// What the composite is.
     pub kind: CompositeKind,
+    /// The blank columns outside of its place.
     pub outer: usize,
+    /// Those in it.
     pub inner: usize,
 }
 
@@ -110,11 +115,15 @@ impl fmt::Display for CompositeFront<'_> {
 
 /// What is after a composite's compounds in its row: blanks in its place, and outside of it.
 #[derive(Clone, Copy)]
-pub(crate) struct CompositeEnd<'a> {
-    skin: &'a RowSkin,
-    style: &'a LineStyle,
-    inner: usize,
-    outer: usize,
+pub struct CompositeEnd<'a> {
+    /// The skin, in whose paragraphs' style the blanks outside are.
+    pub skin: &'a RowSkin,
+    /// The style of the composite's line.
+    pub style: &'a LineStyle,
+    /// The blank columns in its place.
+    pub inner: usize,
+    /// Those outside of it.
+    pub outer: usize,
 }
 
 impl CompositeEnd<'_> {
@@ -233,7 +242,7 @@ impl<'a, 's> PlacedComposite<'a, 's> {
     }
 
     /// What is in front of its compounds, and what is after them. Its line's style is given.
-    pub(crate) fn ends(&self, style: &'a LineStyle) -> (CompositeFront<'a>, CompositeEnd<'a>)
+    pub fn ends(&self, style: &'a LineStyle) -> (CompositeFront<'a>, CompositeEnd<'a>)
         ensures front { let beside = blanks_beside style.now.align self.now.place.outer self.now.place.margins self.now.place.filled self.now.composite.now in
             result.0 ≡ record { skin = self.now.skin; style = style.entry; kind = self.now.composite.now.kind; outer = beside.0; inner = (inner_blanks self.now.composite.now).0 } }
         ensures end { let beside = blanks_beside style.now.align self.now.place.outer self.now.place.margins self.now.place.filled self.now.composite.now in

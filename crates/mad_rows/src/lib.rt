@@ -20,14 +20,18 @@ pub mod rows;
 pub mod style_commands;
 pub mod tables;
 
-pub use composites::{FreeComposite, PlacedComposite};
+pub use composites::{CompositeEnd, CompositeFront, FreeComposite, PlacedComposite};
 pub use lines::{PlacedLine, PlacedLines, PlacedRow};
 pub use page_styles::PageStyles;
 pub use read_rows::{append_read, is_aligned_left};
 pub use row_skin::{
-    FlagStyles, HeaderStyles, OrderedItemStyles, RowSkin, item_style_at, style_of_compound,
-    style_of_kind,
+    FlagStyles, HeaderStyles, OrderedItemStyles, RowSkin, ToneStyles, item_style_at, sets_nothing,
+    style_of_compound, style_of_kind,
 };
 pub use row_writing::{TextRows, append_line, append_lines};
-pub use rows::{RowPlace, composite_blanks, know_row, know_styles, line_blanks, row_blanks};
+pub use rows::{
+    RowPlace, composite_blanks, inner_blanks, inner_columns, know_row, know_styles, line_blanks,
+    margins_of, outer_blanks, row_blanks, row_columns,
+};
 pub use style_commands::StyleCommands;
+pub use tables::{spaces_beside, vertical};

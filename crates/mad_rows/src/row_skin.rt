@@ -3,7 +3,7 @@
 ghost use Rattle.std.specs.Prelude.{◌≡◌, IsTrue};
 ghost use Rattle.mad_md.specs.Flagged.{run_of};
 ghost use Rattle.std.specs.Str.{bytes_eq};
-ghost use Rattle.mad_rows.specs.RowStyles.{adds_nothing, compound_style, ellipsis_bytes, item_style_at, line_style, ordered_item_style, sets_nothing, style_of_compound, style_of_kind, with_links};
+ghost use Rattle.mad_rows.specs.RowStyles.{adds_nothing, compound_style, ellipsis_bytes, item_style_at, line_style, ordered_item_style, sets_nothing, style_of_compound, style_of_kind, tone_styles, with_links};
 
 use crate::page_styles::PageStyles;
 use mad_draw::Spaces;
@@ -23,6 +23,9 @@ pub type HeaderStyles = [LineStyle; MAX_HEADER_DEPTH];
 
 /// How the numbers of items look, by the level of their list.
 pub type OrderedItemStyles = [OrderedItemStyle; MAX_ORDERED_LIST_DEPTH];
+
+/// What the tones of code add to their line's style: those of a comment, a string, a number, a keyword, a name, a key, and of a line that is new or gone.
+pub type ToneStyles = [CompoundStyle; 8];
 
 /// The styles and the characters of a text's parts: all of a skin that a row can show.
 #[derive(Clone, Copy, PartialEq, Debug)]
@@ -63,6 +66,8 @@ pub struct RowSkin {
     pub whole_words: bool,
     /// How what a page shows beside its text looks.
     pub page: PageStyles,
+    /// The tones of code, if it is shown with tones.
+    pub tones: Option<ToneStyles>,
 }
 
 impl RowSkin {
@@ -90,6 +95,16 @@ impl RowSkin {
             CompoundStyle::with_attr(Attribute::Underlined)
         };
         RowSkin { link, ..self }
+    }
+
+    /// What the tones of code add, the first mark's first. A skin without tones has none.
+    pub fn tone_styles(&self) -> &[CompoundStyle]
+        ensures { result.now ≡ tone_styles self.now }
+    {
+        match &self.tones {
+            Some(tones) => tones,
+            None => &[],
+        }
     }
 
     // Whether bold, italic and struck out text and code look as their lines do.
@@ -217,8 +232,8 @@ pub fn style_of_compound(
     style
 }
 
-// Whether a style sets nothing.
-fn sets_nothing(style: &CompoundStyle) -> bool
+/// Whether a style sets nothing: no color, and no attribute.
+pub fn sets_nothing(style: &CompoundStyle) -> bool
     ensures { result ≡ sets_nothing style.now }
 {
     let style = style.object_style;

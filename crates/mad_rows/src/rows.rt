@@ -5,7 +5,7 @@ ghost use Rattle.std.specs.Option.{option_copied};
 ghost use Rattle.mad_draw.specs.Pieces.{AreKnown};
 ghost use Rattle.std.specs.List.{AllByRecursion, sum_by};
 ghost use Rattle.mad_rows.specs.Rows.{row_pieces, inner_blanks, inner_columns, outer_blanks, blanks_beside, margins_of, row_blanks, line_blanks, composite_blanks, table_blanks, cell_blanks, row_columns, rule_chars};
-ghost use Rattle.mad_rows.specs.RowStyles.{AreKnownParts, AreKnownSigns, AreKnownStyles, IsKnownItem, IsKnownLine};
+ghost use Rattle.mad_rows.specs.RowStyles.{AreKnownParts, AreKnownSigns, AreKnownStyles, IsKnownItem, IsKnownLine, IsKnownTone};
 ghost use Rattle.mad_wrap.specs.WrapLines.{capped};
 
 use crate::page_styles::PageStyles;
@@ -14,7 +14,7 @@ use mad_draw::RuleChars;
 use mad_format::{FmtComposite, FmtLine, RelativePosition, rule_columns};
 use mad_md::Alignment;
 use mad_measure::Spacing;
-use mad_style::{LineStyle, OrderedItemStyle, TableBorderChars};
+use mad_style::{CompoundStyle, LineStyle, OrderedItemStyle, TableBorderChars};
 
 /// Where a composite is in a row, in columns.
 #[derive(Clone, Copy)]
@@ -28,14 +28,14 @@ pub struct RowPlace {
 }
 
 /// The blank columns left and right of a composite in its own place.
-pub(crate) fn inner_blanks(composite: &FmtComposite) -> (usize, usize)
+pub fn inner_blanks(composite: &FmtComposite) -> (usize, usize)
     ensures { result ≡ inner_blanks composite.now }
 {
     composite.completions()
 }
 
 /// The columns of a composite: those of its own place, or where it has none those of its text.
-pub(crate) fn inner_columns(composite: &FmtComposite) -> usize
+pub fn inner_columns(composite: &FmtComposite) -> usize
     ensures { result ≡ inner_columns composite.now }
 {
     match &composite.spacing {
@@ -56,8 +56,8 @@ pub(crate) fn blanks_beside(
     (left, if place.filled { right } else { 0 })
 }
 
-// The blank columns left and right of a composite's own place at the outer width, with the margins.
-fn outer_blanks(composite: &FmtComposite, align: Alignment, place: RowPlace) -> (usize, usize)
+/// The blank columns left and right of a composite's own place at the outer width, with the margins.
+pub fn outer_blanks(composite: &FmtComposite, align: Alignment, place: RowPlace) -> (usize, usize)
     ensures { result ≡ outer_blanks align place.outer place.margins composite.now }
 {
     let inner = inner_columns(composite);
@@ -70,11 +70,7 @@ fn outer_blanks(composite: &FmtComposite, align: Alignment, place: RowPlace) -> 
 }
 
 /// The margins of a composite: those of its layout, or where it has none those of its style at the outer width.
-pub(crate) fn margins_of(
-    skin: &RowSkin,
-    composite: &FmtComposite,
-    outer: Option<usize>,
-) -> (usize, usize)
+pub fn margins_of(skin: &RowSkin, composite: &FmtComposite, outer: Option<usize>) -> (usize, usize)
     ensures { result ≡ margins_of skin.now outer composite.now }
 {
     match composite.margins {
@@ -84,7 +80,7 @@ pub(crate) fn margins_of(
 }
 
 /// The columns of a row of cells: each has a border before it, and one more is the last.
-pub(crate) fn row_columns(cells: &[FmtComposite]) -> usize
+pub fn row_columns(cells: &[FmtComposite]) -> usize
     ensures { result ≡ capped (row_columns cells.now) }
 {
     let mut columns: usize = 0;
@@ -219,6 +215,7 @@ pub fn know_styles(skin: &RowSkin)
     know_parts(*skin);
     know_all(&skin.headers);
     know_all(&skin.ordered_item_styles);
+    know_all(skin.tone_styles());
 }
 
 // So they are in the styles of its parts.
@@ -249,6 +246,12 @@ impl KnownStyle for LineStyle {
 
 impl KnownStyle for OrderedItemStyle {
     ghost known = { λ style. IsKnownItem style };
+
+    fn know(self) {}
+}
+
+impl KnownStyle for CompoundStyle {
+    ghost known = { λ style. IsKnownTone style };
 
     fn know(self) {}
 }

@@ -45,16 +45,16 @@ impl fmt::Display for Cells<'_, '_> {
     }
 }
 
-// A vertical border.
-fn vertical(skin: &RowSkin) -> StyledChar
+/// A vertical border.
+pub fn vertical(skin: &RowSkin) -> StyledChar
     ensures { result ≡ styled_char skin.now.table.compound_style skin.now.table_border_chars.vertical }
 {
     StyledChar::new(skin.table.compound_style, skin.table_border_chars.vertical)
 }
 
-// The blanks left and right of a line of a table by its columns, at an outer width; those on its right only where they are
-// asked for.
-fn spaces_beside(
+/// The blanks left and right of a line of a table by its columns, at an outer width; those on its right only where they are
+/// asked for.
+pub fn spaces_beside(
     skin: &RowSkin,
     columns: usize,
     outer: Option<usize>,

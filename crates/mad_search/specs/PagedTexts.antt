@@ -12,7 +12,7 @@ use Rattle.mad_search.specs.declared.paged.PagedText.TheVariants.{Lines, Markdow
 
 -- lines as a section without gutters
 abbrev pub plain_section : List LineContent → SectionContent
-plain_section lines = record { gutters = []; fresh = 0; list = None; lines = lines }
+plain_section lines = record { gutters = []; fresh = 0; list = None; marks = []; lines = lines }
 
 -- lines of one part as a section, if there are some
 abbrev pub part_sections : List LineContent → List SectionContent

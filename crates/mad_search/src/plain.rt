@@ -42,6 +42,7 @@ fn push_part<'s>(sections: &mut Vec<Section<'s>>, part: Vec<Line<'s>>) -> Result
         gutters: &[],
         fresh: 0,
         list: None,
+        marks: &[],
         text: Text { lines: part },
     })?;
     Ok(())

@@ -200,7 +200,7 @@ no_list whole ascii width section none = ap (λ (list : Option (List Gutter)). u
 items_stay : (whole ascii : Bool) (width : Option ℕ) (gutters : List Gutter) (fresh : ℕ) (items : List (List LineContent)) → flat_map (unfolded whole ascii width) (list_sections gutters fresh items) ≡ list_sections gutters fresh items
 items_stay whole ascii width gutters fresh [] = refl
 items_stay whole ascii width gutters fresh (lines ∷ items) =
-    let own : SectionContent = record { gutters = gutters; fresh = fresh + 1; list = None; lines = lines } in
+    let own : SectionContent = record { gutters = gutters; fresh = fresh + 1; list = None; marks = []; lines = lines } in
     ap (λ (one : List SectionContent). one ++ flat_map (unfolded whole ascii width) (list_sections gutters 0 items)) (no_list whole ascii width own refl) ∙ ap (λ (more : List SectionContent). own ∷ more) (items_stay whole ascii width gutters 0 items)
 
 stay_in : (whole ascii : Bool) (width : Option ℕ) (room : Option ℕ) (list : Option (List Gutter)) (section : SectionContent)

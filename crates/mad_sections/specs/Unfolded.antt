@@ -14,7 +14,7 @@ lacks_room whole_words room lines = are_table lines && not (length (rows_in line
 -- items, each behind these gutters, the last of which begins with it; so do with the first item so many of those before
 abbrev pub list_sections : List Gutter → ℕ → List (List LineContent) → List SectionContent
 list_sections gutters fresh [] = []
-list_sections gutters fresh (lines ∷ items) = record { gutters = gutters; fresh = fresh + 1; list = None; lines = lines } ∷ list_sections gutters 0 items
+list_sections gutters fresh (lines ∷ items) = record { gutters = gutters; fresh = fresh + 1; list = None; marks = []; lines = lines } ∷ list_sections gutters 0 items
 
 -- the sections of a list in the place of a section
 abbrev pub as_list : ℕ → List Gutter → SectionContent → List SectionContent

@@ -103,6 +103,7 @@ fn list_below<'s>(
             gutters,
             fresh: fresh + 1,
             list: None,
+            marks: &[],
             text: Text { lines },
         })?;
         fresh = 0;

@@ -468,6 +468,7 @@ end_stop_exit r ended e live last before now at refused =
     let p = err_from_is_err_and r refused in
     subst (λ (q : Result (Unit {0}) SourceError). EndsWith live last ended before q now) (sym (p.1 ∙ ap Err p.2)) (inr at)
 
+-- what has no byte is nothing
 pub no_bytes : (l : List ℕ) → length l ≡ 0 → l ≡ []
 no_bytes [] none = refl
 no_bytes (x ∷ l) none = absurd (omega arith)

@@ -91,6 +91,7 @@ all_ended b (c ∷ d ∷ cs) p none =
 
 -- ---- a piece that is placed behind a character
 
+-- what is shown at the end is of ASCII: its bytes are its characters
 pub encode_end : (p : Place) → encode_utf8_all (end_shown p) ≡ end_shown p
 unfolding lib.Utf8.encode
 encode_end LineStart = refl

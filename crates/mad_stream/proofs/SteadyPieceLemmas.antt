@@ -13,9 +13,11 @@ use Rattle.mad_stream.specs.declared.printed.Place.TheVariants.{LineStart}
 use Rattle.mad_stream.specs.declared.steadied.Spot.{Spot}
 use Rattle.mad_stream.proofs.PrintedLemmas.{after_both, all_ended, some_then}
 
+-- nothing grows to nothing
 pub growing_none : growing [] ≡ []
 growing_none = ap (λ (cs : List ℕ). encode_utf8_all (steady_growing Opened (shown_growing true cs))) chars-nil
 
+-- no character is passed by none
 pub spot_none : spot_after start_spot (chars []) ≡ start_spot
 spot_none = ap (spot_after start_spot) chars-nil
 
@@ -23,6 +25,7 @@ spot_none = ap (spot_after start_spot) chars-nil
 both_printed : (a b : List ℕ) → IsUtf8 a → shown_growing true (chars (a ++ b)) ≡ shown_growing true (chars a) ++ piece_shown (place_after LineStart (chars a)) (chars b)
 both_printed a b utf8 = ap (shown_growing true) (chars-append a b utf8) ∙ some_then true (chars a) (chars b) LineStart refl
 
+-- as a text grows by a piece, so does what is shown of it
 pub growing_more : (a b : List ℕ) → IsUtf8 a → growing (a ++ b) ≡ growing a ++ encode_utf8_all (steady_piece (spot_after start_spot (chars a)) (chars b))
 growing_more a b utf8 =
     let first : List ℕ = shown_growing true (chars a) in
@@ -30,6 +33,7 @@ growing_more a b utf8 =
     ap (λ (cs : List ℕ). encode_utf8_all (steady_growing Opened cs)) (both_printed a b utf8) ∙ ap encode_utf8_all (growing-append Opened first second)
     ∙ encodes-append (steady_growing Opened first) (steady_growing (place_behind Opened first) second)
 
+-- the spot behind two pieces
 pub spot_more : (a b : List ℕ) → IsUtf8 a → spot_after start_spot (chars (a ++ b)) ≡ spot_after (spot_after start_spot (chars a)) (chars b)
 spot_more a b utf8 =
     let first : List ℕ = shown_growing true (chars a) in
@@ -52,6 +56,7 @@ steadied_all text =
 pub piece_made : (spot : Spot) (cs printed shown : List ℕ) → IsUtf8 printed → printed ≡ encode_utf8_all (piece_shown spot.printed cs) → shown ≡ [] ++ encode_utf8_all (steady_growing spot.steady (chars printed)) → shown ≡ encode_utf8_all (steady_piece spot cs)
 piece_made spot cs printed shown utf8 is made = made ∙ ap (λ (ds : List ℕ). encode_utf8_all (steady_growing spot.steady ds)) (sym (chars_from_encodes (piece_shown spot.printed cs) printed utf8 (sym is)))
 
+-- the spot behind a piece, as the code found it
 pub spot_made : (spot : Spot) (cs printed : List ℕ) (next : SteadyPlace) (place : _) → IsUtf8 printed → printed ≡ encode_utf8_all (piece_shown spot.printed cs) → next ≡ place_behind spot.steady (chars printed) → place ≡ place_after spot.printed cs
     → (let s : Spot = record { printed = place; steady = next } in s) ≡ spot_after spot cs
 spot_made spot cs printed next place utf8 is behind after =

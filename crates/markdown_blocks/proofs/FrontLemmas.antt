@@ -41,7 +41,8 @@ either_markup : (b m n : ℕ) → (eqb b m || eqb b n) ≡ true → is_markup m 
 either_markup b m n h one other =
     by_either (eqb b m) (eqb b n) (is_markup b ≡ true) h (λ k. ap is_markup (eqb-true b m k) ∙ one) (λ k. ap is_markup (eqb-true b n k) ∙ other)
 
-blank_markup : (b : ℕ) → is_blank_byte b ≡ true → is_markup b ≡ true
+-- a blank is markup
+pub blank_markup : (b : ℕ) → is_blank_byte b ≡ true → is_markup b ≡ true
 blank_markup b h = either_markup b 32 9 h refl refl
 
 bullet_markup : (b : ℕ) → is_bullet b ≡ true → is_markup b ≡ true

@@ -40,7 +40,8 @@ opened_within (suc room) in_paragraph rest = omega (arith, open_within (containe
 
 -- ---- what a line keeps
 
-keeps_within : (deed : Deed) (count all : ℕ) → count ≤ all → kept_after deed count all ≤ all
+-- never more containers stay than are open
+pub keeps_within : (deed : Deed) (count all : ℕ) → count ≤ all → kept_after deed count all ≤ all
 keeps_within Blank count all h = h
 keeps_within (Begins leaf) count all h = h
 keeps_within GoesOn count all h = omega arith
@@ -75,7 +76,8 @@ after_placed state count opens within room =
     done_placed state count opens (deed_of joining state.cells begun) begun.text (keeps_within (deed_of joining state.cells begun) count (length state.containers) within)
     (λ few. never_more opens.containers (is_table state.leaf) (is_paragraph state.leaf) (not (only_defines state.defining (count == length state.containers) opens.rest)) (count == length state.containers) begun.start state.cells begun.text count (length state.containers) within room few)
 
-begun_placed : (state : State) (found : Matched) → found.count ≤ length state.containers → IsPlaced state (begun_line state found)
+-- a line that the open leaf doesn't take unseen leaves the containers in their places
+pub begun_placed : (state : State) (found : Matched) → found.count ≤ length state.containers → IsPlaced state (begun_line state found)
 unfolding begun_line
 begun_placed state found within =
     after_placed state found.count _ within (opened_within (64 - found.count) (is_paragraph state.leaf && (found.count == length state.containers)) found.rest)

@@ -1,9 +1,10 @@
 -- Examples 226 to 250, computed.
 use Rattle.std.proofs.Common.{◌≡◌, [], ◌∷◌, codes, true, false, refl}
+use Rattle.code_tables.specs.declared.rules.Language.TheVariants.{Rust}
 use Rattle.mad_sections.specs.declared.gutters.Gutter.TheVariants.{Bar, Bullet, Number, Code}
 use Rattle.mad_md.specs.declared.composite.CompositeStyle.TheVariants.{Paragraph, Header}
 use Rattle.mad_md.specs.Lines.{horizontal_rule}
-use Rattle.markdown_examples.specs.Rows.{plain, flagged, row, code_row, behind, blank}
+use Rattle.markdown_examples.specs.Rows.{plain, flagged, row, code_row, behind, blank, toned_behind}
 use Rattle.markdown_reader.specs.Mapping.{link_at}
 use Rattle.markdown_reader.specs.Markdown.{printable_sections, unmarked_links}
 use Rattle.markdown_examples.specs.Sections10.{AreSections10}
@@ -61,7 +62,7 @@ e237 : printable_sections (codes "Ã©\n===\n## 1. [a]: /u\n") ≡ behind [] 0 (
 unfolding sections
 e237 = refl
 
-e238 : printable_sections (codes "![\\(<div>\n---\n```rs\n*") ≡ behind [] 0 (row (Header 2) (plain (codes "![(") ∷ []) ∷ []) ∷ blank [] ∷ behind (Code ∷ []) 1 (code_row (plain (codes "*") ∷ []) ∷ []) ∷ []
+e238 : printable_sections (codes "![\\(<div>\n---\n```rs\n*") ≡ behind [] 0 (row (Header 2) (plain (codes "![(") ∷ []) ∷ []) ∷ blank [] ∷ toned_behind (Code ∷ []) 1 Rust (codes "*") (code_row (plain (codes "*") ∷ []) ∷ []) ∷ []
 unfolding sections
 e238 = refl
 

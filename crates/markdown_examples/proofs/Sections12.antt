@@ -1,9 +1,10 @@
 -- Examples 276 to 300, computed.
 use Rattle.std.proofs.Common.{◌≡◌, [], ◌∷◌, codes, true, false, refl}
+use Rattle.code_tables.specs.declared.rules.Language.TheVariants.{Rust}
 use Rattle.mad_sections.specs.declared.gutters.Gutter.TheVariants.{Bullet, Number, Code}
 use Rattle.mad_md.specs.declared.composite.CompositeStyle.TheVariants.{Paragraph, Header}
 use Rattle.mad_md.specs.Lines.{horizontal_rule}
-use Rattle.markdown_examples.specs.Rows.{plain, flagged, row, code_row, behind, blank}
+use Rattle.markdown_examples.specs.Rows.{plain, flagged, row, code_row, behind, blank, toned_behind}
 use Rattle.markdown_reader.specs.Mapping.{link_at}
 use Rattle.markdown_reader.specs.Markdown.{printable_sections, unmarked_links}
 use Rattle.markdown_examples.specs.Sections12.{AreSections12}
@@ -21,7 +22,7 @@ l277 : unmarked_links (codes "](/u)\\*</a>!['<http://a>") ≡ link_at 0 (codes "
 unfolding sections
 l277 = refl
 
-e278 : printable_sections (codes "```rs\n<a>>](/u)---&#35;Ã©") ≡ behind (Code ∷ []) 1 (code_row (plain (codes "<a>>](/u)---&#35;Ã©") ∷ []) ∷ []) ∷ []
+e278 : printable_sections (codes "```rs\n<a>>](/u)---&#35;Ã©") ≡ toned_behind (Code ∷ []) 1 Rust (codes "<a>>](/u)---&#35;Ã©") (code_row (plain (codes "<a>>](/u)---&#35;Ã©") ∷ []) ∷ []) ∷ []
 unfolding sections
 e278 = refl
 

@@ -1,9 +1,10 @@
 -- Examples 226 to 250: their sections and links.
 use Rattle.std.specs.Prelude.{◌≡◌, [], ◌∷◌, codes, true, false}
+use Rattle.code_tables.specs.declared.rules.Language.TheVariants.{Rust}
 use Rattle.mad_sections.specs.declared.gutters.Gutter.TheVariants.{Bar, Bullet, Number, Code}
 use Rattle.mad_md.specs.declared.composite.CompositeStyle.TheVariants.{Paragraph, Header}
 use Rattle.mad_md.specs.Lines.{horizontal_rule}
-use Rattle.markdown_examples.specs.Rows.{plain, flagged, row, code_row, behind, blank}
+use Rattle.markdown_examples.specs.Rows.{plain, flagged, row, code_row, behind, blank, toned_behind}
 use Rattle.markdown_reader.specs.Mapping.{link_at}
 use Rattle.markdown_reader.specs.Markdown.{printable_sections, unmarked_links}
 
@@ -21,7 +22,7 @@ pub record AreSections10 : Type 0 where
   pub e236 : printable_sections (codes "a[a]<a>Ã©](<http://a>") ≡ behind [] 0 (row Paragraph (plain (codes "a[a]Ã©](") ∷ flagged false false false false true (codes "http://a") ∷ []) ∷ []) ∷ []
   pub l236 : unmarked_links (codes "a[a]<a>Ã©](<http://a>") ≡ link_at 0 (codes "http://a") ∷ []
   pub e237 : printable_sections (codes "Ã©\n===\n## 1. [a]: /u\n") ≡ behind [] 0 (row (Header 1) (plain (codes "Ã©") ∷ []) ∷ []) ∷ blank [] ∷ behind [] 0 (row (Header 2) (plain (codes "1. [a]: /u") ∷ []) ∷ []) ∷ []
-  pub e238 : printable_sections (codes "![\\(<div>\n---\n```rs\n*") ≡ behind [] 0 (row (Header 2) (plain (codes "![(") ∷ []) ∷ []) ∷ blank [] ∷ behind (Code ∷ []) 1 (code_row (plain (codes "*") ∷ []) ∷ []) ∷ []
+  pub e238 : printable_sections (codes "![\\(<div>\n---\n```rs\n*") ≡ behind [] 0 (row (Header 2) (plain (codes "![(") ∷ []) ∷ []) ∷ blank [] ∷ toned_behind (Code ∷ []) 1 Rust (codes "*") (code_row (plain (codes "*") ∷ []) ∷ []) ∷ []
   pub e239 : printable_sections (35 ∷ 32 ∷ 230 ∷ 166 ∷ 130 ∷ 104 ∷ 116 ∷ 116 ∷ 112 ∷ 58 ∷ 47 ∷ 47 ∷ 120 ∷ 91 ∷ 97 ∷ 93 ∷ 58 ∷ 32 ∷ 47 ∷ 117 ∷ 10 ∷ 45 ∷ 32 ∷ []) ≡ behind [] 0 (row (Header 1) (plain (230 ∷ 166 ∷ 130 ∷ 104 ∷ 116 ∷ 116 ∷ 112 ∷ 58 ∷ 47 ∷ 47 ∷ 120 ∷ 91 ∷ 97 ∷ 93 ∷ 58 ∷ 32 ∷ 47 ∷ 117 ∷ []) ∷ []) ∷ []) ∷ blank [] ∷ behind (Bullet ∷ []) 1 (row Paragraph ([]) ∷ []) ∷ []
   pub e240 : printable_sections (codes "&#35;!<http://a><div>") ≡ behind [] 0 (row Paragraph (plain (codes "#!") ∷ flagged false false false false true (codes "http://a") ∷ []) ∷ []) ∷ []
   pub l240 : unmarked_links (codes "&#35;!<http://a><div>") ≡ link_at 0 (codes "http://a") ∷ []

@@ -1,9 +1,10 @@
 -- Examples 276 to 300: their sections and links.
 use Rattle.std.specs.Prelude.{◌≡◌, [], ◌∷◌, codes, true, false}
+use Rattle.code_tables.specs.declared.rules.Language.TheVariants.{Rust}
 use Rattle.mad_sections.specs.declared.gutters.Gutter.TheVariants.{Bullet, Number, Code}
 use Rattle.mad_md.specs.declared.composite.CompositeStyle.TheVariants.{Paragraph, Header}
 use Rattle.mad_md.specs.Lines.{horizontal_rule}
-use Rattle.markdown_examples.specs.Rows.{plain, flagged, row, code_row, behind, blank}
+use Rattle.markdown_examples.specs.Rows.{plain, flagged, row, code_row, behind, blank, toned_behind}
 use Rattle.markdown_reader.specs.Mapping.{link_at}
 use Rattle.markdown_reader.specs.Markdown.{printable_sections, unmarked_links}
 
@@ -11,7 +12,7 @@ pub record AreSections12 : Type 0 where
   pub e276 : printable_sections (codes "](/u)2) \"* \n|-|-|\n\n---\n]") ≡ behind [] 0 (row Paragraph (plain (codes "](/u)2) \"* |-|-|") ∷ []) ∷ []) ∷ blank [] ∷ behind [] 0 (horizontal_rule ∷ []) ∷ blank [] ∷ behind [] 0 (row Paragraph (plain (codes "]") ∷ []) ∷ []) ∷ []
   pub e277 : printable_sections (codes "](/u)\\*</a>!['<http://a>") ≡ behind [] 0 (row Paragraph (plain (codes "](/u)*!['") ∷ flagged false false false false true (codes "http://a") ∷ []) ∷ []) ∷ []
   pub l277 : unmarked_links (codes "](/u)\\*</a>!['<http://a>") ≡ link_at 0 (codes "http://a") ∷ []
-  pub e278 : printable_sections (codes "```rs\n<a>>](/u)---&#35;Ã©") ≡ behind (Code ∷ []) 1 (code_row (plain (codes "<a>>](/u)---&#35;Ã©") ∷ []) ∷ []) ∷ []
+  pub e278 : printable_sections (codes "```rs\n<a>>](/u)---&#35;Ã©") ≡ toned_behind (Code ∷ []) 1 Rust (codes "<a>>](/u)---&#35;Ã©") (code_row (plain (codes "<a>>](/u)---&#35;Ã©") ∷ []) ∷ []) ∷ []
   pub e279 : printable_sections (codes "http://x* [a]\n\n](/u)</a>") ≡ behind [] 0 (row Paragraph (flagged false false false false true (codes "http://x") ∷ plain (codes "* [a]") ∷ []) ∷ []) ∷ blank [] ∷ behind [] 0 (row Paragraph (plain (codes "](/u)") ∷ []) ∷ []) ∷ []
   pub l279 : unmarked_links (codes "http://x* [a]\n\n](/u)</a>") ≡ link_at 0 (codes "http://x") ∷ []
   pub e280 : printable_sections (codes "~  ``<div>\\[a]: /u\n\n===\n") ≡ behind [] 0 (row Paragraph (plain (codes "~  ``[a]: /u") ∷ []) ∷ []) ∷ blank [] ∷ behind [] 0 (row Paragraph (plain (codes "===") ∷ []) ∷ []) ∷ []

@@ -1,9 +1,10 @@
 -- Examples 201 to 225: their sections and links.
 use Rattle.std.specs.Prelude.{◌≡◌, [], ◌∷◌, codes, true, false}
+use Rattle.code_tables.specs.declared.rules.Language.TheVariants.{Rust}
 use Rattle.mad_sections.specs.declared.gutters.Gutter.TheVariants.{Bar, Bullet, Number, Code}
 use Rattle.mad_md.specs.declared.composite.CompositeStyle.TheVariants.{Paragraph, Header}
 use Rattle.mad_md.specs.Lines.{horizontal_rule}
-use Rattle.markdown_examples.specs.Rows.{plain, flagged, row, code_row, behind, blank}
+use Rattle.markdown_examples.specs.Rows.{plain, flagged, row, code_row, behind, blank, toned_behind}
 use Rattle.markdown_reader.specs.Mapping.{link_at}
 use Rattle.markdown_reader.specs.Markdown.{printable_sections, unmarked_links}
 
@@ -30,7 +31,7 @@ pub record AreSections9 : Type 0 where
   pub e219 : printable_sections (codes "> \n\n\n|-|-|\n\n\n&#35;>") ≡ behind [] 0 (row Paragraph (plain (codes "|-|-|") ∷ []) ∷ []) ∷ blank [] ∷ behind [] 0 (row Paragraph (plain (codes "#>") ∷ []) ∷ []) ∷ []
   pub e220 : printable_sections (codes ">[a]: /u\nb **[](/u)") ≡ behind (Bar ∷ []) 1 (row Paragraph (plain (codes "b **") ∷ []) ∷ []) ∷ []
   pub l220 : unmarked_links (codes ">[a]: /u\nb **[](/u)") ≡ link_at 0 (codes "/u") ∷ []
-  pub e221 : printable_sections (95 ∷ 91 ∷ 10 ∷ 61 ∷ 61 ∷ 61 ∷ 10 ∷ 96 ∷ 96 ∷ 96 ∷ 114 ∷ 115 ∷ 10 ∷ 42 ∷ 42 ∷ 102 ∷ 111 ∷ 111 ∷ 226 ∷ 128 ∷ 156 ∷ []) ≡ behind [] 0 (row (Header 1) (plain (codes "_[") ∷ []) ∷ []) ∷ blank [] ∷ behind (Code ∷ []) 1 (code_row (plain (42 ∷ 42 ∷ 102 ∷ 111 ∷ 111 ∷ 226 ∷ 128 ∷ 156 ∷ []) ∷ []) ∷ []) ∷ []
+  pub e221 : printable_sections (95 ∷ 91 ∷ 10 ∷ 61 ∷ 61 ∷ 61 ∷ 10 ∷ 96 ∷ 96 ∷ 96 ∷ 114 ∷ 115 ∷ 10 ∷ 42 ∷ 42 ∷ 102 ∷ 111 ∷ 111 ∷ 226 ∷ 128 ∷ 156 ∷ []) ≡ behind [] 0 (row (Header 1) (plain (codes "_[") ∷ []) ∷ []) ∷ blank [] ∷ toned_behind (Code ∷ []) 1 Rust (42 ∷ 42 ∷ 102 ∷ 111 ∷ 111 ∷ 226 ∷ 128 ∷ 156 ∷ []) (code_row (plain (42 ∷ 42 ∷ 102 ∷ 111 ∷ 111 ∷ 226 ∷ 128 ∷ 156 ∷ []) ∷ []) ∷ []) ∷ []
   pub e222 : printable_sections (codes "__<a>~~>\n===\n<div>\n") ≡ behind [] 0 (row (Header 1) (plain (codes "__~~>") ∷ []) ∷ []) ∷ []
   pub e223 : printable_sections (codes "\n---\n</a>\t__http://x") ≡ behind [] 0 (horizontal_rule ∷ []) ∷ blank [] ∷ behind [] 0 (row Paragraph (plain (codes "__") ∷ flagged false false false false true (codes "http://x") ∷ []) ∷ []) ∷ []
   pub l223 : unmarked_links (codes "\n---\n</a>\t__http://x") ≡ link_at 2 (codes "http://x") ∷ []

@@ -109,12 +109,18 @@ code_with lines = record { parts = []; kind = Fenced; apart = false; lines = lin
 abbrev pub code_of : List Remaining → BlockContent
 code_of lines = record { kind = Fenced; apart = false; lines = lines }
 
+-- what lines do is what the first does, and then what the others do
+pub line_went : (g after : Gathering) (leaf next : Leaf) (deed : Deed) (text : Remaining) (line : List ℕ) (lines : List (List ℕ))
+    → step (state_with leaf 0) line ≡ made next deed text → record (line_done deed text g) { fresh = false } ≡ after
+    → told g (events_from (state_with leaf 0) (line ∷ lines)) ≡ told after (events_from (state_with next 0) lines)
+unfolding events_from told
+line_went g after leaf next deed text line lines e d = rw e (ap (λ (a : Gathering). told a (events_from (state_with next 0) lines)) d)
+
 -- what lines tell is what the first does, and then what the others do
 pub line_read : (g after : Gathering) (leaf next : Leaf) (deed : Deed) (text : Remaining) (line : List ℕ) (lines : List (List ℕ))
     → step (state_with leaf 0) line ≡ made next deed text → record (line_done deed text g) { fresh = false } ≡ after
     → ended g (events_from (state_with leaf 0) (line ∷ lines)) ≡ ended after (events_from (state_with next 0) lines)
-unfolding events_from told
-line_read g after leaf next deed text line lines e d = rw e (ap (λ (a : Gathering). ended a (events_from (state_with next 0) lines)) d)
+line_read g after leaf next deed text line lines e d = ap (λ (a : Gathering). (closed a).parts) (line_went g after leaf next deed text line lines e d)
 
 -- code has as its first line what stands behind its fence
 pub begin_told : (sign length indent : ℕ) (text : Remaining) → record (line_done (Begins (FencedLeaf sign length indent)) text nothing_told) { fresh = false } ≡ code_with (trimmed text ∷ [])
@@ -144,17 +150,22 @@ pub not_closing : (t : Bool) → not t ≡ true → t ≡ false
 not_closing true h = sym h
 not_closing false h = refl
 
-lines_read : (sign length indent : ℕ) (before : List Remaining) (lines others : List (List ℕ)) → list_all (is_inside sign length) lines ≡ true
-    → ended (code_with before) (events_from (open_fence sign length indent) (lines ++ others)) ≡ ended (code_with (before ++ map (taken indent) lines)) (events_from (open_fence sign length indent) others)
-lines_read sign length indent before [] others h =
-    ap (λ (ls : List Remaining). ended (code_with ls) (events_from (open_fence sign length indent) others)) (sym (append-nil before))
-lines_read sign length indent before (line ∷ lines) others h =
+-- lines that don't close the fence are its code
+lines_went : (sign length indent : ℕ) (before : List Remaining) (lines others : List (List ℕ)) → list_all (is_inside sign length) lines ≡ true
+    → told (code_with before) (events_from (open_fence sign length indent) (lines ++ others)) ≡ told (code_with (before ++ map (taken indent) lines)) (events_from (open_fence sign length indent) others)
+lines_went sign length indent before [] others h =
+    ap (λ (ls : List Remaining). told (code_with ls) (events_from (open_fence sign length indent) others)) (sym (append-nil before))
+lines_went sign length indent before (line ∷ lines) others h =
     let both = and_parts (is_inside sign length line) (list_all (is_inside sign length) lines) h in
     let text = taken indent line in
-    line_read (code_with before) (code_with (before ++ text ∷ [])) (FencedLeaf sign length indent) (FencedLeaf sign length indent) GoesOn text line (lines ++ others)
+    line_went (code_with before) (code_with (before ++ text ∷ [])) (FencedLeaf sign length indent) (FencedLeaf sign length indent) GoesOn text line (lines ++ others)
     (stays indent sign length line (not_closing _ both.0)) (line_told text before)
-    ∙ lines_read sign length indent (before ++ text ∷ []) lines others both.1
-    ∙ ap (λ (ls : List Remaining). ended (code_with ls) (events_from (open_fence sign length indent) others)) (append_assoc before (text ∷ []) (map (taken indent) lines))
+    ∙ lines_went sign length indent (before ++ text ∷ []) lines others both.1
+    ∙ ap (λ (ls : List Remaining). told (code_with ls) (events_from (open_fence sign length indent) others)) (append_assoc before (text ∷ []) (map (taken indent) lines))
+
+lines_read : (sign length indent : ℕ) (before : List Remaining) (lines others : List (List ℕ)) → list_all (is_inside sign length) lines ≡ true
+    → ended (code_with before) (events_from (open_fence sign length indent) (lines ++ others)) ≡ ended (code_with (before ++ map (taken indent) lines)) (events_from (open_fence sign length indent) others)
+lines_read sign length indent before lines others h = ap (λ (a : Gathering). (closed a).parts) (lines_went sign length indent before lines others h)
 
 -- ---- the laws
 
@@ -166,18 +177,38 @@ said_lines : (indent : ℕ) (lines : List (List ℕ)) → map text_of (map (take
 said_lines indent [] = refl
 said_lines indent (line ∷ lines) = ap (λ (ls : List (List ℕ)). unindented indent line ∷ ls) (said_lines indent lines)
 
-is_code : (text : Remaining) (info : List ℕ) (indent : ℕ) (lines : List (List ℕ)) → text.bytes ≡ info → IsCode (code_of (lines_of text indent lines)) info indent lines
+-- such lines are code
+pub is_code : (text : Remaining) (info : List ℕ) (indent : ℕ) (lines : List (List ℕ)) → text.bytes ≡ info → IsCode (code_of (lines_of text indent lines)) info indent lines
 is_code text info indent lines e = record {
   kind = refl;
   apart = refl;
   said = ap (λ (bs : List ℕ). trimmed_bytes bs ∷ map text_of (map (taken indent) lines)) e ∙ ap (λ (ls : List (List ℕ)). trimmed_bytes info ∷ ls) (said_lines indent lines);
 }
 
+begin_went : (sign length indent : ℕ) (first : List ℕ) (text : Remaining) (lines : List (List ℕ))
+    → step (state_with NothingLeaf 0) first ≡ made (FencedLeaf sign length indent) (Begins (FencedLeaf sign length indent)) text
+    → told nothing_told (events_from (state_with NothingLeaf 0) (first ∷ lines)) ≡ told (code_with (trimmed text ∷ [])) (events_from (open_fence sign length indent) lines)
+begin_went sign length indent first text lines e =
+    line_went nothing_told (code_with (trimmed text ∷ [])) NothingLeaf (FencedLeaf sign length indent) (Begins (FencedLeaf sign length indent)) text first lines e (begin_told sign length indent text)
+
 begin_read : (sign length indent : ℕ) (first : List ℕ) (text : Remaining) (lines : List (List ℕ))
     → step (state_with NothingLeaf 0) first ≡ made (FencedLeaf sign length indent) (Begins (FencedLeaf sign length indent)) text
     → ended nothing_told (events_from (state_with NothingLeaf 0) (first ∷ lines)) ≡ ended (code_with (trimmed text ∷ [])) (events_from (open_fence sign length indent) lines)
-begin_read sign length indent first text lines e =
-    line_read nothing_told (code_with (trimmed text ∷ [])) NothingLeaf (FencedLeaf sign length indent) (Begins (FencedLeaf sign length indent)) text first lines e (begin_told sign length indent text)
+begin_read sign length indent first text lines e = ap (λ (a : Gathering). (closed a).parts) (begin_went sign length indent first text lines e)
+
+open_went : (lines : List Remaining) (sign length indent : ℕ) → told (code_with lines) (events_from (open_fence sign length indent) []) ≡ code_with lines
+unfolding events_from told
+open_went lines sign length indent = refl
+
+-- the lines of a fence that none closes leave its code open
+pub fence_went : (sign length indent : ℕ) (first : List ℕ) (text : Remaining) (lines : List (List ℕ))
+    → step (state_with NothingLeaf 0) first ≡ made (FencedLeaf sign length indent) (Begins (FencedLeaf sign length indent)) text → list_all (is_inside sign length) lines ≡ true
+    → told nothing_told (events_from (state_with NothingLeaf 0) (first ∷ lines)) ≡ code_with (lines_of text indent lines)
+fence_went sign length indent first text lines e inside =
+    ap (λ (ls : List (List ℕ)). told nothing_told (events_from (state_with NothingLeaf 0) (first ∷ ls))) (sym (append-nil lines))
+    ∙ begin_went sign length indent first text (lines ++ []) e
+    ∙ lines_went sign length indent (trimmed text ∷ []) lines [] inside
+    ∙ open_went (lines_of text indent lines) sign length indent
 
 -- the parts of a text are all that its lines tell
 pub read_of : (text : List ℕ) → parts_of text ≡ ended nothing_told (events_from (state_with NothingLeaf 0) (text_lines text))

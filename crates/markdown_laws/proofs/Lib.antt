@@ -3,3 +3,13 @@ pub mod PlainLemmas
 pub mod BehindLemmas
 pub mod FenceLemmas
 pub mod MarkLemmas
+pub mod QuoteLemmas
+pub mod FlatLemmas
+pub mod AroundLemmas
+pub mod RoomLemmas
+pub mod HeldLemmas
+pub mod ItemLemmas
+pub mod FreshLemmas
+pub mod HeldFenceLemmas
+pub mod WholeLemmas
+pub mod WholeTextLemmas

@@ -1,9 +1,12 @@
 //! What holds of every text, whatever the reader does step by step.
 
 ghost use Rattle.markdown_laws.specs.Fences.{FenceEndsAtItsEnd, FenceEndsWithItsText};
+ghost use Rattle.markdown_laws.specs.Items.{FenceEndsWithItsItem, ItemHoldsItsLines};
 ghost use Rattle.markdown_laws.specs.Lines.{LinesAreAll};
 ghost use Rattle.markdown_laws.specs.Marks.{BreakIsItsLine, HeadingIsItsLine};
 ghost use Rattle.markdown_laws.specs.Plain.{PlainTextIsParagraphs};
+ghost use Rattle.markdown_laws.specs.Quotes.{FenceEndsWithItsQuote, QuoteHoldsItsLines};
+ghost use Rattle.markdown_laws.specs.Whole.{PartsTellAllLines};
 
 /// A text no line of which begins with a special sign is paragraphs: what stands between empty lines.
 #[tactic(auto, using(crate::proofs::PlainLemmas::plain))]
@@ -40,4 +43,32 @@ pub fn break_is_its_line()
 #[tactic(auto, using(crate::proofs::MarkLemmas::same_lines))]
 pub fn lines_are_all()
     ensures { LinesAreAll }
+{}
+
+/// Lines that each have a sign > in front are a quote, which holds what the lines without the signs are.
+#[tactic(auto, using(crate::proofs::QuoteLemmas::quote))]
+pub fn quote_holds_its_lines()
+    ensures { QuoteHoldsItsLines }
+{}
+
+/// A line with a marker, and lines that are indented as what follows it, are an item, which holds what these lines are without.
+pub fn item_holds_its_lines()
+    ensures { ItemHoldsItsLines }
+{}
+
+/// Code in a quote that no line closes ends with the quote, and what comes after is read as a text of its own.
+#[tactic(auto, using(crate::proofs::QuoteLemmas::fence_in_quote))]
+pub fn fence_ends_with_its_quote()
+    ensures { FenceEndsWithItsQuote }
+{}
+
+/// Code in an item that no line closes ends with the item, and what comes after is read as a text of its own.
+pub fn fence_ends_with_its_item()
+    ensures { FenceEndsWithItsItem }
+{}
+
+/// The parts of a text tell all its lines in their order, each once, but for markup.
+#[tactic(auto, using(crate::proofs::WholeTextLemmas::whole))]
+pub fn parts_tell_all_lines()
+    ensures { PartsTellAllLines }
 {}

@@ -1,3 +1,4 @@
+pub mod EndLemmas
 mod LookLemmas
 mod MarkLemmas
 mod WideColumns

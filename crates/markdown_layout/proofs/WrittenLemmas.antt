@@ -9,14 +9,14 @@ use Rattle.mad_format.proofs.ListLemmas.{both_become}
 use Rattle.mad_dressing.specs.Dressed.{dressed, dressed_page}
 use Rattle.mad_dressing.specs.declared.heading_marks.HeadingMarks.{HeadingMarks}
 use Rattle.mad_pages.proofs.PageLemmas.{LaidSoFar, laid_none, laid_on, laid_whole}
-use Rattle.mad_page_rows.specs.Faces.{has_ascii_boxes, page_row_bytes}
-use Rattle.markdown_layout.specs.WrittenPages.{rows_bytes}
+use Rattle.mad_page_rows.specs.Faces.{has_ascii_boxes}
+use Rattle.markdown_layout.specs.WrittenPages.{row_bytes, rows_bytes}
 
 -- the bytes of some rows and others are those of these, and then those of the others
 pub rows_join : (skin : RowSkin) (width : Option ℕ) (rows others : List RowContent) → rows_bytes skin width (rows ++ others) ≡ rows_bytes skin width rows ++ rows_bytes skin width others
 rows_join skin width [] others = refl
 rows_join skin width (row ∷ rows) others =
-    ap (λ (b : List ℕ). page_row_bytes skin width row ++ b) (rows_join skin width rows others) ∙ sym (append_assoc (page_row_bytes skin width row) (rows_bytes skin width rows) (rows_bytes skin width others))
+    ap (λ (b : List ℕ). row_bytes skin width row ++ b) (rows_join skin width rows others) ∙ sym (append_assoc (row_bytes skin width row) (rows_bytes skin width rows) (rows_bytes skin width others))
 
 -- so far the rows of the front sections are put after those that were there
 pub record WrittenSoFar (skin : RowSkin) (width : Option ℕ) (all left : List SectionContent) (start now : List ℕ) : Type 0 where

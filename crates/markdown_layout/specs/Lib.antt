@@ -3,6 +3,7 @@ pub mod DressedTexts
 pub mod KeptPremises
 pub mod Looks
 pub mod NestedRows
+pub mod RowEnds
 pub mod ShownFaces
 pub mod TableCells
 pub mod WrittenPages

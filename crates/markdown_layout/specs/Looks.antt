@@ -1,5 +1,6 @@
 -- Rows whose lines look otherwise than behind other gutters.
-use Rattle.std.specs.Prelude.{◌||◌, Bool, true, false, List, [], ◌∷◌}
+use Rattle.std.specs.Prelude.{◌||◌, ◌==◌, Bool, true, false, not, List, [], ◌∷◌, length}
+use Rattle.mad_pages.specs.PageRows.{RowContent}
 use Rattle.mad_sections.specs.declared.gutters.Gutter.{Gutter}
 use Rattle.mad_sections.specs.declared.gutters.Gutter.TheVariants.{Code, Below}
 
@@ -13,3 +14,7 @@ changes_look _ = false
 abbrev pub change_look : List Gutter → Bool
 change_look [] = false
 change_look (g ∷ gs) = changes_look g || change_look gs
+
+-- the line of a row may look otherwise than elsewhere: behind such a gutter, or with marks
+abbrev pub looks_otherwise : RowContent → Bool
+looks_otherwise row = change_look row.gutters || not (length row.marks == 0)

@@ -10,13 +10,18 @@ use Rattle.mad_page_rows.specs.Faces.{has_ascii_boxes, page_row_bytes}
 use Rattle.mad_dressing.specs.Dressed.{dressed_page}
 use Rattle.mad_page_skin.specs.PageSkins.{page_row_skin}
 use Rattle.mad_page_skin.specs.declared.page_skin.PageSkin.{PageSkin}
+use Rattle.markdown_layout.specs.RowEnds.{ended}
 use Rattle.mad_term.specs.Draws.{DrawsSome}
 use Rattle.mad_term.specs.Trace.{Trace}
 use Rattle.mad_term.specs.declared.errors.Error.{Error}
 
--- rows of a page, one after another, each with a newline
+-- a row of a page without the blanks at its end, which no style shows, and a newline
+abbrev pub row_bytes : RowSkin → Option ℕ → RowContent → List ℕ
+row_bytes skin width row = ended (page_row_bytes skin width row)
+
+-- rows of a page, one after another
 abbrev pub rows_bytes : RowSkin → Option ℕ → List RowContent → List ℕ
-rows_bytes skin width rows = flat_map (page_row_bytes skin width) rows
+rows_bytes skin width rows = flat_map (row_bytes skin width) rows
 
 -- What a call does that writes these sections: it draws the rows of a page of them; or memory for the rows was refused, and nothing went out.
 abbrev pub WritesPage : {T : Type 0} → RowSkin → Option ℕ → List SectionContent → Trace → Result T Error → Trace → Type 0

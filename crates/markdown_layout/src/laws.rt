@@ -4,6 +4,7 @@ ghost use Rattle.mad_layout.specs.MadeSkins.{dark_skin, light_skin, limited_to_a
 ghost use Rattle.mad_layout.specs.Skins.{default_skin, no_style_skin};
 ghost use Rattle.markdown_layout.specs.KeptPremises.{AreMarksShown};
 ghost use Rattle.markdown_layout.specs.NestedRows.{RowsNest};
+ghost use Rattle.markdown_layout.specs.RowEnds.{RowsEnd};
 ghost use Rattle.markdown_layout.specs.ShownFaces.{ListsShowFaces};
 ghost use Rattle.markdown_layout.specs.TableCells.{CellsArePlain, SectionsKeepWords};
 ghost use Rattle.mad_page_skin.specs.DarkSkins.{dark_page_skin};
@@ -11,6 +12,12 @@ ghost use Rattle.mad_page_skin.specs.LightSkins.{light_page_skin};
 ghost use Rattle.mad_page_skin.specs.PageSkins.{page_row_skin, page_skin_of};
 ghost use Rattle.mad_page_skin.specs.PlainSkins.{plain_skin};
 ghost use Rattle.mad_page_skin.specs.SixteenSkins.{sixteen_page_skin};
+
+/// A row that is written loses blanks and newlines at its end alone, and all of these.
+#[tactic(auto, using(crate::proofs::EndLemmas::rows_end))]
+pub fn rows_end()
+    ensures { RowsEnd }
+{}
 
 /// Where its gutters take less than half of the width, each row of a section is behind all of them, and the first row has the first faces of
 /// those that begin with the section.

@@ -1,16 +1,18 @@
 //! Pages written and drawn: of Markdown as people write it, and made by hand.
 //!
-//! 1. [`page_writing`]: the rows of a section, put after a string.
-//! 2. [`writing`]: a whole page.
-//! 3. [`dressed_markdown`]: a text that was read, with what stands beside its headings.
-//! 4. [`typed_pages`]: what types promise of a page. [`drawing`]: the first rows of a page in an area of the screen.
-//! 5. [`laws`]: what is said of all pages.
+//! 1. `row_ends`: no row ends in a blank that no style shows.
+//! 2. [`page_writing`]: the rows of a section, put after a string.
+//! 3. [`writing`]: a whole page.
+//! 4. [`dressed_markdown`]: a text that was read, with what stands beside its headings.
+//! 5. [`typed_pages`]: what types promise of a page. [`drawing`]: the first rows of a page in an area of the screen.
+//! 6. [`laws`]: what is said of all pages.
 #![tactic(auto)]
 
 pub mod drawing;
 pub mod dressed_markdown;
 pub mod laws;
 pub mod page_writing;
+mod row_ends;
 pub mod typed_pages;
 pub mod writing;
 

@@ -8,9 +8,10 @@ ghost use Rattle.mad_sections.specs.Sections.{section_content};
 ghost use Rattle.mad_pages.specs.PageLayouts.{BecomesAt};
 ghost use Rattle.mad_pages.specs.PageRows.{RowContent, row_content};
 ghost use Rattle.mad_page_rows.specs.Faces.{columns_behind, faces, has_ascii_boxes, page_row_bytes};
-ghost use Rattle.markdown_layout.specs.Looks.{change_look, changes_look};
-ghost use Rattle.markdown_layout.specs.WrittenPages.{rows_bytes};
+ghost use Rattle.markdown_layout.specs.Looks.{change_look, changes_look, looks_otherwise};
+ghost use Rattle.markdown_layout.specs.WrittenPages.{row_bytes, rows_bytes};
 
+use crate::row_ends::end_row;
 use mad_page_rows::faces::has_boxes;
 use mad_page_rows::{Faces, PlacedPageRow, columns_behind, has_ascii_boxes};
 use mad_pages::{PageRow, push_section};
@@ -62,6 +63,13 @@ fn change_look(gutters: &[Gutter]) -> bool
     false
 }
 
+// Whether the line of a row may look otherwise than elsewhere: behind such a gutter, or with marks.
+fn looks_otherwise(row: &PageRow) -> bool
+    ensures { result ≡ looks_otherwise (row_content row.now) }
+{
+    change_look(row.gutters) || !row.marks.is_empty()
+}
+
 // A row whose line looks as elsewhere: the faces of its gutters, and its line.
 fn append_open_row(
     rows: &mut String,
@@ -106,12 +114,8 @@ fn append_placed_row(
     write!(rows, "{placed}\n")
 }
 
-/// Puts a row of a page and a newline after the rows that are there, at a width in columns, if there is one.
-///
-/// # Errors
-///
-/// Out of memory. What the rows then end with is open.
-pub fn append_page_row(
+// A row, and a newline.
+fn append_whole_row(
     rows: &mut String,
     row: &PageRow,
     width: Option<usize>,
@@ -120,11 +124,33 @@ pub fn append_page_row(
 ) -> Result<(), AllocError>
     ensures { OnOk result (string_bytes rows.new ≡ string_bytes rows.old ++ page_row_bytes skin.now width (row_content row.now)) }
 {
-    if change_look(row.gutters) {
+    if looks_otherwise(row) {
         append_placed_row(rows, row, width, skin)
     } else {
         append_open_row(rows, row, width, skin, commands)
     }
+}
+
+/// Puts a row of a page and a newline after the rows that are there, at a width in columns, if there is one. It ends in no blank that no style
+/// shows.
+///
+/// # Errors
+///
+/// Out of memory. What the rows then end with is open.
+#[tactic(auto, using(crate::proofs::EndLemmas::row_ended))]
+pub fn append_page_row(
+    rows: &mut String,
+    row: &PageRow,
+    width: Option<usize>,
+    skin: &RowSkin,
+    commands: &mut StyleCommands,
+) -> Result<(), AllocError>
+    ensures { OnOk result (string_bytes rows.new ≡ string_bytes rows.old ++ row_bytes skin.now width (row_content row.now)) }
+{
+    let start = rows.len();
+    append_whole_row(rows, row, width, skin, commands)?;
+    end_row(rows, start)?;
+    Ok(())
 }
 
 // Rows of a page, each with a newline.

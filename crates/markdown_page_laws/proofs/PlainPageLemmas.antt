@@ -42,13 +42,16 @@ use Rattle.mad_sections.specs.declared.gutters.Gutter.{Gutter}
 use Rattle.mad_sections.specs.declared.gutters.Gutter.TheVariants as gutter
 use Rattle.mad_sections.specs.declared.gutters.Gutter.TheVariants.{Bar, AlertBar, Bullet, Number, Task, Signs, Below}
 use Rattle.mad_sections.proofs.Choices.{by_bool}
+use Rattle.mad_mark_runs.specs.declared.mark_runs.MarkRun.{MarkRun}
 use Rattle.mad_pages.specs.PageRows.{RowContent}
-use Rattle.mad_page_rows.specs.Faces.{has_ascii_boxes, has_boxes, alert_bar, below_char, box_piece, heading_sign, blanks, code_blanks, code_face, first_face, other_face, face, faces, columns_behind, back_columns, backs, level_above, in_box, ruled, line_skin, behind_pieces, page_row_pieces, page_row_bytes}
+use Rattle.mad_page_rows.specs.Faces.{has_ascii_boxes, has_boxes, alert_bar, below_char, box_piece, heading_sign, blanks, code_blanks, code_face, first_face, other_face, face, faces, columns_behind, back_columns, backs, level_above, in_box, ruled, line_skin, behind_pieces, page_row_bytes, page_row_pieces, toned_pieces}
 use Rattle.mad_page_skin.specs.PlainSkins.{plain_skin}
-use Rattle.markdown_layout.specs.WrittenPages.{dressed_bytes}
-use Rattle.markdown_page_laws.specs.Marks.{Mark, blank, quote_bar, bar_of, bullet, number, after_number, box, signs, rule, rule_below, border, rule_start, rule_over, rule_between, rule_end, mark_text, AreTextAndMarks, runs_in}
-use Rattle.markdown_page_laws.specs.PlainPages.{plain_rows, texts_of, PlainIsText, HasNoEscape, SaysNoEscape, PlainHasNoEscape}
-use Rattle.markdown_page_laws.proofs.MarkLemmas.{others_are_marks}
+use Rattle.markdown_layout.specs.RowEnds.{ended, without_end}
+use Rattle.markdown_layout.specs.WrittenPages.{dressed_bytes, row_bytes}
+use Rattle.markdown_layout.proofs.EndLemmas.{end_off, rows_end}
+use Rattle.markdown_page_laws.specs.Marks.{Mark, blank, quote_bar, bar_of, bullet, number, after_number, box, signs, rule, rule_below, border, rule_start, rule_over, rule_between, rule_end, mark_text, AreTextAndMarks, runs_in, bytes_of, text_in}
+use Rattle.markdown_page_laws.specs.PlainPages.{plain_rows, texts_of, PlainIsText, HasNoEscape, SaysNoEscape, PlainHasNoEscape, RowsEndInNoBlank}
+use Rattle.markdown_page_laws.proofs.MarkLemmas.{row_text, untoned_text}
 
 -- ---- styles that set nothing
 
@@ -231,6 +234,11 @@ bare_faces : (first : Bool) (gs : List Gutter) → AreBare (flat_map (face plain
 bare_faces first [] = tt
 bare_faces first (g ∷ gs) = bare_both (face plain_rows first g) (flat_map (face plain_rows first) gs) (if_bare first (first_face plain_rows g) (other_face plain_rows g) (bare_first g) (bare_other g)) (bare_faces first gs)
 
+-- the skin has no tones: a line with marks is as without
+bare_toned : (marks : List MarkRun) (n : ℕ) (skin : RowSkin) (outer : Option ℕ) (filled : Bool) (line : FmtLine) → AreBare (line_pieces skin outer filled line) → AreBare (toned_pieces marks [] n skin outer filled line)
+bare_toned [] n skin outer filled line h = h
+bare_toned (run ∷ runs) n skin outer filled line h = h
+
 bare_row : (outer : Option ℕ) (filled : Bool) (row : RowContent) → AreBare (page_row_pieces plain_rows outer filled row)
 bare_row outer filled row =
     let count : ℕ = length row.gutters - row.fresh in
@@ -239,7 +247,8 @@ bare_row outer filled row =
     let own : List RowPiece = behind_pieces plain_rows outer filled row in
     bare_both (faces plain_rows row.gutters row.fresh) (own ++ backs plain_rows row.gutters) (bare_both others firsts (bare_faces false (take count row.gutters)) (bare_faces true (drop count row.gutters)))
     (bare_both own (backs plain_rows row.gutters)
-    (bare_ruled (level_above row.gutters) (columns_behind (has_ascii_boxes plain_rows) outer row.gutters) (filled || in_box plain_rows row.gutters) row.line)
+    (bare_toned row.marks row.number (line_skin plain_rows row.gutters) (columns_behind (has_ascii_boxes plain_rows) outer row.gutters) (filled || in_box plain_rows row.gutters) row.line
+    (bare_ruled (level_above row.gutters) (columns_behind (has_ascii_boxes plain_rows) outer row.gutters) (filled || in_box plain_rows row.gutters) row.line))
     (bare_spaces unstyled (back_columns plain_rows row.gutters) nothing_set))
 
 -- pieces without style are written as their texts
@@ -249,7 +258,9 @@ bare_bytes (p ∷ ps) h = ap₂ (λ (own more : List ℕ). own ++ more) (unstyle
 
 -- so is a row in the skin without styles
 pub plain_is_text : PlainIsText
-plain_is_text width row = ap (λ (bytes : List ℕ). bytes ++ 10 ∷ []) (bare_bytes (page_row_pieces plain_rows width false row) (bare_row width false row))
+plain_is_text width row =
+    let pieces : List RowPiece = page_row_pieces plain_rows width false row in
+    ap (λ (bytes : List ℕ). ended (bytes ++ 10 ∷ [])) (bare_bytes pieces (bare_row width false row)) ∙ ap (λ (bytes : List ℕ). bytes ++ 10 ∷ []) (end_off (texts_of pieces) 10 refl)
 
 -- ---- no ESC
 
@@ -270,6 +281,16 @@ none_by (byte ∷ bytes) h =
 none_repeated : (count : ℕ) (bytes : List ℕ) → HasNoEscape bytes → HasNoEscape (repeat count bytes)
 none_repeated zero bytes h = tt
 none_repeated (suc count) bytes h = none_both bytes (repeat count bytes) h (none_repeated count bytes h)
+
+none_front : (xs ys : List ℕ) → HasNoEscape (xs ++ ys) → HasNoEscape xs
+none_front [] ys h = tt
+none_front (x ∷ xs) ys h = (h.0, none_front xs ys h.1)
+
+-- nor has a row that loses its end
+none_ended : (row : List ℕ) → HasNoEscape row → HasNoEscape (ended row)
+none_ended row h =
+    let cut = rows_end row in
+    none_both (without_end row) (10 ∷ []) (none_front (without_end row) cut.lost (subst HasNoEscape cut.row_is h)) (none_by (10 ∷ []) refl)
 
 none_blank : (count : ℕ) → HasNoEscape (replicate count 32)
 none_blank zero = tt
@@ -349,18 +370,35 @@ none_in (rule_over position count) = none_repeated count (encode_utf8 (rule_char
 none_in (rule_between position) = none_between position
 none_in (rule_end position) = none_end position
 
-none_woven : (runs : List Run) (ps : List RowPiece) → AreTextAndMarks plain_rows runs ps → AllByRecursion (λ (run : Run). HasNoEscape run.text) runs → HasNoEscape (texts_of ps)
-none_woven runs [] none said = tt
-none_woven runs (p ∷ ps) (inl ((mark, is), more)) said = none_both p.text (texts_of ps) (subst HasNoEscape (sym is) (none_in mark)) (none_woven runs ps more said)
-none_woven runs (p ∷ ps) (inr (run, rest, same, text, more)) said =
-    let all = subst (AllByRecursion (λ (run : Run). HasNoEscape run.text)) same said in
-    none_both p.text (texts_of ps) (subst HasNoEscape (sym text) all.0) (none_woven rest ps more all.1)
+none_back : (xs ys : List ℕ) → HasNoEscape (xs ++ ys) → HasNoEscape ys
+none_back [] ys h = h
+none_back (x ∷ xs) ys h = none_back xs ys h.1
+
+none_runs : (runs : List Run) → AllByRecursion (λ (run : Run). HasNoEscape run.text) runs → HasNoEscape (bytes_of runs)
+none_runs [] said = tt
+none_runs (run ∷ runs) said = none_both run.text (bytes_of runs) said.0 (none_runs runs said.1)
+
+none_woven : (text : List ℕ) (ps : List RowPiece) → AreTextAndMarks plain_rows text ps → HasNoEscape text → HasNoEscape (texts_of ps)
+none_woven text [] none said = tt
+none_woven text (p ∷ ps) (inl ((mark, is), more)) said = none_both p.text (texts_of ps) (subst HasNoEscape (sym is) (none_in mark)) (none_woven text ps more said)
+none_woven text (p ∷ ps) (inr (rest, same, more)) said =
+    let all : HasNoEscape (p.text ++ rest) = subst HasNoEscape same said in
+    none_both p.text (texts_of ps) (none_front p.text rest all) (none_woven rest ps more (none_back p.text rest all))
+
+-- a row in that skin is its text and marks
+plain_text : (width : Option ℕ) (row : RowContent) → AreTextAndMarks plain_rows (text_in row.line) (page_row_pieces plain_rows width false row)
+plain_text width row =
+    row_text plain_rows width false row (untoned_text (line_skin plain_rows row.gutters) (columns_behind (has_ascii_boxes plain_rows) width row.gutters) (false || in_box plain_rows row.gutters) row.marks row.number row.line)
 
 -- so what is written of rows in the skin without styles has none, where their text has none
 pub plain_has_no_escape : PlainHasNoEscape
 plain_has_no_escape width [] said = tt
 plain_has_no_escape width (row ∷ rows) said =
     let pieces : List RowPiece = page_row_pieces plain_rows width false row in
-    let own : HasNoEscape (texts_of pieces ++ 10 ∷ []) =
-    none_both (texts_of pieces) (10 ∷ []) (none_woven (runs_in row.line) pieces (others_are_marks plain_rows width false row).pieces said.0) (none_by (10 ∷ []) refl) in
-    none_both (page_row_bytes plain_rows width row) (dressed_bytes plain_skin width rows) (subst HasNoEscape (sym (plain_is_text width row)) own) (plain_has_no_escape width rows said.1)
+    let own : HasNoEscape (ended (texts_of pieces)) =
+    none_ended (texts_of pieces) (none_woven (text_in row.line) pieces (plain_text width row) (none_runs (runs_in row.line) said.0)) in
+    none_both (row_bytes plain_rows width row) (dressed_bytes plain_skin width rows) (subst HasNoEscape (sym (plain_is_text width row)) own) (plain_has_no_escape width rows said.1)
+
+-- no row that is written ends in a blank
+pub rows_end_in_no_blank : RowsEndInNoBlank
+rows_end_in_no_blank skin width row = (without_end (page_row_bytes skin width row), refl, λ front same. (rows_end (page_row_bytes skin width row)).last front 32 same refl)

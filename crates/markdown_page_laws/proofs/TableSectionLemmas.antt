@@ -34,7 +34,9 @@ use Rattle.markdown_gutters.specs.Signs.{after_box, box_of, after_line, alert_of
 use Rattle.markdown_gutters.specs.declared.forms.Form.{Form}
 use Rattle.markdown_gutters.specs.declared.forms.Form.TheVariants.{Words, Large, Listed, Boxed}
 use Rattle.markdown_reader.specs.Definitions.{definitions_of}
-use Rattle.markdown_reader.specs.Mapping.{Mapping, nothing_shown, new_gutter, with_last, is_spaced, spaced, blank_row, linked, section_of, put, passed, list_ended, begun, item_ended, ended_by, text_of, words, addresses_in, words_shown, task_by, alert_line, alert_by, paragraph_by, heading_style, table_addresses, code_shown, leaf_shown, shown_part, shown_parts}
+use Rattle.mad_mark_runs.specs.declared.mark_runs.MarkRun.{MarkRun}
+use Rattle.markdown_tones.specs.Fences.{fence_marks}
+use Rattle.markdown_reader.specs.Mapping.{Mapping, nothing_shown, new_gutter, with_last, is_spaced, spaced, blank_row, linked, section_of, put, passed, list_ended, begun, item_ended, ended_by, text_of, words, addresses_in, words_shown, task_by, alert_line, alert_by, paragraph_by, heading_style, table_addresses, code_shown, leaf_shown, shown_part, shown_parts, with_marks}
 use Rattle.markdown_reader.specs.Markdown.{printable_sections}
 use Rattle.markdown_reader.specs.Steady.{steady_section, steady_sections}
 use Rattle.markdown_page_laws.specs.TableSections.{IsNoRow, HaveNoRow, IsTableOrNone, TablesMayBeLists}
@@ -152,8 +154,8 @@ paragraph_has (Some (Signs level)) defined bytes m h = words_has defined bytes m
 paragraph_has (Some (Below level)) defined bytes m h = words_has defined bytes m h
 paragraph_has None defined bytes m h = words_has defined bytes m h
 
-code_has : (lines : List Remaining) (m : Mapping) → HasTables m → HasTables (code_shown lines m)
-code_has lines m h = put_has Boxed (code_lines 0 lines) [] m (λ n. inl (code_none 0 lines)) h
+code_has : (marks : List MarkRun) (lines : List Remaining) (m : Mapping) → HasTables m → HasTables (code_shown marks lines m)
+code_has marks lines m h = put_has Boxed (code_lines 0 lines) [] (with_marks marks m) (λ n. inl (code_none 0 lines)) h
 
 leaf_has : (defined : Defined) (kind : Kind) (lines : List Remaining) (m : Mapping) → HasTables m → HasTables (leaf_shown defined kind lines m)
 leaf_has defined ParagraphKind lines m h = paragraph_has (new_gutter m) defined (joined [] lines) m h
@@ -161,8 +163,8 @@ leaf_has defined Html lines m h = put_has Words (html_lines (joined [] lines)) [
 leaf_has defined (Heading level) lines m h =
     let rows = words defined (joined [] lines) in
     put_has Large (restyled (heading_style level) (heading_style level) rows) (addresses_in defined (joined [] lines)) m (λ n. inl (restyled_none (heading_style level) rows)) h
-leaf_has defined Indented lines m h = code_has lines m h
-leaf_has defined Fenced lines m h = code_has (drop 1 lines) m h
+leaf_has defined Indented lines m h = code_has [] lines m h
+leaf_has defined Fenced lines m h = code_has (fence_marks lines) (drop 1 lines) m h
 leaf_has defined (Table columns) lines m h = put_has Listed (table_lines defined.labels columns lines) (table_addresses defined columns lines) m (λ n. inr (table_is defined.labels columns lines, refl)) h
 leaf_has defined Rule lines m h = put_has Large (horizontal_rule ∷ []) [] m (λ n. inl (tt, tt)) h
 leaf_has defined Nothing lines m h = h

@@ -1,5 +1,5 @@
 -- What rows show beside the text of their lines.
-use Rattle.std.specs.Prelude.{◌≡◌, ◌⊎◌, ℕ, Bool, List, [], ◌∷◌, map, Option, replicate, decimal, encode_utf8}
+use Rattle.std.specs.Prelude.{◌≡◌, ◌⊎◌, ℕ, Bool, List, [], ◌∷◌, ◌++◌, map, Option, replicate, decimal, encode_utf8}
 use Rattle.std.specs.List.{flat_map, repeat}
 use Rattle.mad_md.specs.Flagged.{Run, run_of}
 use Rattle.mad_style.specs.StyledChars.{char_alone}
@@ -14,6 +14,7 @@ use Rattle.mad_rows.specs.declared.row_skin.RowSkin.{RowSkin}
 use Rattle.mad_sections.specs.TableTexts.{runs_text}
 use Rattle.mad_sections.specs.declared.gutters.Alert.{Alert}
 use Rattle.mad_pages.specs.PageRows.{RowContent}
+use Rattle.mad_marked_rows.specs.RowLaws.{AreTexts}
 use Rattle.mad_page_rows.specs.Faces.{alert_bar, below_char, box_piece, page_row_pieces}
 use Rattle.markdown_page_laws.specs.KeptMarkdown.{texts_in}
 
@@ -58,11 +59,10 @@ mark_text skin (rule_end position) = encode_utf8 (rule_chars skin.table_border_c
 abbrev pub IsMark : RowSkin → RowPiece → Type 0
 IsMark skin p = (mark : Mark) × (p.text ≡ mark_text skin mark)
 
--- Pieces are a text and marks: each run of the text is a piece, in order, and each other piece is a mark.
-abbrev pub AreTextAndMarks : RowSkin → List Run → List RowPiece → Type 0
-AreTextAndMarks skin runs [] = runs ≡ []
-AreTextAndMarks skin runs (p ∷ ps) =
-    (IsMark skin p × AreTextAndMarks skin runs ps) ⊎ ((run : Run) × (rest : List Run) × (runs ≡ run ∷ rest) × (p.text ≡ run.text) × AreTextAndMarks skin rest ps)
+-- Pieces are a text and marks: each piece that is no mark is the next stretch of the text, in order and to its end.
+abbrev pub AreTextAndMarks : RowSkin → List ℕ → List RowPiece → Type 0
+AreTextAndMarks skin text [] = text ≡ []
+AreTextAndMarks skin text (p ∷ ps) = (IsMark skin p × AreTextAndMarks skin text ps) ⊎ ((rest : List ℕ) × (text ≡ p.text ++ rest) × AreTextAndMarks skin rest ps)
 
 -- the runs of a composite
 abbrev pub runs_of : FmtComposite → List Run
@@ -74,11 +74,19 @@ runs_in (Normal l) = runs_of l
 runs_in (TableRow row) = flat_map runs_of row.cells.items
 runs_in _ = []
 
+-- the bytes of runs, one after the other
+abbrev pub bytes_of : List Run → List ℕ
+bytes_of runs = flat_map (λ (run : Run). run.text) runs
+
+-- the text of a line in bytes
+abbrev pub text_in : FmtLine → List ℕ
+text_in line = bytes_of (runs_in line)
+
 -- A row is the text of its line and marks.
 pub record IsTextAndMarks (skin : RowSkin) (outer : Option ℕ) (filled : Bool) (row : RowContent) : Type 0 where
-  pub pieces : AreTextAndMarks skin (runs_in row.line) (page_row_pieces skin outer filled row)
+  pub pieces : AreTextAndMarks skin (text_in row.line) (page_row_pieces skin outer filled row)
   pub text : runs_text (runs_in row.line) ≡ flat_map (λ text. text) (texts_in row.line)
 
--- So is each row of a page, whatever its skin and width, and whether it is filled up on its right.
+-- So is each row of a page, whatever its skin, its width and the tones of its code, and whether it is filled up on its right.
 abbrev pub OthersAreMarks : Type 0
-OthersAreMarks = (skin : RowSkin) (outer : Option ℕ) (filled : Bool) (row : RowContent) → IsTextAndMarks skin outer filled row
+OthersAreMarks = (skin : RowSkin) (outer : Option ℕ) (filled : Bool) (row : RowContent) → AreTexts row.line → IsTextAndMarks skin outer filled row

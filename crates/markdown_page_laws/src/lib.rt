@@ -5,7 +5,7 @@ ghost use Rattle.markdown_page_laws.specs.KeptMarkdown.{MarkdownIsKept, PagesSho
 ghost use Rattle.markdown_page_laws.specs.KeptOutput.{AreasShow, DrawingShows, WritingShows};
 ghost use Rattle.markdown_page_laws.specs.KeptPages.{PagesKeep};
 ghost use Rattle.markdown_page_laws.specs.Marks.{OthersAreMarks};
-ghost use Rattle.markdown_page_laws.specs.PlainPages.{PlainHasNoEscape, PlainIsText};
+ghost use Rattle.markdown_page_laws.specs.PlainPages.{PlainHasNoEscape, PlainIsText, RowsEndInNoBlank};
 ghost use Rattle.markdown_page_laws.specs.SkinTexts.{SkinsKeepText, TextIsTold};
 ghost use Rattle.markdown_page_laws.specs.TableSections.{TablesMayBeLists};
 
@@ -52,4 +52,9 @@ pub fn skins_keep_text()
 pub fn plain_pages_have_no_styles()
     ensures text { PlainIsText }
     ensures no_escape { PlainHasNoEscape }
+{}
+
+/// No row that is written has a blank in front of its newline.
+pub fn rows_end_in_no_blank()
+    ensures { RowsEndInNoBlank }
 {}

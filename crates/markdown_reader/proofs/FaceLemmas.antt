@@ -28,7 +28,9 @@ use Rattle.markdown_gutters.specs.Signs.{after_box, box_of, after_line, alert_of
 use Rattle.markdown_gutters.specs.declared.forms.Form.{Form}
 use Rattle.markdown_gutters.specs.declared.forms.Form.TheVariants.{Words, Large, Listed, Boxed}
 use Rattle.markdown_reader.specs.Faces.{items_in, faces_in, faces_of, begun_by, items_of, waiting, FacesOnce}
-use Rattle.markdown_reader.specs.Mapping.{Mapping, nothing_shown, new_gutter, with_last, is_spaced, spaced, blank_row, section_of, with_section, added, put, passed, list_ended, begun, nothing_since, item_ended, ended_by, closed, ended, words, addresses_in, words_shown, task_by, alert_line, alert_by, paragraph_by, heading_style, table_addresses, leaf_shown, shown_part, shown_parts}
+use Rattle.mad_mark_runs.specs.declared.mark_runs.MarkRun.{MarkRun}
+use Rattle.markdown_tones.specs.Fences.{fence_marks}
+use Rattle.markdown_reader.specs.Mapping.{Mapping, nothing_shown, new_gutter, with_last, is_spaced, spaced, blank_row, section_of, with_section, added, put, passed, list_ended, begun, nothing_since, item_ended, ended_by, closed, ended, words, addresses_in, words_shown, task_by, alert_line, alert_by, paragraph_by, heading_style, table_addresses, leaf_shown, shown_part, shown_parts, with_marks, code_shown}
 
 by_bool : (P : Bool → Type 0) (b : Bool) → (b ≡ true → P true) → (b ≡ false → P false) → P b
 by_bool P true on off = on refl
@@ -239,13 +241,17 @@ paragraph_began count (Some (Signs level)) defined bytes m h e = words_began cou
 paragraph_began count (Some (Below level)) defined bytes m h e = words_began count defined bytes m h
 paragraph_began count None defined bytes m h e = words_began count defined bytes m h
 
+code_began : (count : ℕ) (marks : List MarkRun) (lines : List Remaining) (m : Mapping) → Began count m → Began count (code_shown marks lines m)
+code_began count marks lines m h =
+    began_as count (put Boxed (code_lines 0 lines) [] (with_marks marks m)) _ (put_began count Boxed (code_lines 0 lines) [] (with_marks marks m) (began_as count m (with_marks marks m) h refl refl refl)) refl refl refl
+
 leaf_began : (count : ℕ) (defined : Defined) (kind : Kind) (lines : List Remaining) (m : Mapping) → Began count m → Began count (leaf_shown defined kind lines m)
 leaf_began count defined ParagraphKind lines m h = paragraph_began count (new_gutter m) defined (joined [] lines) m h refl
 leaf_began count defined Html lines m h = put_began count Words (html_lines (joined [] lines)) [] m h
 leaf_began count defined (Heading level) lines m h =
     put_began count Large (restyled (heading_style level) (heading_style level) (words defined (joined [] lines))) (addresses_in defined (joined [] lines)) m h
-leaf_began count defined Indented lines m h = put_began count Boxed (code_lines 0 lines) [] m h
-leaf_began count defined Fenced lines m h = put_began count Boxed (code_lines 0 (drop 1 lines)) [] m h
+leaf_began count defined Indented lines m h = code_began count [] lines m h
+leaf_began count defined Fenced lines m h = code_began count (fence_marks lines) (drop 1 lines) m h
 leaf_began count defined (Table columns) lines m h = put_began count Listed (table_lines defined.labels columns lines) (table_addresses defined columns lines) m h
 leaf_began count defined Rule lines m h = put_began count Large (horizontal_rule ∷ []) [] m h
 leaf_began count defined Nothing lines m h = h

@@ -35,7 +35,8 @@ use Rattle.markdown_lines.specs.Leaf.{html_lines}
 use Rattle.markdown_lines.specs.Links as line_links
 use Rattle.markdown_lines.specs.Links.{Defined, definition_address, address_or_none, address_by, address_in, address_of, leaf_addresses, links_at}
 use Rattle.markdown_lines.specs.Restyled.{restyled}
-use Rattle.markdown_reader.specs.Mapping.{LinkSaid, Mapping, nothing_shown, new_gutter, with_last, is_spaced, spaced, link_at, put, passed, list_ended, begun, item_ended, ended_by, words, addresses_in, text_of as leaf_text, words_shown, task_by, alert_line, alert_by, paragraph_by, heading_style, address_said, table_addresses, leaf_shown, shown_part, shown_parts}
+use Rattle.markdown_tones.specs.Fences.{fence_marks}
+use Rattle.markdown_reader.specs.Mapping.{LinkSaid, Mapping, nothing_shown, new_gutter, with_last, is_spaced, spaced, link_at, put, passed, list_ended, begun, item_ended, ended_by, words, addresses_in, text_of as leaf_text, words_shown, task_by, alert_line, alert_by, paragraph_by, heading_style, address_said, table_addresses, leaf_shown, shown_part, shown_parts, with_marks}
 use Rattle.markdown_reader.proofs.LinesPrinted.{text_printed}
 use Rattle.markdown_lines.specs.Printed.{is_obeyed}
 use Rattle.markdown_reader.specs.Printed.{ArePrintedLinks}
@@ -219,8 +220,8 @@ leaf_has defined ParagraphKind lines m k h = paragraph_has (new_gutter m) define
 leaf_has defined Html lines m k h = put_has Words (html_lines (joined [] lines)) [] m tt h
 leaf_has defined (Heading level) lines m k h =
     put_has Large (restyled (heading_style level) (heading_style level) (words defined (joined [] lines))) (addresses_in defined (joined [] lines)) m (leaf_addresses_printed defined (leaf_text (joined [] lines)) k) h
-leaf_has defined Indented lines m k h = put_has Boxed (code_lines 0 lines) [] m tt h
-leaf_has defined Fenced lines m k h = put_has Boxed (code_lines 0 (drop 1 lines)) [] m tt h
+leaf_has defined Indented lines m k h = put_has Boxed (code_lines 0 lines) [] (with_marks [] m) tt h
+leaf_has defined Fenced lines m k h = put_has Boxed (code_lines 0 (drop 1 lines)) [] (with_marks (fence_marks lines) m) tt h
 leaf_has defined (Table columns) lines m k h = put_has Listed (table_lines defined.labels columns lines) (table_addresses defined columns lines) m (table_printed defined columns lines k) h
 leaf_has defined Rule lines m k h = put_has Large (horizontal_rule ∷ []) [] m tt h
 leaf_has defined Nothing lines m k h = h

@@ -26,7 +26,9 @@ use Rattle.markdown_gutters.specs.Lists.{is_number, item_gutter, is_item, number
 use Rattle.markdown_gutters.specs.Signs.{after_box, box_of, after_line, alert_of}
 use Rattle.markdown_gutters.specs.declared.forms.Form.{Form}
 use Rattle.markdown_gutters.specs.declared.forms.Form.TheVariants.{Words, Large, Listed, Boxed}
-use Rattle.markdown_reader.specs.Mapping.{Mapping, nothing_shown, new_gutter, with_last, is_spaced, spaced, blank_row, section_of, added, put, passed, list_ended, begun, nothing_since, with_section, item_ended, ended_by, closed, words, addresses_in, words_shown, task_by, alert_line, alert_by, paragraph_by, heading_style, table_addresses, leaf_shown, shown_part, shown_parts}
+use Rattle.mad_mark_runs.specs.declared.mark_runs.MarkRun.{MarkRun}
+use Rattle.markdown_tones.specs.Fences.{fence_marks}
+use Rattle.markdown_reader.specs.Mapping.{Mapping, nothing_shown, new_gutter, with_last, is_spaced, spaced, blank_row, section_of, added, put, passed, list_ended, begun, nothing_since, with_section, item_ended, ended_by, closed, words, addresses_in, words_shown, task_by, alert_line, alert_by, paragraph_by, heading_style, table_addresses, leaf_shown, shown_part, shown_parts, with_marks, code_shown}
 use Rattle.markdown_reader.specs.ListedSections.{MayBeListed, SectionsMayBeListed}
 use Rattle.markdown_reader.specs.Nested.{Opened, opened_by, opened_in, IsOf, AreOf, AreNested, new_ones, IsBehindAll, IsBlankRow, AddsNested, SectionsNest, form_of, form_by}
 
@@ -301,13 +303,19 @@ paragraph_does opened (Some (Signs level)) defined bytes m h e = words_does open
 paragraph_does opened (Some (Below level)) defined bytes m h e = words_does opened defined bytes m h
 paragraph_does opened None defined bytes m h e = words_does opened defined bytes m h
 
+code_does : (opened : List Opened) (marks : List MarkRun) (lines : List Remaining) (m : Mapping) → Fits opened m → Does Boxed opened m (code_shown marks lines m)
+code_does opened marks lines m h =
+    let fits : Fits opened (with_marks marks m) = record { gutters = h.gutters; seen = h.seen } in
+    let d = put_does opened Boxed (code_lines 0 lines) [] (with_marks marks m) fits in
+    record { adds = record { new = d.adds.new; joins = d.adds.joins; nested = d.adds.nested }; fits = record { gutters = d.fits.gutters; seen = d.fits.seen } }
+
 leaf_does : (opened : List Opened) (defined : Defined) (kind : Kind) (lines : List Remaining) (m : Mapping) → Fits opened m → Does (form_of kind) opened m (leaf_shown defined kind lines m)
 leaf_does opened defined ParagraphKind lines m h = paragraph_does opened (new_gutter m) defined (joined [] lines) m h refl
 leaf_does opened defined Html lines m h = put_does opened Words (html_lines (joined [] lines)) [] m h
 leaf_does opened defined (Heading level) lines m h =
     put_does opened Large (restyled (heading_style level) (heading_style level) (words defined (joined [] lines))) (addresses_in defined (joined [] lines)) m h
-leaf_does opened defined Indented lines m h = put_does opened Boxed (code_lines 0 lines) [] m h
-leaf_does opened defined Fenced lines m h = put_does opened Boxed (code_lines 0 (drop 1 lines)) [] m h
+leaf_does opened defined Indented lines m h = code_does opened [] lines m h
+leaf_does opened defined Fenced lines m h = code_does opened (fence_marks lines) (drop 1 lines) m h
 leaf_does opened defined (Table columns) lines m h = put_does opened Listed (table_lines defined.labels columns lines) (table_addresses defined columns lines) m h
 leaf_does opened defined Rule lines m h = put_does opened Large (horizontal_rule ∷ []) [] m h
 leaf_does opened defined Nothing lines m h = nothing Words opened m h

@@ -1,6 +1,7 @@
 -- Sections before and after each of their runs was made steady.
-use Rattle.std.proofs.Common.{◌≡◌, List, [], ◌∷◌, ◌++◌, refl, sym, subst, ◌∙◌, append_assoc, append-nil}
+use Rattle.std.proofs.Common.{◌≡◌, List, [], ◌∷◌, ◌++◌, map, refl, sym, subst, ◌∙◌, append_assoc, append-nil}
 use Rattle.mad_sections.specs.Sections.{SectionContent}
+use Rattle.markdown_reader.specs.Markdown.{without_marks}
 use Rattle.markdown_reader.specs.Printed.{ArePrintedSections}
 use Rattle.markdown_reader.specs.Steadied.{IsSteadied, AreSteadied, AreSteadiedLines}
 use Rattle.mad_md.specs.declared.composite.CompositeStyle.TheVariants.{Paragraph}
@@ -60,3 +61,12 @@ so_far_all all made h = subst (λ (l : List SectionContent). AreSteadied l made)
 pub empty_steadied : AreSteadiedLines (empty_line Paragraph ∷ []) (empty_line Paragraph ∷ [])
 unfolding steady_lines AreSteadyLines
 empty_steadied = record { made = refl; steady = (tt, tt); printed = λ h. h }
+
+printed_without : (sections : List SectionContent) → ArePrintedSections sections → ArePrintedSections (map without_marks sections)
+unfolding ArePrintedSections
+printed_without [] h = tt
+printed_without (s ∷ sections) h = (h.0, printed_without sections h.1)
+
+-- where no character of sections was obeyed, none is without their marks
+pub unmarked_printed : (before after : List SectionContent) → after ≡ map without_marks before → ArePrintedSections before → ArePrintedSections after
+unmarked_printed before after is h = subst ArePrintedSections (sym is) (printed_without before h)

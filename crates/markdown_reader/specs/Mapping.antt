@@ -13,6 +13,8 @@ use Rattle.mad_md.specs.Flagged.{Flags}
 use Rattle.mad_md.specs.Lines.{LineContent, normal, horizontal_rule}
 use Rattle.mad_md.specs.declared.composite.CompositeStyle.{CompositeStyle}
 use Rattle.mad_md.specs.declared.composite.CompositeStyle.TheVariants.{Paragraph, Header}
+use Rattle.markdown_tones.specs.Fences.{fence_marks}
+use Rattle.mad_mark_runs.specs.declared.mark_runs.MarkRun.{MarkRun}
 use Rattle.mad_sections.specs.Sections.{SectionContent}
 use Rattle.mad_sections.specs.declared.gutters.Alert.{Alert}
 use Rattle.mad_sections.specs.declared.gutters.Gutter.{Gutter}
@@ -37,7 +39,8 @@ pub record LinkSaid : Type 0 where
 
 -- The sections so far with their links, and what the next ones depend on: the gutters of the open containers, the outermost first; of how many of them, the
 -- outermost, something is shown; outside and for each of them the list whose item began last; whether blank lines came before the last item, since it began,
--- and since something was shown last; whether anything was, and whether that wants blank rows beside it.
+-- and since something was shown last; whether anything was, and whether that wants blank rows beside it. Last come the marks
+-- of the next section.
 pub record Mapping : Type 0 where
   pub sections : List SectionContent
   pub links : List LinkSaid
@@ -49,10 +52,11 @@ pub record Mapping : Type 0 where
   pub apart : Bool
   pub some : Bool
   pub big : Bool
+  pub marks : List MarkRun
 
 -- before the text nothing is shown, and no container is open
 abbrev pub nothing_shown : Mapping
-nothing_shown = record { sections = []; links = []; gutters = []; seen = 0; lists = no_list ∷ []; item_apart = false; since = false; apart = false; some = false; big = false }
+nothing_shown = record { sections = []; links = []; gutters = []; seen = 0; lists = no_list ∷ []; item_apart = false; since = false; apart = false; some = false; big = false; marks = [] }
 
 -- ---- lists
 
@@ -74,15 +78,15 @@ with_last gutter m = record m { gutters = take (length m.gutters - 1) m.gutters 
 
 -- lines behind the gutters of all open containers; those begin with them of which nothing is shown yet, and the box of code
 abbrev pub section_of : Form → List LineContent → Mapping → SectionContent
-section_of form lines m = record { gutters = leaf_gutters form m.gutters; fresh = length (leaf_gutters form m.gutters) - m.seen; list = items_gutters form m.gutters; lines = lines }
+section_of form lines m = record { gutters = leaf_gutters form m.gutters; fresh = length (leaf_gutters form m.gutters) - m.seen; list = items_gutters form m.gutters; marks = m.marks; lines = lines }
 
 -- one more section, by which something of all open containers is shown
 abbrev pub with_section : Form → List LineContent → Mapping → Mapping
-with_section form lines m = record m { sections = m.sections ++ section_of form lines m ∷ []; seen = length m.gutters }
+with_section form lines m = record m { sections = m.sections ++ section_of form lines m ∷ []; seen = length m.gutters; marks = [] }
 
 -- A blank row is behind the gutters of the containers that both neighbours are in, up to the last bar: what is behind that is blank. No blank row is in a box.
 abbrev pub blank_row : Mapping → SectionContent
-blank_row m = record { gutters = up_to_bar (take m.seen m.gutters); fresh = 0; list = None; lines = empty_line Paragraph ∷ [] }
+blank_row m = record { gutters = up_to_bar (take m.seen m.gutters); fresh = 0; list = None; marks = []; lines = empty_line Paragraph ∷ [] }
 
 -- something is shown, and then blank lines came, or one of both is big
 abbrev pub is_spaced : Bool → Bool → Mapping → Bool
@@ -215,17 +219,21 @@ address_said link = link.address
 abbrev pub table_addresses : Defined → ℕ → List Remaining → List (List ℕ)
 table_addresses defined columns lines = map address_said (table_links defined columns 0 lines)
 
--- the lines of code are shown in a box
-abbrev pub code_shown : List Remaining → Mapping → Mapping
-code_shown lines m = put Boxed (code_lines 0 lines) [] m
+-- these are the marks of the next section
+abbrev pub with_marks : List MarkRun → Mapping → Mapping
+with_marks marks m = record m { marks = marks }
+
+-- the lines of code are shown in a box, with their marks
+abbrev pub code_shown : List MarkRun → List Remaining → Mapping → Mapping
+code_shown marks lines m = with_marks [] (put Boxed (code_lines 0 lines) [] (with_marks marks m))
 
 -- a leaf is shown as its kind is; nothing and definitions aren't shown
 abbrev pub leaf_shown : Defined → Kind → List Remaining → Mapping → Mapping
 leaf_shown defined ParagraphKind lines m = paragraph_by (new_gutter m) defined (joined [] lines) m
 leaf_shown defined Html lines m = put Words (html_lines (joined [] lines)) [] m
 leaf_shown defined (Heading level) lines m = heading_shown defined level (joined [] lines) m
-leaf_shown defined Indented lines m = code_shown lines m
-leaf_shown defined Fenced lines m = code_shown (drop 1 lines) m
+leaf_shown defined Indented lines m = code_shown [] lines m
+leaf_shown defined Fenced lines m = code_shown (fence_marks lines) (drop 1 lines) m
 leaf_shown defined (Table columns) lines m = put Listed (table_lines defined.labels columns lines) (table_addresses defined columns lines) m
 leaf_shown defined Rule lines m = put Large (horizontal_rule ∷ []) [] m
 leaf_shown defined _ lines m = m

@@ -1,5 +1,5 @@
 -- The sections of a Markdown text, and its links.
-use Rattle.std.specs.Prelude.{ℕ, List}
+use Rattle.std.specs.Prelude.{ℕ, List, []}
 use Rattle.markdown_leaves.specs.Parts.{PartContent}
 use Rattle.markdown_leaves.specs.Told.{parts_of}
 use Rattle.markdown_lines.specs.Texts.{behind_mark}
@@ -12,7 +12,11 @@ use Rattle.markdown_reader.specs.Mapping.{LinkSaid, Mapping, nothing_shown, show
 abbrev pub parts_shown : List PartContent → Mapping
 parts_shown parts = shown_parts (definitions_of parts) parts nothing_shown
 
--- what a text behind its byte order mark is shown as, each character printable
+-- the section without its marks
+abbrev pub without_marks : SectionContent → SectionContent
+without_marks s = record s { marks = [] }
+
+-- what a text behind its byte order mark is shown as, each character printable; marks count the characters that are steady
 unfoldable pub printable_sections : List ℕ → List SectionContent
 printable_sections source = (parts_shown (parts_of source)).sections
 

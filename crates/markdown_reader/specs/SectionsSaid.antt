@@ -17,7 +17,7 @@ lines_said (Some lines) = shown lines
 
 -- what a section says
 abbrev pub section_said : MarkdownSection → SectionContent
-section_said s = record { gutters = s.gutters.items; fresh = s.fresh; list = option_map (λ gs. gs.items) s.list; lines = lines_said s.lines }
+section_said s = record { gutters = s.gutters.items; fresh = s.fresh; list = option_map (λ gs. gs.items) s.list; marks = s.marks.items; lines = lines_said s.lines }
 
 -- what a link says
 abbrev pub link_said : Link → LinkSaid

@@ -6,7 +6,7 @@ pub use Rattle.markdown_lines.specs.Steady.{steady_lines, AreSteadyLines}
 
 -- a section, each of whose runs is steady
 abbrev pub steady_section : SectionContent → SectionContent
-steady_section s = record { gutters = s.gutters; fresh = s.fresh; list = s.list; lines = steady_lines s.lines }
+steady_section s = record { gutters = s.gutters; fresh = s.fresh; list = s.list; marks = s.marks; lines = steady_lines s.lines }
 
 -- sections, each of whose runs is steady
 abbrev pub steady_sections : List SectionContent → List SectionContent

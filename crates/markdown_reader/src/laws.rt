@@ -2,6 +2,7 @@
 
 ghost use Rattle.markdown_reader.specs.Faces.{FacesOnce};
 ghost use Rattle.markdown_reader.specs.ListedSections.{SectionsMayBeListed};
+ghost use Rattle.markdown_reader.specs.Marked.{SectionsAreMarked};
 ghost use Rattle.markdown_reader.specs.Nested.{SectionsNest};
 ghost use Rattle.markdown_reader.specs.PlainLines.{SectionsArePlain};
 
@@ -30,4 +31,11 @@ pub fn tables_may_be_lists()
 #[tactic(auto, using(crate::proofs::PlainLemmas::sections_are_plain))]
 pub fn lines_are_plain()
     ensures { SectionsArePlain }
+{}
+
+/// A section has no marks but those of the code in a fence that it shows, by the language that the fence names. The marks of all sections, one after the
+/// other, are those of all fences.
+#[tactic(auto, using(crate::proofs::MarkedLemmas::sections_are_marked))]
+pub fn fences_have_their_marks()
+    ensures { SectionsAreMarked }
 {}

@@ -17,6 +17,7 @@ ghost use Rattle.markdown_reader.specs.MappingOf.{mapping_of};
 ghost use Rattle.markdown_reader.specs.SectionsSaid.{lines_said, link_said, section_said};
 
 use crate::sections::{Link, MarkdownSection, addresses_of, push_links};
+use mad_mark_runs::MarkRun;
 use mad_md::CompositeStyle;
 use mad_sections::{Alert, Gutter};
 use markdown_blocks::Container;
@@ -37,6 +38,7 @@ use markdown_lines::runs::Runs;
 use markdown_lines::tables::push_table;
 use markdown_marks::headings::without_end;
 use markdown_marks::rest::Rest;
+use markdown_tones::fence_marks;
 use std::alloc::{AllocError, Global};
 use std::mem::replace;
 
@@ -61,6 +63,8 @@ pub struct Mapper {
     some: bool,
     // whether what was shown last wants blank rows beside it
     big: bool,
+    // of the next section
+    marks: Vec<MarkRun>,
 }
 
 fn either(first: bool, second: bool) -> bool
@@ -171,6 +175,7 @@ impl Mapper {
             apart: false,
             some: false,
             big: false,
+            marks: Vec::new(alloc),
         })
     }
 
@@ -199,10 +204,12 @@ impl Mapper {
         let gutters = leaf_gutters(alloc, form, self.gutters.as_slice())?;
         let list = items_gutters(alloc, form, self.gutters.as_slice())?;
         let fresh = gutters.as_slice().len().saturating_sub(self.seen);
+        let marks = replace(&mut self.marks, Vec::new(alloc));
         self.sections.push(MarkdownSection {
             gutters,
             fresh,
             list,
+            marks,
             lines,
         })?;
         self.seen = self.gutters.as_slice().len();
@@ -219,6 +226,7 @@ impl Mapper {
             gutters,
             fresh: 0,
             list: None,
+            marks: Vec::new(alloc),
             lines: None,
         })?;
         Ok(())
@@ -506,11 +514,19 @@ impl Mapper {
         self.put(alloc, Form::Large, lines, leaf.addresses)
     }
 
-    fn show_code(&mut self, alloc: Global, lines: &[Rest<'_>]) -> Result<(), AllocError>
-        ensures { OnOk result (mapping_of self.new ≡ code_shown (map remaining lines.now) (mapping_of self.old)) }
+    fn show_code(
+        &mut self,
+        alloc: Global,
+        marks: Vec<MarkRun>,
+        lines: &[Rest<'_>],
+    ) -> Result<(), AllocError>
+        ensures { OnOk result (mapping_of self.new ≡ code_shown marks.items (map remaining lines.now) (mapping_of self.old)) }
     {
         let rows = code_rows(alloc, lines)?;
-        self.put(alloc, Form::Boxed, rows, Vec::new(alloc))
+        self.marks = marks;
+        self.put(alloc, Form::Boxed, rows, Vec::new(alloc))?;
+        self.marks = Vec::new(alloc);
+        Ok(())
     }
 
     fn show_html(&mut self, alloc: Global, bytes: &[u8]) -> Result<(), AllocError>
@@ -567,8 +583,11 @@ impl Mapper {
                 let bytes = joined(alloc, lines)?;
                 self.show_heading(alloc, definitions, level, bytes.as_slice())
             }
-            Kind::Indented => self.show_code(alloc, lines),
-            Kind::Fenced => self.show_code(alloc, after_first(lines)),
+            Kind::Indented => self.show_code(alloc, Vec::new(alloc), lines),
+            Kind::Fenced => {
+                let marks = fence_marks(alloc, lines)?;
+                self.show_code(alloc, marks, after_first(lines))
+            }
             Kind::Table(columns) => self.show_table(alloc, definitions, columns, lines),
             Kind::Rule => self.show_rule(alloc),
         }

@@ -3,7 +3,7 @@
 ghost use Rattle.std.specs.Prelude.{◌≡◌, IfOk, OnOk, [], drop, map, option_map, slice_get};
 ghost use Rattle.mad_sections.specs.Sections.{page_content, section_content};
 ghost use Rattle.markdown_lines.specs.Texts.{behind_mark};
-ghost use Rattle.markdown_reader.specs.Markdown.{printable_sections, unmarked_sections, markdown_sections, unmarked_links, markdown_links};
+ghost use Rattle.markdown_reader.specs.Markdown.{printable_sections, without_marks, unmarked_sections, markdown_sections, unmarked_links, markdown_links};
 ghost use Rattle.markdown_reader.specs.MappingOf.{mapping_of};
 ghost use Rattle.markdown_reader.specs.MarkdownSays.{markdown_says, links_said};
 ghost use Rattle.markdown_reader.specs.Printed.{ArePrintedSections, ArePrintedLinks};
@@ -69,19 +69,24 @@ impl Markdown {
         })
     }
 
-    /// Reads a text, and keeps each printable character as it is. Terminals may count the columns of some of them otherwise.
+    /// Reads a text, and keeps each printable character as it is. Terminals may count the columns of some of them otherwise. Code has no marks.
     ///
     /// # Errors
     ///
     /// Out of memory is the only error.
+    #[tactic(auto, using(crate::proofs::SteadyLemmas::unmarked_printed))]
     pub fn read_printable(alloc: Global, source: &str) -> Result<Markdown, AllocError>
-        ensures sections { IfOk result (λ read. markdown_says read ≡ printable_sections (behind_mark source.now)) }
+        ensures sections { IfOk result (λ read. markdown_says read ≡ map without_marks (printable_sections (behind_mark source.now))) }
         ensures links { IfOk result (λ read. links_said read ≡ markdown_links source.now) }
         ensures printed { IfOk result (λ read. ArePrintedSections (markdown_says read)) }
         ensures printed_links { IfOk result (λ read. ArePrintedLinks (links_said read)) }
     {
         let read = Markdown::read_printed(alloc, behind_mark(source))?;
-        Ok(read)
+        let sections = unmarked(alloc, read.sections)?;
+        Ok(Markdown {
+            sections,
+            links: read.links,
+        })
     }
 
     // What is read of a text behind its byte order mark has nothing that a terminal obeys.
@@ -211,6 +216,7 @@ fn steadied_one(alloc: Global, section: MarkdownSection) -> Result<MarkdownSecti
         gutters: section.gutters,
         fresh: section.fresh,
         list: section.list,
+        marks: section.marks,
         lines,
     })
 }
@@ -227,6 +233,33 @@ fn steadied(
     for section in sections {
         let steady = steadied_one(alloc, section)?;
         made.push(steady)?;
+    }
+    Ok(made)
+}
+
+// A section without its marks.
+fn without_marks(alloc: Global, section: MarkdownSection) -> MarkdownSection
+    ensures { section_said result ≡ without_marks (section_said section) }
+{
+    MarkdownSection {
+        gutters: section.gutters,
+        fresh: section.fresh,
+        list: section.list,
+        marks: Vec::new(alloc),
+        lines: section.lines,
+    }
+}
+
+// Sections without their marks.
+fn unmarked(
+    alloc: Global,
+    sections: Vec<MarkdownSection>,
+) -> Result<Vec<MarkdownSection>, AllocError>
+    ensures { IfOk result (λ made. map section_said made.items ≡ map without_marks (map section_said sections.items)) }
+{
+    let mut made = Vec::with_capacity(alloc, sections.as_slice().len())?;
+    for section in sections {
+        made.push(without_marks(alloc, section))?;
     }
     Ok(made)
 }

@@ -9,6 +9,7 @@ ghost use Rattle.mad_md.specs.declared.composite.CompositeStyle.TheVariants.{Par
 ghost use Rattle.markdown_lines.specs.Restyled.{empty_line};
 ghost use Rattle.markdown_reader.specs.SectionsSaid.{link_said, lines_said, section_said};
 
+use mad_mark_runs::MarkRun;
 use mad_md::{Composite, CompositeStyle, Line, Text};
 use mad_sections::{Gutter, Section};
 use markdown_lines::lines::Lines;
@@ -24,6 +25,8 @@ pub struct MarkdownSection {
     pub(crate) fresh: usize,
     /// Of a table the gutters of its items, if it is shown as a list.
     pub(crate) list: Option<Vec<Gutter>>,
+    /// The marks of its counted characters.
+    pub(crate) marks: Vec<MarkRun>,
     /// The lines; none where it is one row without text.
     pub(crate) lines: Option<Lines>,
 }
@@ -74,6 +77,7 @@ impl MarkdownSection {
             gutters: self.gutters.as_slice(),
             fresh: self.fresh,
             list: self.list_gutters(),
+            marks: self.marks.as_slice(),
             text: Text { lines },
         })
     }

@@ -24,7 +24,9 @@ use Rattle.markdown_gutters.specs.Lists.{is_item}
 use Rattle.markdown_gutters.specs.Signs.{after_box, box_of, after_line, alert_of}
 use Rattle.markdown_gutters.specs.declared.forms.Form.{Form}
 use Rattle.markdown_gutters.specs.declared.forms.Form.TheVariants.{Words, Large, Listed, Boxed}
-use Rattle.markdown_reader.specs.Mapping.{LinkSaid, Mapping, new_gutter, with_last, is_spaced, spaced, blank_row, link_at, linked, section_of, with_section, added, put, passed, list_ended, begun, closed, item_ended, nothing_since, ended_by, ended, words, addresses_in, words_shown, task_by, alert_line, alert_by, paragraph_by, heading_style, table_addresses, leaf_shown, shown_part, shown_parts}
+use Rattle.mad_mark_runs.specs.declared.mark_runs.MarkRun.{MarkRun}
+use Rattle.markdown_tones.specs.Fences.{fence_marks}
+use Rattle.markdown_reader.specs.Mapping.{LinkSaid, Mapping, new_gutter, with_last, is_spaced, spaced, blank_row, link_at, linked, section_of, with_section, added, put, passed, list_ended, begun, closed, item_ended, nothing_since, ended_by, ended, words, addresses_in, words_shown, task_by, alert_line, alert_by, paragraph_by, heading_style, table_addresses, leaf_shown, shown_part, shown_parts, with_marks, code_shown}
 use Rattle.markdown_stream.specs.Laws.{SectionsComeInTurn}
 use Rattle.markdown_stream.specs.Streaming.{taken, link_after, shown_after}
 
@@ -121,14 +123,17 @@ paragraph_behind (Some Code) defined bytes ss ls m = words_behind defined bytes 
 paragraph_behind (Some (Signs level)) defined bytes ss ls m = words_behind defined bytes ss ls m
 paragraph_behind (Some (Below level)) defined bytes ss ls m = words_behind defined bytes ss ls m
 
+code_behind : (marks : List MarkRun) (lines : List Remaining) (ss : List SectionContent) (ls : List LinkSaid) (m : Mapping) → code_shown marks lines (shown_after ss ls m) ≡ shown_after ss ls (code_shown marks lines m)
+code_behind marks lines ss ls m = ap (with_marks []) (put_behind Boxed (code_lines 0 lines) [] ss ls (with_marks marks m))
+
 leaf_behind : (defined : Defined) (kind : Kind) (lines : List Remaining) (ss : List SectionContent) (ls : List LinkSaid) (m : Mapping)
     → leaf_shown defined kind lines (shown_after ss ls m) ≡ shown_after ss ls (leaf_shown defined kind lines m)
 leaf_behind defined ParagraphKind lines ss ls m = paragraph_behind (new_gutter m) defined (joined [] lines) ss ls m
 leaf_behind defined Html lines ss ls m = put_behind Words (html_lines (joined [] lines)) [] ss ls m
 leaf_behind defined (Heading level) lines ss ls m =
     put_behind Large (restyled (heading_style level) (heading_style level) (words defined (joined [] lines))) (addresses_in defined (joined [] lines)) ss ls m
-leaf_behind defined Indented lines ss ls m = put_behind Boxed (code_lines 0 lines) [] ss ls m
-leaf_behind defined Fenced lines ss ls m = put_behind Boxed (code_lines 0 (drop 1 lines)) [] ss ls m
+leaf_behind defined Indented lines ss ls m = code_behind [] lines ss ls m
+leaf_behind defined Fenced lines ss ls m = code_behind (fence_marks lines) (drop 1 lines) ss ls m
 leaf_behind defined (Table columns) lines ss ls m = put_behind Listed (table_lines defined.labels columns lines) (table_addresses defined columns lines) ss ls m
 leaf_behind defined Rule lines ss ls m = put_behind Large (horizontal_rule ∷ []) [] ss ls m
 leaf_behind defined Nothing lines ss ls m = refl

@@ -6,7 +6,7 @@ use Rattle.std.specs.Result.{IsErrAnd}
 use Rattle.std.specs.Str.{IsUtf8}
 use Rattle.mad_format.proofs.ListLemmas.{both_become}
 use Rattle.mad_md.proofs.PartsLemmas.{true_test}
-use Rattle.mad_page_rows.specs.Faces.{has_ascii_boxes, page_row_bytes}
+use Rattle.mad_page_rows.specs.Faces.{has_ascii_boxes}
 use Rattle.mad_pages.specs.PageLayouts.{BecomesAt, IsPageAt}
 use Rattle.mad_pages.specs.PageRows.{RowContent}
 use Rattle.mad_rows.specs.RowStyles.{line_rules}
@@ -22,7 +22,7 @@ use Rattle.mad_term.specs.Trace.{Trace, failed}
 use Rattle.mad_term.specs.declared.errors.Error.{Error}
 use Rattle.mad_term.specs.declared.errors.Error.TheVariants.{IO, InsufficientWidth, Memory}
 use Rattle.mad_term.proofs.Traces.{after-nil}
-use Rattle.markdown_layout.specs.WrittenPages.{IsDressedAt, dressed_bytes}
+use Rattle.markdown_layout.specs.WrittenPages.{IsDressedAt, dressed_bytes, row_bytes}
 use Rattle.markdown_lines.specs.Texts.{behind_mark}
 use Rattle.markdown_lines.proofs.MarkLemmas.{behind_more}
 use Rattle.markdown_reader.specs.Mapping.{LinkSaid}
@@ -66,7 +66,7 @@ more_laid skin width first next rows own sent before now page written page2 now_
     let marks : HeadingMarks = skin.headings in (
       subst (λ (ss : List SectionContent). IsPageAt (line_rules row_skin) (has_ascii_boxes row_skin) width ss (rows ++ own)) (sym (page_joined marks first next))
           (both_become (BecomesAt (line_rules row_skin) (has_ascii_boxes row_skin) width) (dressed_page marks (steady_sections first)) (dressed_page marks (steady_sections next)) rows own page page2),
-      flat_map-append (page_row_bytes row_skin width) rows own ∙ ap (λ (b : List ℕ). b ++ dressed_bytes skin width own) written
+      flat_map-append (row_bytes row_skin width) rows own ∙ ap (λ (b : List ℕ). b ++ dressed_bytes skin width own) written
           ∙ append_assoc sent before (dressed_bytes skin width own) ∙ ap (λ (b : List ℕ). sent ++ b) (sym now_is),
     )
 

@@ -82,7 +82,6 @@ pub fn cuts_dont_matter_to_links()
 {}
 
 /// Where each part says the same by the definitions that came up to it as by all, what goes out of pieces is what goes out of the whole text.
-#[tactic(auto, using(crate::proofs::RowLemmas::known_is_written_whole))]
 pub fn known_is_written_whole()
     ensures { KnownIsWrittenWhole }
 {}

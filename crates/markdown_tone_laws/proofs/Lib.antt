@@ -1,2 +1,3 @@
 pub mod CodeLemmas
 pub mod ToneLemmas
+pub mod FenceLemmas

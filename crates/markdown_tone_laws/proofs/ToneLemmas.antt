@@ -4,7 +4,7 @@ use Rattle.std.specs.List.{flat_map}
 use Rattle.bstr.specs.Utf8.{Decoded, or_replacement, pieces}
 use Rattle.code_tables.specs.declared.rules.Language.{Language}
 use Rattle.code_colors.specs.Tokens.{tokens_by}
-use Rattle.code_tones.specs.Tones.{byte_tones, is_counted, shown, toned, toned_text, tones_of, TonedChar}
+use Rattle.code_tones.specs.Tones.{byte_tones, is_counted, toned, toned_text, tones_of, TonedChar}
 use Rattle.mad_md.specs.Flagged.{flagged, unflagged}
 use Rattle.mad_mark_runs.specs.Marks.{value_at}
 use Rattle.mad_mark_runs.specs.Values.{AreRising, values_of}
@@ -13,6 +13,7 @@ use Rattle.mad_mark_runs.proofs.ValueLemmas.{value_is}
 use Rattle.mad_marks.specs.LineMarks.{content_counted, has_mark}
 use Rattle.mad_marks.specs.RowMarks.{numbered}
 use Rattle.markdown_lines.specs.Code.{code_lines}
+use Rattle.markdown_lines.specs.Steady.{steady_lines}
 use Rattle.markdown_marks.specs.Remaining.{Remaining}
 use Rattle.markdown_tones.specs.CodeSource.{code_source}
 use Rattle.markdown_tone_laws.specs.Laws.{shown_toned, toned_code}
@@ -32,12 +33,12 @@ counted_chars (c ∷ cs) = by_counted (is_counted c.char) c (filter (λ (c : Ton
 
 -- characters whose values by number are their tones
 numbered_by : (runs : List MarkRun) (n : ℕ) (ts : List TonedChar) → ((k : ℕ) → k < length ts → value_at runs (n + k) ≡ get_or (map (λ (c : TonedChar). c.tone) ts) k 0)
-    → numbered runs n (flagged unflagged (map shown (map (λ (c : TonedChar). c.char) ts))) ≡ map shown_toned ts
+    → numbered runs n (flagged unflagged (map (λ (c : TonedChar). c.char) ts)) ≡ map shown_toned ts
 numbered_by runs n [] h = refl
 numbered_by runs n (t ∷ ts) h =
     let first : value_at runs n ≡ t.tone = ap (value_at runs) (omega arith) ∙ h 0 (omega arith) in
     let later = λ (k : ℕ) (le : k < length ts). one_on runs n k ∙ h (suc k) (omega arith) in
-    ap (λ (v : ℕ). record { value = v; char = record { char = shown t.char; flags = unflagged } } ∷ numbered runs (n + 1) (flagged unflagged (map shown (map (λ (c : TonedChar). c.char) ts)))) first
+    ap (λ (v : ℕ). record { value = v; char = record { char = t.char; flags = unflagged } } ∷ numbered runs (n + 1) (flagged unflagged (map (λ (c : TonedChar). c.char) ts))) first
     ∙ ap (λ l. shown_toned t ∷ l) (numbered_by runs (n + 1) ts later)
   where
     one_on : (runs : List MarkRun) (n k : ℕ) → value_at runs ((n + 1) + k) ≡ value_at runs (n + suc k)
@@ -61,7 +62,7 @@ as_many (t ∷ ts) = ap suc (as_many ts)
 
 -- THE LAW
 pub code_toned : (language : Option Language) (column : ℕ) (lines : List Remaining) (runs : List MarkRun) (before after : List ℕ) → AreRising 0 runs → values_of runs ≡ before ++ (tones_of language (code_source lines) ++ after)
-    → numbered runs (length before) (flat_map (content_counted has_mark) (code_lines column lines)) ≡ toned_code language lines
+    → numbered runs (length before) (flat_map (content_counted has_mark) (steady_lines (code_lines column lines))) ≡ toned_code language lines
 code_toned language column lines runs before after rising values_are =
     let source = code_source lines in
     let ts = filter (λ (c : TonedChar). is_counted c.char) (toned_text language source) in
@@ -69,6 +70,6 @@ code_toned language column lines runs before after rising values_are =
     let own = λ (k : ℕ) (le : k < length ts).
     value_is runs (length before + k) rising ∙ ap (λ (l : List ℕ). get_or l (length before + k) 0) values_are ∙ past_front before (tones ++ after) k ∙ in_front tones after k (omega (arith, as_many ts, le)) in
     ap (numbered runs (length before)) (code_solid column lines
-    ∙ ap (λ l. flagged unflagged (map shown (filter is_counted l))) (sym (toned_chars (byte_tones (tokens_by language source)) (pieces source)))
-    ∙ ap (λ l. flagged unflagged (map shown l)) (sym (counted_chars (toned_text language source))))
+    ∙ ap (λ l. flagged unflagged (filter is_counted l)) (sym (toned_chars (byte_tones (tokens_by language source)) (pieces source)))
+    ∙ ap (flagged unflagged) (sym (counted_chars (toned_text language source))))
     ∙ numbered_by runs (length before) ts own

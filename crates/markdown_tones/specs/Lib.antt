@@ -1,1 +1,2 @@
 pub mod CodeSource
+pub mod Fences

@@ -47,6 +47,7 @@ pub mod layout {
 /// Pages as rows, and laws of these: the columns of what stands in front of a line, and that each row fills its width.
 pub mod pages {
     pub use mad_dressing::HeadingMarks;
+    pub use mad_mark_runs::MarkRun;
     pub use mad_page_rows::{PageTextRows, PlacedPageRows, laws};
     pub use mad_page_skin::{CodeStyles, TitleStyles};
     pub use mad_pages::{PageRow, lay_page};

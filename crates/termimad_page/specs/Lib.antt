@@ -1,1 +1,5 @@
+pub mod Calls
+pub mod Ends
+pub mod Runs
 pub mod Skins
+pub mod Streams

@@ -1,5 +1,9 @@
 //! What the arguments ask for.
 
+ghost use Rattle.std.specs.Prelude.{◌≡◌, ℕ, List, Option, MatchOption, map, option_map, string_bytes};
+ghost use Rattle.mad_page.specs.declared.page.Files.{Files as SomeFiles};
+ghost use Rattle.termimad_page.specs.Calls.{Asks, AsksPlace, AsksScreen, AsksWhole, IsNoCall, SaysMore, Where, grammar_said, where_of, words_behind};
+
 use termimad_page_run::{Files, Grammar};
 use termimad_run::parse_number;
 
@@ -8,7 +12,7 @@ const WHOLE_COLUMNS: u16 = 80;
 
 /// What is to be shown, and how.
 #[derive(Clone, Copy)]
-pub struct Call<'w> {
+pub(crate) struct Call<'w> {
     /// The file that is read.
     pub file: &'w str,
     /// How its text is read.
@@ -21,89 +25,127 @@ pub struct Call<'w> {
 
 /// Where a text is shown.
 #[derive(Clone, Copy)]
-pub enum Place<'w> {
+pub(crate) enum Place<'w> {
     /// On a screen, page by page.
-    Screen {
-        /// The name that the text is shown under.
-        name: &'w str,
-        /// The screen's columns.
-        columns: u16,
-        /// Its rows.
-        rows: u16,
-        /// Which files there are beside FILE.
-        files: Files,
-    },
+    OnScreen(Screen<'w>),
     /// On standard output, whole, at so many columns.
-    Output {
-        /// The columns.
-        columns: u16,
-    },
+    Whole(u16),
+}
+
+/// The screen that a text is paged on.
+#[derive(Clone, Copy)]
+pub(crate) struct Screen<'w> {
+    /// The name that the text is shown under.
+    pub name: &'w str,
+    /// The screen's columns.
+    pub columns: u16,
+    /// Its rows.
+    pub rows: u16,
+    /// Which files there are beside FILE.
+    pub files: Files,
 }
 
 /// The call that the words after the program's name are: `page FILE COLUMNS ROWS [SKIN [NAME [PLACE]]]` or `whole FILE [SKIN [COLUMNS]]`, with
 /// `--lines` before them where each line of the text stands for itself. None, where they are neither.
-pub fn parse_call(words: &[String]) -> Option<Call<'_>> {
-    let (name, rest) = words.split_first()?;
-    match name.as_str() {
-        "--lines" => parse_read(rest, Grammar::Lines),
-        _ => parse_read(words, Grammar::Markdown),
+pub(crate) fn parse_call(words: &[String]) -> Option<Call<'_>>
+    ensures { MatchOption result (IsNoCall (map string_bytes words.now))
+        (λ call. Asks (map string_bytes words.now) call.file.now call.grammar (option_map (λ word. word.now) call.skin) (where_of call.place)) }
+{
+    let (grammar, rest) = grammar_said(words);
+    let (file, skin, place) = parse_place(rest)?;
+    Some(Call {
+        file,
+        grammar,
+        skin,
+        place,
+    })
+}
+
+// How the text is read, and the words behind the one that says so.
+fn grammar_said(words: &[String]) -> (Grammar, &[String])
+    ensures grammar { result.0 ≡ grammar_said (map string_bytes words.now) }
+    ensures behind { map string_bytes result.1.now ≡ words_behind (map string_bytes words.now) }
+{
+    match words {
+        [first, rest @ ..] if first.as_str() == "--lines" => (Grammar::Lines, rest),
+        _ => (Grammar::Markdown, words),
     }
 }
 
-fn parse_read(words: &[String], grammar: Grammar) -> Option<Call<'_>> {
+// The file, the word for the skin and where the text is shown, by the words `page` or `whole` and those after it.
+fn parse_place(words: &[String]) -> Option<(&str, Option<&str>, Place<'_>)>
+    ensures { MatchOption result
+        ((file : List ℕ) (skin : Option (List ℕ)) (place : Where) → ¬ (AsksPlace (map string_bytes words.now) file skin place))
+        (λ asked. AsksPlace (map string_bytes words.now) asked.0.now (option_map (λ word. word.now) asked.1) (where_of asked.2)) }
+{
     let (name, words) = words.split_first()?;
     match name.as_str() {
-        "page" => parse_page(words, grammar),
-        "whole" => parse_whole(words, grammar),
+        "page" => {
+            let (file, skin, screen) = parse_page(words)?;
+            Some((file, skin, Place::OnScreen(screen)))
+        }
+        "whole" => {
+            let (file, skin, columns) = parse_whole(words)?;
+            Some((file, skin, Place::Whole(columns)))
+        }
         _ => None,
     }
 }
 
-fn parse_page(words: &[String], grammar: Grammar) -> Option<Call<'_>> {
-    let [file, columns, rows, rest @ ..] = words else {
+// The words after `page`.
+fn parse_page(words: &[String]) -> Option<(&str, Option<&str>, Screen<'_>)>
+    ensures { MatchOption result
+        ((file : List ℕ) (skin : Option (List ℕ)) (name : List ℕ) (columns rows : ℕ) (files : SomeFiles)
+        → ¬ (AsksScreen (map string_bytes words.now) file skin name columns rows files))
+        (λ asked. AsksScreen (map string_bytes words.now) asked.0.now (option_map (λ word. word.now) asked.1)
+        asked.2.name.now asked.2.columns asked.2.rows asked.2.files) }
+{
+    let [file, columns, rows, more @ ..] = words else {
         return None;
     };
-    let (rest, files) = match rest {
-        [skin_and_name @ .., place] if rest.len() == 3 => {
-            (skin_and_name, Files::named(place.as_str())?)
-        }
-        _ => (rest, Files::NONE),
+    let columns = parse_number(columns.as_str())?;
+    let rows = parse_number(rows.as_str())?;
+    let (skin, name, files) = parse_more(file.as_str(), more)?;
+    let screen = Screen {
+        name,
+        columns,
+        rows,
+        files,
     };
-    let (skin, name) = last_words(rest)?;
-    Some(Call {
-        file: file.as_str(),
-        grammar,
-        skin,
-        place: Place::Screen {
-            name: name.unwrap_or(file.as_str()),
-            columns: parse_number(columns.as_str())?,
-            rows: parse_number(rows.as_str())?,
-            files,
-        },
-    })
+    Some((file.as_str(), skin, screen))
 }
 
-fn parse_whole(words: &[String], grammar: Grammar) -> Option<Call<'_>> {
-    let (file, rest) = words.split_first()?;
-    let (skin, columns) = last_words(rest)?;
-    let columns = match columns {
-        Some(word) => parse_number(word)?,
-        None => WHOLE_COLUMNS,
-    };
-    Some(Call {
-        file: file.as_str(),
-        grammar,
-        skin,
-        place: Place::Output { columns },
-    })
-}
-
-// The last words of a call, which may be left out from the end on: that for the skin, and one more.
-fn last_words(words: &[String]) -> Option<(Option<&str>, Option<&str>)> {
+// The words after ROWS, of which those at the end may be left out: for the skin, the name, which is the file's without one, and the place.
+fn parse_more<'w>(file: &'w str, words: &'w [String]) -> Option<(Option<&'w str>, &'w str, Files)>
+    ensures { MatchOption result
+        ((skin : Option (List ℕ)) (name : List ℕ) (files : SomeFiles) → ¬ (SaysMore file.entry.now (map string_bytes words.entry.now) skin name files))
+        (λ said. SaysMore file.entry.now (map string_bytes words.entry.now) (option_map (λ word. word.now) said.0) said.1.now said.2) }
+{
     match words {
-        [] => Some((None, None)),
-        [skin] => Some((Some(skin.as_str()), None)),
-        [skin, other] => Some((Some(skin.as_str()), Some(other.as_str()))),
+        [] => Some((None, file, Files::NONE)),
+        [skin] => Some((Some(skin.as_str()), file, Files::NONE)),
+        [skin, name] => Some((Some(skin.as_str()), name.as_str(), Files::NONE)),
+        [skin, name, place] => {
+            let files = Files::named(place.as_str())?;
+            Some((Some(skin.as_str()), name.as_str(), files))
+        }
+        _ => None,
+    }
+}
+
+// The words after `whole`.
+fn parse_whole(words: &[String]) -> Option<(&str, Option<&str>, u16)>
+    ensures { MatchOption result
+        ((file : List ℕ) (skin : Option (List ℕ)) (columns : ℕ) → ¬ (AsksWhole (map string_bytes words.now) file skin columns))
+        (λ asked. AsksWhole (map string_bytes words.now) asked.0.now (option_map (λ word. word.now) asked.1) asked.2) }
+{
+    match words {
+        [file] => Some((file.as_str(), None, WHOLE_COLUMNS)),
+        [file, skin] => Some((file.as_str(), Some(skin.as_str()), WHOLE_COLUMNS)),
+        [file, skin, columns] => {
+            let columns = parse_number(columns.as_str())?;
+            Some((file.as_str(), Some(skin.as_str()), columns))
+        }
         _ => None,
     }
 }

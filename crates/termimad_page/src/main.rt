@@ -2,8 +2,8 @@
 //!
 //! 1. [`call`]: what the arguments ask for.
 //! 2. [`skins`]: the skin that a text is shown in.
-//! 3. [`failing`]: how a run fails.
-//! 4. [`running`]: reading the file, and a run.
+//! 3. [`failing`]: how a run ends.
+//! 4. [`running`]: a run, over any devices.
 #![tactic(auto)]
 
 mod call;
@@ -11,13 +11,71 @@ mod failing;
 mod running;
 mod skins;
 
-use mad_term::Stream;
+ghost use Rattle.std.specs.Prelude.{◌≡◌, MatchResult};
+ghost use Rattle.termimad_page.specs.Streams.{HasEnded, HasRunGiven, RefusesGiven, refusal_of_words};
+
+use crate::failing::{Refusal, refuse};
+use crate::running::run;
+use mad_term::{Out, Stream};
+use std::io::BufWriter;
 use std::process::ExitCode;
+use std::{env, io};
+use termimad_given::{Folder, NoWords, words_behind_name};
+use termimad_run::Failure;
 
 fn main(rt: HostRuntime) -> ExitCode {
     let mut err = Stream::new(rt.stderr());
-    match running::run_on_standard_streams(&rt) {
-        Ok(end) => ExitCode::from(failing::status(end)),
-        Err(refusal) => ExitCode::from(failing::refuse(&mut err, refusal)),
+    ExitCode::from(finish(&rt, env::args(&rt), &mut err))
+}
+
+// Runs the program with the arguments that the system gives, and answers its status.
+fn finish<E: Out>(rt: &HostRuntime, given: io::Result<env::Args>, err: &mut E) -> u8
+    ensures { HasEnded given (E.seen err.old) result (E.seen err.new) }
+{
+    match run_given(rt, given, err) {
+        Ok(status) => status,
+        Err(refusal) => refuse(err, refusal),
+    }
+}
+
+// Keys come from standard input. The screen is drawn on standard output picture by picture; a whole text is written there through a buffer, so that
+// no row is a call of the system.
+fn run_given<E: Out>(
+    rt: &HostRuntime,
+    given: io::Result<env::Args>,
+    err: &mut E,
+) -> Result<u8, Refusal>
+    ensures { MatchResult result (λ status. HasRunGiven given (E.seen err.old) status (E.seen err.new))
+        (λ refusal. RefusesGiven given refusal × (E.seen err.new ≡ E.seen err.old)) }
+{
+    let words = match words_behind_name(rt.alloc(), given) {
+        Ok(words) => words,
+        Err(lacking) => return Err(refusal_of_words(lacking)),
+    };
+    let Ok(writer) = BufWriter::new(rt.alloc(), io::writer(rt)) else {
+        return Err(Refusal::Failed(Failure::Memory));
+    };
+    let mut keys = Stream::new(rt.reader());
+    let mut screen = Stream::new(io::writer(rt));
+    let mut out = Stream::new(writer);
+    let texts = Folder { rt };
+    Ok(run(
+        rt.alloc(),
+        words.as_slice(),
+        &texts,
+        &mut keys,
+        &mut screen,
+        &mut out,
+        err,
+    ))
+}
+
+// Words that aren't UTF-8 are no call.
+fn refusal_of_words(lacking: NoWords) -> Refusal
+    ensures { result ≡ refusal_of_words lacking }
+{
+    match lacking {
+        NoWords::Undecoded => Refusal::Failed(Failure::Usage),
+        NoWords::Memory => Refusal::Failed(Failure::Memory),
     }
 }

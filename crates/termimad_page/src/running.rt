@@ -1,114 +1,178 @@
-//! A run: the file is read, and then shown.
+//! A run, over any devices.
 
-use crate::call::{Place, parse_call};
-use crate::failing::Refusal;
+ghost use Rattle.std.specs.Prelude.{◌≡◌, MatchResult, map, string_bytes};
+ghost use Rattle.mad_pager.specs.declared.session.End.TheVariants.{Quits};
+ghost use Rattle.termimad_page.specs.Calls.{where_of};
+ghost use Rattle.termimad_page.specs.Runs.{HasRun, IsBegun, IsSheetOf, IsUnbegun, PagesText, Performs, ReadsFile, Shows, WritesRows, WritesWhole, devices};
+
+use crate::call::{Call, Place, Screen, parse_call};
+use crate::failing::{Refusal, refusal_of, refusal_reading, refuse, status};
 use crate::skins::skin_for;
 use mad_measure::printable;
 use mad_page_skin::PageSkin;
 use mad_steady::steady;
-use mad_term::{Error, Out, Stream};
+use mad_term::{Error, Out, Source};
 use markdown_layout::write_markdown_on;
-use std::io::{BufWriter, Error as IoError, ErrorKind};
-use std::{env, fs, io};
-use termimad_page_run::{End, Grammar, Sheet, run};
+use markdown_lines::texts::behind_mark;
+use std::alloc::Global;
+use termimad_given::Texts;
+use termimad_page_run::{End, Grammar, Sheet, run as page};
 use termimad_run::Failure;
 
-/// Does what the arguments ask for: keys come from standard input, and standard output gets what is shown. It answers how that ended.
+/// Does what the words after the program's name ask for, and answers the status: keys come from the input, and a text is paged on the screen, or
+/// written whole on the output, which is then flushed.
 ///
-/// # Errors
-///
-/// A fault of the file or of a stream, other arguments, a file that isn't UTF-8, a skin that is none, or out of memory. Or nobody reads
-/// standard output.
-pub fn run_on_standard_streams(rt: &HostRuntime) -> Result<End, Refusal> {
-    let words = arguments(rt)?;
-    let call = parse_call(words.as_slice()).ok_or(Refusal::Failed(Failure::Usage))?;
-    let skin = skin_for(rt.alloc(), call.skin, call.grammar)?;
-    let bytes = read(rt, call.file)?;
-    let text = str::from_utf8(bytes.as_slice()).map_err(|_| Refusal::Failed(Failure::NotUtf8))?;
-    let text = without_mark(text);
+/// The words are checked first, then the skin, and then the file is read. Statuses are 0, after the keys for another file 6 and 7, and of a
+/// refusal 1 to 5 and 141; a refusal is said on `err`, in one line.
+pub(crate) fn run<T: Texts, I: Source, S: Out, O: Out, E: Out>(
+    alloc: Global,
+    words: &[String],
+    texts: &T,
+    input: &mut I,
+    screen: &mut S,
+    out: &mut O,
+    err: &mut E,
+) -> u8
+    ensures { HasRun (T.holds texts.now) (map string_bytes words.now) (devices (I.seen input.old) (S.seen screen.old) (O.seen out.old)) (E.seen err.old)
+        result (devices (I.seen input.new) (S.seen screen.new) (O.seen out.new)) (E.seen err.new) }
+{
+    match perform(alloc, words, texts, input, screen, out) {
+        Ok(end) => status(end),
+        Err(refusal) => refuse(err, refusal),
+    }
+}
+
+// Does what the words ask for.
+fn perform<T: Texts, I: Source, S: Out, O: Out>(
+    alloc: Global,
+    words: &[String],
+    texts: &T,
+    input: &mut I,
+    screen: &mut S,
+    out: &mut O,
+) -> Result<End, Refusal>
+    ensures { Performs (T.holds texts.now) (map string_bytes words.now) (devices (I.seen input.old) (S.seen screen.old) (O.seen out.old))
+        result (devices (I.seen input.new) (S.seen screen.new) (O.seen out.new)) }
+{
+    let (call, skin) = begin(alloc, words)?;
+    let bytes = read(alloc, texts, call.file)?;
+    show(alloc, &call, &skin, bytes.as_slice(), input, screen, out)
+}
+
+// What the words ask for, and its skin.
+fn begin(alloc: Global, words: &[String]) -> Result<(Call<'_>, PageSkin), Refusal>
+    ensures { MatchResult result
+        (λ begun. IsBegun (map string_bytes words.now) begun.0.file.now begun.0.grammar (where_of begun.0.place) begun.1)
+        (IsUnbegun (map string_bytes words.now)) }
+{
+    let Some(call) = parse_call(words) else {
+        return Err(Refusal::Failed(Failure::Usage));
+    };
+    match skin_for(alloc, call.skin, call.grammar) {
+        Ok(skin) => Ok((call, skin)),
+        Err(failure) => Err(Refusal::Failed(failure)),
+    }
+}
+
+// The bytes of a file.
+fn read<T: Texts>(alloc: Global, texts: &T, file: &str) -> Result<Vec<u8>, Refusal>
+    ensures { MatchResult result (λ bytes. T.holds texts.now file.now bytes.items) ReadsFile }
+{
+    match texts.read(alloc, file) {
+        Ok(bytes) => Ok(bytes),
+        Err(e) => Err(refusal_reading(&e)),
+    }
+}
+
+// Shows the text that bytes are.
+fn show<I: Source, S: Out, O: Out>(
+    alloc: Global,
+    call: &Call,
+    skin: &PageSkin,
+    bytes: &[u8],
+    input: &mut I,
+    screen: &mut S,
+    out: &mut O,
+) -> Result<End, Refusal>
+    ensures { Shows call.now.grammar skin.now (where_of call.now.place) bytes.now (devices (I.seen input.old) (S.seen screen.old) (O.seen out.old))
+        result (devices (I.seen input.new) (S.seen screen.new) (O.seen out.new)) }
+{
+    let Ok(text) = str::from_utf8(bytes) else {
+        return Err(Refusal::Failed(Failure::NotUtf8));
+    };
+    let text = behind_mark(text);
     match call.place {
-        Place::Screen {
-            name,
-            columns,
-            rows,
-            files,
-        } => {
-            let sheet = Sheet {
-                name,
-                text,
-                grammar: call.grammar,
-                skin: &skin,
-                columns,
-                rows,
-                files,
-            };
-            Ok(page(rt, &sheet)?)
-        }
-        Place::Output { columns } => {
-            write_whole(rt, text, call.grammar, &skin, usize::from(columns))?;
-            Ok(End::Quits)
-        }
+        Place::OnScreen(place) => page_text(alloc, &place, call.grammar, skin, text, input, screen),
+        Place::Whole(columns) => write_whole(alloc, out, call.grammar, skin, columns, text),
     }
 }
 
 // Pages a text.
-fn page(rt: &HostRuntime, sheet: &Sheet) -> Result<End, Error> {
-    let mut input = Stream::new(rt.reader());
-    let mut out = Stream::new(io::writer(rt));
-    run(rt.alloc(), sheet, &mut input, &mut out)
-}
-
-// Writes a whole text.
-fn write_whole(
-    rt: &HostRuntime,
-    text: &str,
+fn page_text<I: Source, S: Out>(
+    alloc: Global,
+    place: &Screen,
     grammar: Grammar,
     skin: &PageSkin,
-    columns: usize,
-) -> Result<(), Error> {
-    let writer = BufWriter::new(rt.alloc(), io::writer(rt))?;
-    let mut out = Stream::new(writer);
+    text: &str,
+    input: &mut I,
+    screen: &mut S,
+) -> Result<End, Refusal>
+    ensures { PagesText grammar skin.now place.now.name.now place.now.columns place.now.rows place.now.files text.now
+        (I.seen input.old) (S.seen screen.old) result (I.seen input.new) (S.seen screen.new) }
+{
+    let sheet = Sheet {
+        name: place.name,
+        text,
+        grammar,
+        skin,
+        columns: place.columns,
+        rows: place.rows,
+        files: place.files,
+    };
+    match page(alloc, &sheet, input, screen) {
+        Ok(end) => Ok(end),
+        Err(e) => Err(refusal_of(e)),
+    }
+}
+
+// Writes a whole text, and flushes the output.
+fn write_whole<O: Out>(
+    alloc: Global,
+    out: &mut O,
+    grammar: Grammar,
+    skin: &PageSkin,
+    columns: u16,
+    text: &str,
+) -> Result<End, Refusal>
+    ensures { WritesWhole grammar skin.now columns text.now (O.seen out.old) result (O.seen out.new) }
+{
+    if let Err(e) = write_rows(alloc, out, grammar, skin, columns, text) {
+        return Err(refusal_of(e));
+    }
+    match out.flush() {
+        Ok(()) => Ok(End::Quits),
+        Err(e) => Err(refusal_of(Error::IO(e))),
+    }
+}
+
+// Writes the rows of a text.
+fn write_rows<O: Out>(
+    alloc: Global,
+    out: &mut O,
+    grammar: Grammar,
+    skin: &PageSkin,
+    columns: u16,
+    text: &str,
+) -> Result<(), Error>
+    ensures { WritesRows grammar skin.now columns text.now (O.seen out.old) result (O.seen out.new) }
+{
+    let width = Some(usize::from(columns));
     match grammar {
         Grammar::Lines => {
-            let printed = printable(rt.alloc(), text)?;
-            let text = steady(rt.alloc(), &printed)?;
-            skin.text
-                .write_parts_on(rt.alloc(), &mut out, &text, Some(columns))?;
+            let printed = printable(alloc, text)?;
+            let shown = steady(alloc, &printed)?;
+            skin.text.write_parts_on(alloc, out, &shown, width)
         }
-        Grammar::Markdown => {
-            write_markdown_on(rt.alloc(), &mut out, skin, text, Some(columns))?;
-        }
-    }
-    out.flush()?;
-    Ok(())
-}
-
-// A text without the byte order mark that some editors put at its front. Behind one, a heading wouldn't begin its line.
-fn without_mark(text: &str) -> &str {
-    text.strip_prefix('\u{feff}').unwrap_or(text)
-}
-
-// The bytes of a file.
-fn read(rt: &HostRuntime, file: &str) -> Result<Vec<u8>, Failure> {
-    fs::read(rt, file).map_err(failure_of)
-}
-
-// The arguments, without the program's name. One that isn't UTF-8 is a usage failure.
-fn arguments(rt: &HostRuntime) -> Result<Vec<String>, Failure> {
-    let given = env::args(rt).map_err(|e| match e.kind() {
-        ErrorKind::OutOfMemory => Failure::Memory,
-        _ => Failure::Usage,
-    })?;
-    let mut words = Vec::new(rt.alloc());
-    for word in given.skip(1) {
-        words.push(word)?;
-    }
-    Ok(words)
-}
-
-fn failure_of(e: IoError) -> Failure {
-    match e.kind() {
-        ErrorKind::OutOfMemory => Failure::Memory,
-        _ => Failure::Io,
+        Grammar::Markdown => write_markdown_on(alloc, out, skin, text, width),
     }
 }

@@ -20,6 +20,7 @@ mod writing;
 
 pub use call::Command;
 pub use failure::{Failure, refuse};
+pub use input::read_all;
 pub use number::parse_number;
 pub use program::run;
 pub use skin::{page_skin_of_word, skin_of};

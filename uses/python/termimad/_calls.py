@@ -3,35 +3,63 @@ from __future__ import annotations
 
 import ctypes
 import json
+import operator
 import os
-from typing import Dict, Iterator, List, Mapping, Sequence, Tuple, Union
+from typing import Any, Dict, List, Mapping, Sequence, SupportsIndex, Tuple, Union
 
 Words = Union[str, bytes, "os.PathLike[str]"]
 Skin = Union[str, bytes, Mapping[str, object]]
 
 
 class Refused(Exception):
-    """A call was refused. Each of its kinds is a class of its own."""
+    """A call was refused. Each of its kinds is a class of its own, and names the argument.
+
+    >>> try:
+    ...     Markdown("a").show(skin="drak")
+    ... except Refused as refusal:
+    ...     print(refusal)
+    skin='drak' is no name of a skin, and no JSON text of one.
+    """
 
 
 class WrongNumber(Refused, ValueError):
-    """A number is none that the call takes."""
+    """A number is none that the call takes.
+
+    >>> fit("a long line", width=10, align=4)
+    Traceback (most recent call last):
+    termimad.WrongNumber: align=4 is over 3.
+    """
 
 
 class NotUtf8(Refused, ValueError):
-    """The text or the skin is not UTF-8."""
+    """A text or a skin is not UTF-8.
+
+    >>> printable(b"caf\\xe9")
+    Traceback (most recent call last):
+    termimad.NotUtf8: words is not UTF-8.
+    """
 
 
 class WrongSkin(Refused, ValueError):
-    """The skin is no JSON text, or says no skin."""
+    """A skin is no name of one, and no JSON text that says one.
+
+    >>> Markdown("a").rows(skin={"bold": "pissenlit"})
+    Traceback (most recent call last):
+    termimad.WrongSkin: skin='{"bold": "pissenlit"}' is no name of a skin, and no JSON text of one.
+    """
 
 
 class OutOfMemory(Refused, MemoryError):
-    """There was no memory for the result."""
+    """There was no memory for the result.
+
+    >>> issubclass(OutOfMemory, MemoryError)
+    True
+    """
 
 
 _DONE, _SHORT, _CONDITION, _NOT_UTF8, _SKIN, _MEMORY = range(6)
 _FIRST_CAPACITY = 4096
+_MOST, _MOST_SIDE, _LEAST_AREA_WIDTH = 65535, 3, 4
 
 
 class _Answer(ctypes.Structure):
@@ -60,7 +88,7 @@ for _name, _parameters in _PARAMETERS.items():
     _call.argtypes, _call.restype = _parameters, _Progress if _name == "termimad_parts" else _Answer
 
 
-def result(name: str, texts: Mapping[str, Words], numbers: Mapping[str, int]) -> str:
+def result(name: str, texts: Mapping[str, Words], numbers: Mapping[str, SupportsIndex]) -> str:
     """What a call makes of its arguments, each by its name."""
     return _filled(name, texts, numbers)[0]
 
@@ -71,20 +99,21 @@ def rows_of_parts(left: bytes, skin: Skin, width: int, fenced: int, last: int) -
     return made, answer.used, answer.fenced
 
 
-def row_count(text: Words, skin: Skin, width: int) -> int:
+def row_count(markdown: Words, skin: Skin, width: int) -> int:
     """How many rows a text takes."""
-    texts, numbers = _raw_texts({"text": text, "skin": skin_word(skin)}), {"width": width}
-    answer = _library.termimad_rows(*_handed(texts), *_sizes(numbers))
-    return _checked(answer, texts, numbers).count
+    texts, numbers = _raw_texts({"markdown": markdown, "skin": skin_word(skin)}), _sizes({"width": width})
+    answer = _library.termimad_rows(*_handed(texts), *numbers.values())
+    return int(_checked(answer, texts, numbers).count)
 
 
-def table_of_cells(cells: Sequence[bytes], columns: int, width: int, aligns: Sequence[int], skin: Skin) -> str:
+def table_of_cells(cells: Sequence[bytes], columns: int, width: int, aligns: Sequence[SupportsIndex], skin: Skin) -> str:
     """A table of cells, row by row."""
     joined, texts = b"".join(cells), _raw_texts({"skin": skin_word(skin)})
     lengths = (ctypes.c_size_t * len(cells))(*map(len, cells))
-    numbers = {"columns": columns, "width": width, **{f"aligns[{index}]": align for index, align in enumerate(aligns)}}
-    sides = (ctypes.c_size_t * len(aligns))(*list(_sizes(numbers))[2:])
-    given = [joined, len(joined), lengths, len(cells), sides, len(aligns), *_handed(texts), columns, width]
+    numbers = _sizes({"width": width, **{f"aligns[{index}]": align for index, align in enumerate(aligns)}})
+    width, *known_sides = numbers.values()
+    sides = (ctypes.c_size_t * len(known_sides))(*known_sides)
+    given = [joined, len(joined), lengths, len(cells), sides, len(known_sides), *_handed(texts), columns, width]
     return _answered("termimad_table", given, texts, numbers)[0]
 
 
@@ -93,21 +122,29 @@ def skin_word(skin: Skin) -> Words:
     return json.dumps(skin) if isinstance(skin, Mapping) else skin
 
 
-def raw(words: Words) -> bytes:
-    """The bytes of a text, or of a file."""
+def raw(words: Words, name: str = "text") -> bytes:
+    """The bytes of a text, or of a file. The name is that of the argument."""
     if isinstance(words, os.PathLike):
         with open(words, "rb") as file:
             return file.read()
-    return words.encode("utf-8", "surrogatepass") if isinstance(words, str) else bytes(words)
+    if isinstance(words, str):
+        return words.encode("utf-8", "surrogatepass")
+    if isinstance(words, (bytes, bytearray, memoryview)):
+        return bytes(words)
+    raise TypeError(f"{name} is {_kind(words)}, where str, bytes, {'or a dict' if name == 'skin' else 'or a path'} is taken")
 
 
-def _filled(name, texts, numbers):
+def _kind(given: object) -> str:
+    return "None" if given is None else f"of type {type(given).__name__}"
+
+
+def _filled(name: str, texts: Mapping[str, Words], numbers: Mapping[str, SupportsIndex]) -> Tuple[str, Any]:
     """What the call makes of texts and numbers, and its answer."""
-    texts = _raw_texts(texts)
-    return _answered(name, [*_handed(texts), *_sizes(numbers)], texts, numbers)
+    handed, sizes = _raw_texts(texts), _sizes(numbers)
+    return _answered(name, [*_handed(handed), *sizes.values()], handed, sizes)
 
 
-def _answered(name, given, texts, numbers):
+def _answered(name: str, given: Sequence[object], texts: Mapping[str, bytes], numbers: Mapping[str, int]) -> Tuple[str, Any]:
     """What the call makes and its answer, by a second call where the first buffer is too small."""
     capacity = _FIRST_CAPACITY
     while True:
@@ -118,17 +155,29 @@ def _answered(name, given, texts, numbers):
         capacity = answer.count
 
 
-def _checked(answer, texts: Dict[str, bytes], numbers: Mapping[str, int]):
+def _checked(answer: Any, texts: Mapping[str, bytes], numbers: Mapping[str, int]) -> Any:
     """The answer, where it isn't a refusal: that names the arguments."""
     if answer.status in (_DONE, _SHORT):
         return answer
     if answer.status == _CONDITION:
-        raise WrongNumber(f"{WrongNumber.__doc__} Given: {', '.join(f'{name}={number}' for name, number in numbers.items())}.")
+        raise WrongNumber(_said_of(numbers))
     if answer.status == _NOT_UTF8:
-        raise NotUtf8(f"Not UTF-8: {' and '.join(name for name, text in texts.items() if not _is_utf8(text))}.")
+        raise NotUtf8(f"{' and '.join(name for name, text in texts.items() if not _is_utf8(text))} is not UTF-8.")
     if answer.status == _SKIN:
-        raise WrongSkin(f"{WrongSkin.__doc__} Given: {texts['skin'].decode()!r}.")
-    raise OutOfMemory(OutOfMemory.__doc__)
+        raise WrongSkin(f"skin={texts['skin'].decode()!r} is no name of a skin, and no JSON text of one.")
+    raise OutOfMemory("There was no memory for the result.")
+
+
+def _said_of(numbers: Mapping[str, int]) -> str:
+    """Which numbers no call takes, and why."""
+    most = {name: _MOST_SIDE if name.startswith("align") else _MOST for name in numbers}
+    said = [f"{name}={number} is under 0" for name, number in numbers.items() if number < 0]
+    said += [f"{name}={number} is over {most[name]}" for name, number in numbers.items() if number > most[name]]
+    if not said and "left" in numbers:
+        said += [f"width={numbers['width']} is under {_LEAST_AREA_WIDTH}"] * (numbers["width"] < _LEAST_AREA_WIDTH)
+        pairs = [("left", "width"), ("top", "height")]
+        said += [f"{a}={numbers[a]} and {b}={numbers[b]} are together over {_MOST}" for a, b in pairs if numbers[a] + numbers[b] > _MOST]
+    return f"{'; '.join(said) or 'a number is none that the call takes'}."
 
 
 def _is_utf8(text: bytes) -> bool:
@@ -140,7 +189,7 @@ def _is_utf8(text: bytes) -> bool:
 
 
 def _raw_texts(texts: Mapping[str, Words]) -> Dict[str, bytes]:
-    return {name: raw(words) for name, words in texts.items()}
+    return {name: raw(words, name) for name, words in texts.items()}
 
 
 def _handed(texts: Mapping[str, bytes]) -> List[object]:
@@ -148,9 +197,14 @@ def _handed(texts: Mapping[str, bytes]) -> List[object]:
     return [word for text in texts.values() for word in (text, len(text))]
 
 
-def _sizes(numbers: Mapping[str, int]) -> Iterator[int]:
+def _sizes(numbers: Mapping[str, SupportsIndex]) -> Dict[str, int]:
     """The numbers, which ctypes would cut to their lower bits where they are too large."""
+    sizes = {}
     for name, number in numbers.items():
-        if not 0 <= number < 2**63:
-            raise WrongNumber(f"{WrongNumber.__doc__} Given: {name}={number}.")
-        yield number
+        try:
+            sizes[name] = operator.index(number)
+        except TypeError:
+            raise TypeError(f"{name} is {_kind(number)}, where an int is taken") from None
+        if not 0 <= sizes[name] < 2**63:
+            raise WrongNumber(_said_of({name: sizes[name]}))
+    return sizes

@@ -7,16 +7,21 @@ import select
 import shutil
 import sys
 import time
-from typing import Iterator, List, Optional, TextIO
+from typing import Any, Iterator, List, Optional, TextIO
 
 from ._calls import Skin, Words, raw, result, skin_word
 
 _WIDEST = 65535
 _SECONDS_TO_ANSWER = 1.0
+_NARROWEST = 8  # in a layout of rich, where it is wider
 
 
 def terminal_width() -> int:
-    """The columns of the terminal: `COLUMNS`, its size, or 80."""
+    """The columns of the terminal: `COLUMNS`, its size, or 80.
+
+    >>> 1 <= terminal_width() <= 65535
+    True
+    """
     return min(max(shutil.get_terminal_size((80, 24)).columns, 1), _WIDEST)
 
 
@@ -25,17 +30,21 @@ def columns_of(width: Optional[int]) -> int:
     return terminal_width() if width is None else width
 
 
-def skin_for(skin: Skin, file: TextIO) -> Skin:
-    """The skin that is meant. `"auto"` is `"none"` where the file is no terminal or `NO_COLOR` is set; else it goes by `COLORFGBG`, else `"dark"`."""
+def skin_for(skin: Skin, is_terminal: bool) -> Skin:
+    """The skin that is meant. `"auto"` is `"none"` where there is no terminal or `NO_COLOR` is set; else it goes by `COLORFGBG`, else `"dark"`."""
     if skin != "auto":
         return skin
-    if os.environ.get("NO_COLOR") or os.environ.get("TERM") == "dumb" or not file.isatty():
+    if os.environ.get("NO_COLOR") or os.environ.get("TERM") == "dumb" or not is_terminal:
         return "none"
     return _skin_over(os.environ.get("COLORFGBG", "").rpartition(";")[2])
 
 
 def background() -> Optional[str]:
-    """Asks the terminal for its background: `"dark"`, `"light"`, or `None` where it tells none within a second. It reads what is typed meanwhile."""
+    """Asks the terminal for its background: `"dark"`, `"light"`, or `None` where it tells none within a second. It reads what is typed meanwhile.
+
+    >>> Markdown("> a quote").show(skin="none" if background() is None else "auto")
+    ▌ a quote
+    """
     try:
         terminal = os.open("/dev/tty", os.O_RDWR | os.O_NOCTTY)
     except OSError:
@@ -83,39 +92,85 @@ class _Shown:
     _call = ""
 
     def __init__(self, source: Words) -> None:
-        self.source = raw(source)
+        self.source = raw(source, "source")
 
     def rows(self, width: Optional[int] = None, skin: Skin = "none") -> List[str]:
-        """Its rows in `width` columns, by default those of the terminal. A style that begins in a row ends there."""
+        """Its rows in `width` columns, by default those of the terminal. A style that begins in a row ends there.
+
+        >>> Markdown("1. one\\n2. two *words*").rows(width=8)
+        ['1. one', '2. two', '   words']
+        >>> Markdown("**a**").rows(width=8, skin="dark")
+        ['\\x1b[1ma\\x1b[0m']
+        """
         return self._written(width, skin).split("\n")[:-1]
 
     def show(self, width: Optional[int] = None, skin: Skin = "auto", file: Optional[TextIO] = None) -> None:
-        """Prints its rows, by default on the standard output. Only a terminal gets styles, where the skin is `"auto"`."""
+        """Prints its rows, by default on the standard output. Only a terminal gets styles, where the skin is `"auto"`.
+
+        >>> Markdown("> a quote").show(width=40)
+        ▌ a quote
+        """
         out = sys.stdout if file is None else file
-        print(self._written(width, skin_for(skin, out)), end="", file=out)
+        print(self._written(width, skin_for(skin, out.isatty())), end="", file=out)
 
     def __str__(self) -> str:
         return self._written(None, "none").rstrip("\n")
 
-    def __rich_console__(self, console: object, options: object) -> Iterator[object]:
+    def __repr__(self) -> str:
+        return f"{type(self).__name__}({self.source.decode('utf-8', 'replace')!r})"
+
+    def __rich_console__(self, console: Any, options: Any) -> Iterator[Any]:
         from rich.text import Text as RichText
 
-        skin = "dark" if getattr(console, "is_terminal", False) and not getattr(console, "no_color", False) else "none"
-        for row in self.rows(options.max_width, skin):
-            yield RichText.from_ansi(row)
+        for row in self.rows(options.max_width, self._rich_skin(console)):
+            line = RichText.from_ansi(row, no_wrap=True)
+            line.end = "\n"
+            yield line
+
+    def __rich_measure__(self, console: Any, options: Any) -> Any:
+        from rich.cells import cell_len
+        from rich.measure import Measurement
+
+        widest = max((cell_len(row.rstrip()) for row in self.rows(options.max_width)), default=0)
+        return Measurement(min(widest, _NARROWEST), widest)
+
+    def _rich_skin(self, console: Any) -> Skin:
+        """The skin on a console of rich, which knows whether it is a terminal, and whether it has colors."""
+        return skin_for("auto", console.is_terminal and not console.no_color)
 
     def _written(self, width: Optional[int], skin: Skin) -> str:
-        return result(self._call, {"text": self.source, "skin": skin_word(skin)}, {"width": columns_of(width)})
+        return result(self._call, {"source": self.source, "skin": skin_word(skin)}, {"width": columns_of(width)})
 
 
 class Markdown(_Shown):
-    """Markdown as people write it: a text, or a path, which stands for the text of its file."""
+    """Markdown as people write it: a text, or a path, which stands for the text of its file.
+
+    >>> page = Markdown("> *three* disks\\n\\n|disk|used|\\n|-|-:|\\n|/|7|")
+    >>> print(page)
+    ▌ three disks
+    <BLANKLINE>
+    ╭────┬────╮
+    │disk│used│
+    ├────┼────┤
+    │/   │   7│
+    ╰────┴────╯
+    >>> page.rows(width=8)[:2]
+    ['▌ three', '▌ disks']
+
+    rich shows it too, in the width that it has there: `rich.print(rich.panel.Panel(page))`.
+    """
 
     _call = "termimad_markdown"
 
 
 class Lines(_Shown):
-    """A text whose lines each stand for themselves, with the marks of the small grammar."""
+    """A text whose lines each stand for themselves, with the marks of the small grammar.
+
+    >>> Lines("one\\n*two*").rows(width=20)
+    ['one', 'two']
+
+    Its skins are those of the small grammar: `"default"`, `"dark"`, `"light"`, a `dict`, and `"none"`.
+    """
 
     _call = "termimad_text"
 
@@ -124,9 +179,14 @@ class Lines(_Shown):
 
 
 def code(text: Words, language: str = "") -> Markdown:
-    """A text of code, as a page of one block of that language."""
+    """A text of code, or that of a file, as a page of one block. `language` is its first word, such as `rust`.
+
+    >>> code("let a = `b`;", "rust").rows(width=20)
+    ['  let a = `b`;']
+    """
     body = raw(text)
     longest = max((len(run) for run in re.findall(rb"`+", body)), default=0)
     fence = b"`" * max(longest + 1, 3)
+    word = re.split(r"[\s`]", language.strip(), maxsplit=1)[0].encode("utf-8", "replace")
     end = b"" if body.endswith(b"\n") or not body else b"\n"
-    return Markdown(fence + language.encode() + b"\n" + body + end + fence + b"\n")
+    return Markdown(fence + word + b"\n" + body + end + fence + b"\n")

@@ -198,6 +198,11 @@ pub fn text(text: &str, width: usize, skin: &str) -> Result<String, Refused> {
 }
 
 /// A text of Markdown as people write it, laid out at a width, in columns.
+///
+/// ```
+/// let rows = termimad_proved::markdown("Two lines\nof a [paragraph](x)", 20, "none");
+/// assert_eq!(rows.as_deref(), Ok("Two lines of a\nparagraph\n"));
+/// ```
 pub fn markdown(text: &str, width: usize, skin: &str) -> Result<String, Refused> {
     filled(|buffer| unsafe {
         termimad_markdown(
@@ -214,9 +219,10 @@ pub fn markdown(text: &str, width: usize, skin: &str) -> Result<String, Refused>
 
 /// A page of Markdown as people write it, which `{}` and `to_string` lay out. Where it is refused, that is [`fmt::Error`]; [`markdown`] says why.
 ///
-/// ```no_run
+/// ```
 /// # use termimad_proved::Page;
-/// print!("{}", Page { text: "# Help\n\n- *one*", width: 80, skin: "dark" });
+/// let page = Page { text: "> a quote\n\n- *one*", width: 80, skin: "none" };
+/// assert_eq!(page.to_string(), "▌ a quote\n\n• one\n");
 /// ```
 #[derive(Clone, Copy, Debug)]
 pub struct Page<'t> {
@@ -235,11 +241,22 @@ impl fmt::Display for Page<'_> {
     }
 }
 
-/// A text of code as a page of one block of that language, which is the word behind a fence, such as `rust`.
+/// A text of code as a page of one block of that language: the first word of `language`, such as `rust`.
+///
+/// ```
+/// let rows = termimad_proved::code("let a = 1;", "rust", 40, "none");
+/// assert_eq!(rows.as_deref(), Ok("  let a = 1;\n"));
+/// ```
 pub fn code(text: &str, language: &str, width: usize, skin: &str) -> Result<String, Refused> {
     let fence = "`".repeat(longest_run(text) + 3);
-    let end = if text.is_empty() || text.ends_with('\n') { "" } else { "\n" };
-    markdown(&format!("{fence}{language}\n{text}{end}{fence}\n"), width, skin)
+    let is_end = |c: char| c.is_whitespace() || c == '`';
+    let word = language.trim().split(is_end).next().unwrap_or("");
+    let mut page = format!("{fence}{word}\n{text}");
+    if !text.is_empty() && !text.ends_with('\n') {
+        page.push('\n');
+    }
+    page += &fence;
+    markdown(&page, width, skin)
 }
 
 // The backquotes of the longest run of them.
@@ -373,6 +390,11 @@ pub fn rows(text: &str, width: usize, skin: &str) -> Result<usize, Refused> {
 }
 
 /// A line with its inline marks, in at most `width` columns: an ellipsis is where something is left out.
+///
+/// ```
+/// # use termimad_proved::{fit, Align};
+/// assert_eq!(fit("a **very** long line", 10, Align::Left, "").as_deref(), Ok("a very lo…"));
+/// ```
 pub fn fit(line: &str, width: usize, align: Align, skin: &str) -> Result<String, Refused> {
     filled(|buffer| unsafe {
         termimad_fit(
@@ -391,6 +413,12 @@ pub fn fit(line: &str, width: usize, align: Align, skin: &str) -> Result<String,
 /// A table of these rows, the first of which has its headers, laid out at a width, in columns.
 ///
 /// A cell is a text as it is: no mark is read in it, and it is made printable here; a newline is a space. Short rows are filled up.
+///
+/// ```
+/// # use termimad_proved::{table, Align};
+/// let rows = [vec!["disk", "used"], vec!["a|b", "7"]];
+/// print!("{}", table(&rows, &[Align::Left, Align::Right], 40, "").unwrap());
+/// ```
 pub fn table<C: AsRef<str>>(
     rows: &[Vec<C>],
     aligns: &[Align],
@@ -427,6 +455,10 @@ pub fn table<C: AsRef<str>>(
 }
 
 /// The text without what a terminal obeys.
+///
+/// ```
+/// assert_eq!(termimad_proved::printable("an escape \u{1b}[2J").as_deref(), Ok("an escape ␛[2J"));
+/// ```
 pub fn printable(text: &str) -> Result<String, Refused> {
     filled(|buffer| unsafe {
         termimad_printable(text.as_ptr(), text.len(), buffer.as_mut_ptr(), buffer.len())

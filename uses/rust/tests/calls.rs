@@ -34,7 +34,9 @@ fn calls_are_refused_by_name() {
 #[test]
 fn pieces_make_the_whole() {
     let whole = "# head\n|a|b|\n|-|-|\n|1|2|\n\nlast *words*";
-    let made: String = rows_as_read(whole.as_bytes(), 20, "").map(Result::unwrap).collect();
+    let made: String = rows_as_read(whole.as_bytes(), 20, "")
+        .map(Result::unwrap)
+        .collect();
     assert_eq!(made, text(whole, 20, "").unwrap());
     assert_eq!(rows(whole, 20, ""), Ok(made.lines().count()));
 }
@@ -46,7 +48,11 @@ fn a_line_is_cut_where_it_is_asked() {
 
 #[test]
 fn a_page_is_displayed() {
-    let page = Page { text: "# head\n\n- *one*", width: 20, skin: "none" };
+    let page = Page {
+        text: "# head\n\n- *one*",
+        width: 20,
+        skin: "none",
+    };
     assert_eq!(Ok(page.to_string()), markdown(page.text, 20, "none"));
 }
 
@@ -55,4 +61,6 @@ fn code_is_one_block() {
     let shown = code("```\n# no heading", "markdown", 40, "none").unwrap();
     let rows: Vec<&str> = shown.lines().map(str::trim).collect();
     assert_eq!(rows, ["```", "# no heading"]);
+    let one = code("a", "rust", 40, "none");
+    assert_eq!(code("a", "rust\n```\n# head", 40, "none"), one);
 }

@@ -13,6 +13,6 @@ returns c =
     let same = begins_same c.args.skin.runs.now c.runs_from.result.now c.args.number c.saturating_sub.result c.saturating_sub.ensures c.runs_from.ensures in
     let compounds = c.in_ok-append_compounds.ensures
     ∙ ap (λ ps. string_bytes c.write.new.self ++ linked_bytes c.args.skin.addresses.now ps) (compounds_same (paint_by c.args.skin.paint.styles.now) (has_mark kind) c.args.skin.runs.now c.runs_from.result.now c.args.skin.skin.now c.line_style-style.result.now c.args.number c.deref.result.now same) in
-    composite_row (paint_by c.args.skin.paint.styles.now) has_mark c.args.skin.runs.now c.args.skin.skin.now place.outer place.margins place.filled c.args.number c.args.composite.now c.line_style-style.result.now c.blanks_beside-left.result
-    c.inner_blanks-inner_left.result c.deref.result.now c.args.skin.addresses.now (string_bytes c.args.rows.now) (string_bytes c.write.new.self) (string_bytes c.append_compounds.new.rows) (string_bytes c.write-2.new.self)
-    c.line_style-style.ensures c.blanks_beside-left.ensures c.inner_blanks-inner_left.ensures c.deref.ensures.value c.in_ok-write.ensures.bytes compounds c.in_ok-write-2.ensures.bytes
+    composite_row (paint_by c.args.skin.paint.styles.now) has_mark c.args.skin.runs.now c.args.skin.skin.now place.outer place.margins place.filled c.args.number c.args.composite.now c.line_style-style.result.now c.deref.result.now c.args.skin.addresses.now
+    (string_bytes c.args.rows.now) (string_bytes c.write.new.self) (string_bytes c.append_compounds.new.rows) (string_bytes c.write-2.new.self) c.line_style-style.ensures c.deref.ensures.value
+    (rw c.ends.ensures.front at c.in_ok-write.ensures.bytes) compounds (rw c.ends.ensures.end at c.in_ok-write-2.ensures.bytes)

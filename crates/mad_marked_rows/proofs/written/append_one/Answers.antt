@@ -1,4 +1,3 @@
-use Rattle.std.proofs.Common.{◌∙◌, ap}
 use Rattle.std.specs.Prelude.{string_bytes}
 use Rattle.mad_marked_rows.proofs.WrittenLemmas.{one_on}
 use Rattle.mad_marked_rows.proofs.written.append_one.Goals as goal

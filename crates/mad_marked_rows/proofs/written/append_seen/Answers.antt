@@ -1,4 +1,4 @@
-use Rattle.std.proofs.Common.{◌≡◌, ◌∷◌, [], ◌∙◌, ap, map, sym}
+use Rattle.std.proofs.Common.{◌∷◌, [], ◌∙◌, ap, map, sym}
 use Rattle.std.specs.Prelude.{string_bytes}
 use Rattle.mad_marked_rows.specs.LinkedTexts.{pieces_on}
 use Rattle.mad_marked_rows.specs.Written.{seen_link}

@@ -1,14 +1,15 @@
-use Rattle.std.proofs.Common.{◌≡◌, ◌++◌, ◌-◌, ℕ, ap, append-nil, arith, map, sym, ◌∙◌}
-use Rattle.mad_pages.specs.Fronts.{front_content, fronts_behind}
-use Rattle.mad_pages.proofs.BesideLemmas.{front_more}
+use Rattle.std.proofs.Common.{◌++◌, ◌∙◌, ap, map}
+use Rattle.mad_pages.specs.Fronts.{front_content, front_of}
+use Rattle.mad_pages.specs.PageRows.{behind, number_behind}
+use Rattle.mad_pages.proofs.BesideLemmas.{front_more, fronts_whole}
 use Rattle.mad_pages.proofs.fronts.push_fronts.Goals as goal
 
-pub loop-row-preserved : goal.loop-row-preserved
-loop-row-preserved c =
-    front_more c.loop-row.fronts.items c.push.new.self.items (record { gutters = c.args.gutters; fresh = c.loop-row.here }) (map front_content c.args.fronts.now.items ++ fronts_behind c.args.gutters.now c.args.fresh c.args.count) c.args.count c.loop-row._row
-    c.loop-row-test.true c.in_ok-push.ensures.items c.loop-row.invariant
+pub loop-line-preserved : goal.loop-line-preserved
+loop-line-preserved c =
+    front_more c.loop-line.fronts.items c.push.new.self.items (record { gutters = c.args.gutters; fresh = c.loop-line.here; marks = c.loop-line.left; number = c.loop-line.number }) _ c.marks_from-left.result.now c.in_ok-number.number
+    c.args.lines.now c.loop-line.line-index c.line-item.result c.loop-line-test.true c.in_ok-push.ensures.items
+    (c.in_ok-number.ensures ∙ ap (number_behind c.loop-line.left.now c.loop-line.number) c.line-item.is) c.marks_from-left.ensures c.loop-line.invariant
 
 pub returns : goal.returns
 returns c =
-    let none : c.args.count - c.loop-row._row ≡ 0 = omega (arith, c.loop-row-test.false) in
-    sym (append-nil (map front_content c.loop-row.fronts.items)) ∙ ap (λ (n : ℕ). map front_content c.loop-row.fronts.items ++ fronts_behind c.args.gutters.now c.loop-row.here n) (sym none) ∙ c.loop-row.invariant
+    fronts_whole (map front_content c.loop-line.fronts.items) _ c.args.gutters.now c.loop-line.here c.loop-line.left.now c.loop-line.number c.args.lines.now c.loop-line.line-index c.loop-line-test.false c.loop-line.invariant

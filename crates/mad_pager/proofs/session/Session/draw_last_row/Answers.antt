@@ -12,4 +12,4 @@ returns-then-is_typing g c =
 pub returns : goal.returns
 returns g c =
     let s = state_of c.args.self.now in
-    took_so (g.O.Out.seen c.args.out.now) (g.O.Out.seen c.draw_status.new.out) (IsStatus c.args.self.now.skin.now c.args.self.now.name.now s) (IsLastRow c.args.self.now.skin.now c.args.self.now.name.now s) (λ text row. record { typing = λ is. let e : true ≡ false = sym is ∙ c.if-is_typing.false in absurd (cc); status = λ is. row }) c.in_ok-draw_status.ensures
+    took_so (g.O.Out.seen c.args.out.now) (g.O.Out.seen c.draw_status.new.out) (IsStatus c.args.self.now.skin.now c.args.self.now.name.now s) (IsLastRow c.args.self.now.skin.now c.args.self.now.name.now s) (λ text row. record { typing = λ is. let e : true ≡ false = sym is ∙ c.if-is_typing.false in absurd (cc); status = λ is. row }) c.in_ok-draw_status.ensures.shown

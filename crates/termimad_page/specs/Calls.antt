@@ -1,0 +1,69 @@
+-- What the words after the program's name ask for. A word is its bytes.
+use Rattle.std.specs.Prelude.{◌≡◌, ℕ, false, List, [], ◌∷◌, codes, Option, Some, None, if◌then◌else◌}
+use Rattle.std.specs.Str.{bytes_eq}
+use Rattle.mad_page.specs.Pages.{files_named}
+use Rattle.mad_page.specs.declared.page.Files.{Files}
+use Rattle.termimad_page_run.specs.declared.program.Grammar.{Grammar}
+use Rattle.termimad_page_run.specs.declared.program.Grammar.TheVariants.{Lines, Markdown}
+use Rattle.termimad_run.specs.Numbers.{IsNumber}
+use Rattle.termimad_page.specs.declared.call.Place.{Place}
+use Rattle.termimad_page.specs.declared.call.Place.TheVariants.{OnScreen, Whole}
+
+-- where a text is shown: under a name on a screen of so many columns and rows, with these files beside it; or whole, in so many columns
+pub data Where : Type 0 where
+  on_screen : List ℕ → ℕ → ℕ → Files → Where
+  as_whole : ℕ → Where
+
+-- where a place is
+abbrev pub where_of : Place → Where
+where_of (OnScreen screen) = on_screen screen.name.now screen.columns screen.rows screen.files
+where_of (Whole columns) = as_whole columns
+
+-- no files beside it
+abbrev pub no_files : Files
+no_files = record { has_next = false; has_previous = false }
+
+-- the words after ROWS: SKIN, NAME, which is FILE without one, and PLACE; those at the end may be left out
+abbrev pub SaysMore : List ℕ → List (List ℕ) → Option (List ℕ) → List ℕ → Files → Type 0
+SaysMore file [] skin name files = (skin ≡ None) × (name ≡ file) × (files ≡ no_files)
+SaysMore file (s ∷ []) skin name files = (skin ≡ Some s) × (name ≡ file) × (files ≡ no_files)
+SaysMore file (s ∷ n ∷ []) skin name files = (skin ≡ Some s) × (name ≡ n) × (files ≡ no_files)
+SaysMore file (s ∷ n ∷ p ∷ []) skin name files = (skin ≡ Some s) × (name ≡ n) × (files_named p ≡ Some files)
+SaysMore file _ skin name files = ⊥
+
+-- the words after `page`: FILE COLUMNS ROWS [SKIN [NAME [PLACE]]]
+abbrev pub AsksScreen : List (List ℕ) → List ℕ → Option (List ℕ) → List ℕ → ℕ → ℕ → Files → Type 0
+AsksScreen (given ∷ wide ∷ high ∷ more) file skin name columns rows files =
+    (file ≡ given) × IsNumber wide columns × IsNumber high rows × SaysMore given more skin name files
+AsksScreen _ file skin name columns rows files = ⊥
+
+-- the words after `whole`: FILE [SKIN [COLUMNS]]; without COLUMNS they are 80
+abbrev pub AsksWhole : List (List ℕ) → List ℕ → Option (List ℕ) → ℕ → Type 0
+AsksWhole (given ∷ []) file skin columns = (file ≡ given) × (skin ≡ None) × (columns ≡ 80)
+AsksWhole (given ∷ s ∷ []) file skin columns = (file ≡ given) × (skin ≡ Some s) × (columns ≡ 80)
+AsksWhole (given ∷ s ∷ wide ∷ []) file skin columns = (file ≡ given) × (skin ≡ Some s) × IsNumber wide columns
+AsksWhole _ file skin columns = ⊥
+
+-- the words ask for this file, this word for the skin and this place
+abbrev pub AsksPlace : List (List ℕ) → List ℕ → Option (List ℕ) → Where → Type 0
+AsksPlace [] file skin place = ⊥
+AsksPlace (word ∷ words) file skin (on_screen name columns rows files) = (word ≡ codes "page") × AsksScreen words file skin name columns rows files
+AsksPlace (word ∷ words) file skin (as_whole columns) = (word ≡ codes "whole") × AsksWhole words file skin columns
+
+-- how the text is read: line by line behind `--lines`
+abbrev pub grammar_said : List (List ℕ) → Grammar
+grammar_said [] = Markdown
+grammar_said (word ∷ words) = if bytes_eq word (codes "--lines") then Lines else Markdown
+
+-- the words behind `--lines`, or all without it
+abbrev pub words_behind : List (List ℕ) → List (List ℕ)
+words_behind [] = []
+words_behind (word ∷ words) = if bytes_eq word (codes "--lines") then words else word ∷ words
+
+-- the words ask for this file, read so, this word for the skin and this place
+abbrev pub Asks : List (List ℕ) → List ℕ → Grammar → Option (List ℕ) → Where → Type 0
+Asks words file grammar skin place = (grammar ≡ grammar_said words) × AsksPlace (words_behind words) file skin place
+
+-- the words ask for nothing that the program does
+abbrev pub IsNoCall : List (List ℕ) → Type 0
+IsNoCall words = (file : List ℕ) (grammar : Grammar) (skin : Option (List ℕ)) (place : Where) → ¬ (Asks words file grammar skin place)

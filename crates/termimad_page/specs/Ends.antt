@@ -1,0 +1,61 @@
+-- How a run ends: its status, and what is said where it failed.
+use Rattle.std.specs.Prelude.{◌≡◌, ℕ, List, codes}
+use Rattle.std.specs.IoError.{error_kind}
+use Rattle.std.specs.declared.io.Error.{Error as IoError}
+use Rattle.std.specs.declared.io.ErrorKind.{ErrorKind}
+use Rattle.std.specs.declared.io.ErrorKind.TheVariants.{BrokenPipe, OutOfMemory}
+use Rattle.mad_term.specs.Trace.{Trace}
+use Rattle.mad_term.specs.declared.errors.Error.{Error}
+use Rattle.mad_term.specs.declared.errors.Error.TheVariants.{IO, InsufficientWidth, Memory as NoMemory}
+use Rattle.mad_pager.specs.declared.session.End.{End}
+use Rattle.mad_pager.specs.declared.session.End.TheVariants.{Quits, NextFile, PreviousFile}
+use Rattle.termimad_run.specs.Failures.{SaysOnce, status_of as failure_status}
+use Rattle.termimad_run.specs.declared.failure.Failure.{Failure}
+use Rattle.termimad_run.specs.declared.failure.Failure.TheVariants.{Io, Usage, NotUtf8, Skin, Memory}
+use Rattle.termimad_page.specs.declared.failing.Refusal.{Refusal}
+use Rattle.termimad_page.specs.declared.failing.Refusal.TheVariants.{Failed, Unread}
+
+-- the status of a run that didn't fail: 6 where the next file was asked for, 7 where the one before was, and else 0
+abbrev pub status_of_end : End → ℕ
+status_of_end Quits = 0
+status_of_end NextFile = 6
+status_of_end PreviousFile = 7
+
+-- the status of a refusal: that of its failure, or 141 where nobody reads the output
+abbrev pub status_of : Refusal → ℕ
+status_of (Failed failure) = failure_status failure
+status_of Unread = 141
+
+-- the line that is said of a failure
+abbrev pub failure_line : Failure → List ℕ
+failure_line Io = codes "termimad-page: the file can't be read, or the output failed\n"
+failure_line Usage = codes "usage: termimad-page [--lines] page FILE COLUMNS ROWS [SKIN [NAME [PLACE]]] | [--lines] whole FILE [SKIN [COLUMNS]]\n"
+failure_line NotUtf8 = codes "termimad-page: the file is not UTF-8\n"
+failure_line Skin = codes "termimad-page: skin\n"
+failure_line Memory = codes "termimad-page: memory\n"
+
+-- what is said of a refusal: a failure's line, once, and nothing where nobody reads the output
+abbrev pub Says : Refusal → Trace → Trace → Type 0
+Says (Failed failure) old new = SaysOnce old (failure_line failure) new
+Says Unread old new = new ≡ old
+
+-- what a fault of this kind in writing makes of a run
+abbrev pub refusal_by : ErrorKind → Refusal
+refusal_by BrokenPipe = Unread
+refusal_by OutOfMemory = Failed Memory
+refusal_by _ = Failed Io
+
+-- what the refusal of a writing call makes of a run
+abbrev pub refusal_of : Error → Refusal
+refusal_of (IO e) = refusal_by (error_kind e)
+refusal_of (InsufficientWidth e) = Failed Io
+refusal_of NoMemory = Failed Memory
+
+-- what a fault of this kind in reading makes of a run
+abbrev pub reading_by : ErrorKind → Refusal
+reading_by OutOfMemory = Failed Memory
+reading_by _ = Failed Io
+
+-- what a fault in reading the file makes of a run
+abbrev pub refusal_reading : IoError → Refusal
+refusal_reading e = reading_by (error_kind e)
