@@ -4,8 +4,8 @@
 The texts are made in FOLDER, one after the other, and taken away again. A cell of the table has the best wall time of some runs, and the
 peak memory that GNU time says, at one megabyte and at ten. In brackets are the ratios of processor time and of memory; one over eleven is
 in bold. A skin is one argument: its sizes are the greatest that Linux takes, and a tenth of that. A second table has the texts of
-`markdown_texts.py`, and of tables, read as people write Markdown. The script fails at another status than the one beside a kind, and where a
-table takes more memory than it may.
+`markdown_texts.py`, and of tables, read as people write Markdown. A third has texts of code, 40 kB of each, and the best processor time of some
+runs. The script fails at another status than the one beside a kind, where a table takes more memory than it may, and where code takes more time.
 """
 import random
 import resource
@@ -105,6 +105,38 @@ def short_rows(columns):
 TABLES = {"a table of 19 columns, with rows of one letter": short_rows(19)}
 MOST_MEMORY = {"a table of 19 columns, with rows of one letter": 200}
 
+# Texts of code, each with its language: what opens and never closes, what nests, and what has to be looked at twice.
+CODE = {
+    "templates in templates": ("javascript", repeated("`${")),
+    "templates beside each other": ("typescript", repeated("`a ${b} ")),
+    "patterns that stay open": ("javascript", repeated("=/[")),
+    "commands in texts": ("sh", repeated('"$(')),
+    "texts up to labels": ("sh", repeated("<<a\n")),
+    "a text up to a label that never comes": ("perl", repeated("words\n", "<<A;\n")),
+    "a comment that stays open": ("c", repeated("words ", "/* ")),
+    "comments in comments": ("rust", repeated("/*")),
+    "apostrophes": ("rust", repeated("'")),
+    "texts with signs in front": ("rust", repeated('r##"')),
+    "quotes": ("python", repeated('"')),
+    "texts of three quotes": ("python", repeated("'\'\'a ")),
+    "keys without colons": ("json", repeated('"a" ')),
+    "words before colons": ("yaml", repeated("a b: ")),
+    "selectors": ("css", repeated("a{b{")),
+    "tags that stay open": ("html", repeated("<a ")),
+    "scripts": ("html", repeated("<script>")),
+    "parts of substitutions": ("perl", repeated("s/a/")),
+    "calls in calls": ("make", repeated("$(a ")),
+    "sections": ("toml", repeated("[a")),
+    "one word": ("sql", repeated("abcdefghij")),
+    "spaces": ("ini", repeated(" ")),
+    "continued lines": ("dockerfile", repeated("RUN a \\\n")),
+    "prompts": ("console", repeated("$ ")),
+    "lines of a diff": ("diff", repeated("+ words\n- words\n")),
+    "random signs": ("cpp", of_characters("\"'`/*\\<>(){}[]#$@=:;-+ \nab1")),
+}
+CODE_SIZE = 40_000
+MOST_SECONDS = 0.05
+
 
 def processor_seconds():
     used = resource.getrusage(resource.RUSAGE_CHILDREN)
@@ -170,6 +202,19 @@ def check_memory(kind, runs):
             sys.exit(f"hostile.py: {kind}: {taken:.0f} bytes of memory for each of the text's")
 
 
+def code_rows(program, path, kinds):
+    """A row for each text of code of these kinds."""
+    print("| text | language | ms |\n|---|---|---|")
+    for kind, (language, make) in CODE.items():
+        if kinds and kind not in kinds:
+            continue
+        path.write_text(make(CODE_SIZE), encoding="utf8", newline="")
+        run = Run([program, "code", language, "80", "dark"], path)
+        print(f"| {kind} | `{language}` | {run.processor * 1000:.0f} |", flush=True)
+        if run.status or run.processor > MOST_SECONDS:
+            sys.exit(f"hostile.py: {kind}: status {run.status} after {run.processor:.3f} s of a processor")
+
+
 def main():
     if len(sys.argv) < 3:
         sys.exit(__doc__)
@@ -184,6 +229,8 @@ def main():
     print()
     table(MARKDOWN_COMMANDS)
     rows(MARKDOWN | TABLES, MARKDOWN_COMMANDS, program, path, kinds)
+    print()
+    code_rows(program, path, kinds)
     path.unlink()
 
 

@@ -98,6 +98,26 @@ termimad_answer termimad_text(const char *text, size_t text_length, const char *
 termimad_answer termimad_markdown(const char *text, size_t text_length, const char *skin, size_t skin_length,
                                   size_t width, char *buffer, size_t capacity);
 
+/* The links of the text, read as termimad_markdown reads it, in the order in which they end. Each is a line: the number of its section in
+ * decimal, a tab, and the address to which it leads. Sections count from 0; a heading's is the one that termimad_headings tells.
+ *
+ * An address is as it is shown: without escapes and entities. No character of it is a tab, a newline, or another that a terminal obeys.
+ * Images aren't among the links, nor is html.
+ *
+ *   termimad_links("see [the disks](disks.md)", 25, buffer, sizeof buffer);
+ */
+termimad_answer termimad_links(const char *text, size_t text_length, char *buffer, size_t capacity);
+
+/* The headings of the text, read as termimad_markdown reads it, in order. Each is a line: its level, 1 to 6, the number of its section, its
+ * name, and its text, with tabs between. The numbers are decimal.
+ *
+ * The name is the one that GitHub gives the heading: `[..](#name)` goes there. The text is what the heading shows: without marks, and with a
+ * space where a row ends. No character of both is a tab, a newline, or another that a terminal obeys.
+ *
+ *   termimad_headings("# Disks\n\n## Two *large* ones", 28, buffer, sizeof buffer);
+ */
+termimad_answer termimad_headings(const char *text, size_t text_length, char *buffer, size_t capacity);
+
 /* The text as it comes: the rows of the parts at its front that are complete, laid out in WIDTH columns.
  *
  * A part is a table, a block of code, or any other line. A line is complete with its newline; a table or a block of code with the first

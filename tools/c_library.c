@@ -62,7 +62,7 @@ static uint64_t next(uint64_t below)
 }
 
 static const char *const parts[] = {
-    "", "# head\n", "* item of *some* words\n", "|a|b|\n|:-|-:|\n|1|**2**|\n", "```\ncode\n```\n", "> quote\n", "---\n", "plain words ",
+    "", "# head\n", "[a](b.md) ", "* item of *some* words\n", "|a|b|\n|:-|-:|\n|1|**2**|\n", "```\ncode\n```\n", "> quote\n", "---\n", "plain words ",
     "\xff", "\xe6\x97", "\xe6\x97\xa5\xe6\x9c\xac", "\xf0\x9f\x98\x80", "\xed\xa0\x80", "\x1b[2J", "\t", "\r\n", "**bo", "`", "\xc2\x85", "\xe2\x80\xae",
 };
 
@@ -130,7 +130,7 @@ static sizes random_aligns(void)
 
 static call random_call(void)
 {
-    call it = { .kind = (unsigned)next(9), .text = random_text() };
+    call it = { .kind = (unsigned)next(11), .text = random_text() };
     it.lengths = random_lengths(it.text.length);
     it.aligns = random_aligns();
     const char *skin = skins[next(COUNT(skins))];
@@ -175,6 +175,8 @@ static termimad_answer answer_of(const call *c, char *buffer, size_t capacity)
     case 7:
         return termimad_table(text, length, c->lengths.numbers, c->lengths.count, c->aligns.numbers, c->aligns.count, skin, skin_length, n[1], n[0],
                               buffer, capacity);
+    case 8: return termimad_links(text, length, buffer, capacity);
+    case 9: return termimad_headings(text, length, buffer, capacity);
     default: return termimad_printable(text, length, buffer, capacity);
     }
 }

@@ -63,12 +63,14 @@ CODE_SIDES = Gutter("=", "Code", "  ", "  ")
 
 @dataclass(frozen=True)
 class Section:
-    """Lines behind gutters, the outermost first; the last `fresh` of these begin with it. A table may be shown as a list, whose items have the bullet."""
+    """Lines behind gutters, the outermost first; the last `fresh` of these begin with it. A table may be shown as a list, whose items have the bullet.
+    Of code in a fence `fence` has what stands behind the fence, and the lines of the source."""
 
     gutters: list[Gutter]
     fresh: int
     lines: list[Line]
     bullet: Gutter = BULLET
+    fence: tuple[str, ...] = ()
 
     @property
     def items(self) -> list[Gutter] | None:
@@ -204,7 +206,8 @@ class Mapping:
             self.sections.append(Section(both, 0, [EMPTY]))
         self.links += [(len(self.sections), x) for x in links_of(node, self.defs)]
         sides = [CODE_SIDES] if node.kind in ("fence", "code") else []
-        self.sections.append(Section([x.gutter for x in self.open] + sides, self.fresh + len(sides), lines))
+        fence = (node.info, *node.lines) if node.kind == "fence" else ()
+        self.sections.append(Section([x.gutter for x in self.open] + sides, self.fresh + len(sides), lines, fence=fence))
         self.fresh = 0
         self.last = node, list(self.open)
 

@@ -10,19 +10,21 @@ from __future__ import annotations
 import json
 import re
 import sys
-from collections.abc import Callable, Iterator
+from collections.abc import Callable, Iterable, Iterator
 from typing import NamedTuple
 
-from .blocks import read_blocks
-from .lines import EMPTY, HorizontalRule, Normal, TableRow
+from code_languages import languages
+
+from .blocks import Node, read_blocks
+from .lines import EMPTY, Composite, Compound, HorizontalRule, Line, Normal, TableRow
 from .picture import HERE, blocks_of, leaf
-from .sections import Mapping
+from .sections import Mapping, Section
 
 CRATE = HERE.parent.parent / "crates/markdown_examples"
 PER = 25
 
 
-def literal(text):
+def literal(text: str) -> str:
     """A text's bytes as a term: as characters where each can be seen, else as numbers."""
     escapes = {"\\": "\\\\", '"': '\\"', "\n": "\\n", "\t": "\\t", "\r": "\\r"}
     raw = text.encode()
@@ -32,12 +34,12 @@ def literal(text):
     return f"({listed(raw)})" if None in signs else f'(codes "{"".join(signs)}")'
 
 
-def alone(term):
+def alone(term: str) -> str:
     """A term that stands between others, where a name's application needs no parentheses."""
     return term[1:-1] if term.startswith("(codes ") else term
 
 
-def listed(terms):
+def listed(terms: Iterable[object]) -> str:
     return "".join(f"{term} ∷ " for term in terms) + "[]"
 
 
@@ -46,11 +48,11 @@ def listed(terms):
 KINDS = {"para": "Paragraph", "code": "Indented", "fence": "Fenced", "html": "Html", "def": "Definitions", "rule": "Rule"}
 
 
-def kind_of(node):
+def kind_of(node: Node) -> str:
     return f"(Heading {node.level})" if node.kind == "head" else f"(Table {len(node.aligns)})" if node.kind == "table" else KINDS[node.kind]
 
 
-def seen(children):
+def seen(children: list[Node]) -> Iterator[str]:
     for node, lines in blocks_of(children):
         if node.kind in ("quote", "item"):
             yield "opens Quote" if node.kind == "quote" else f"opens (Item {ord(node.marker)} {node.number} {node.width})"
@@ -61,22 +63,22 @@ def seen(children):
             yield f"leaf {kind_of(node)} ({listed(alone(literal(line)) for line in kept)})"
 
 
-def blocks_rows(number, text):
+def blocks_rows(number: int, text: str) -> Iterator[tuple[str, str]]:
     yield f"e{number}", f"seen {literal(text)} ≡ {listed(seen(read_blocks(text).children))}"
 
 
 # ---- sections
 
-def run(compound):
+def run(compound: Compound) -> str:
     flags = (compound.bold, compound.italic, compound.code, compound.strikeout, compound.link is not None)
     return f"{'flagged ' + ' '.join(str(flag).lower() for flag in flags) if any(flags) else 'plain'} {literal(compound.src)}"
 
 
-def runs(composite):
+def runs(composite: Composite) -> str:
     return f"({listed(map(run, composite.compounds))})"
 
 
-def line(it):
+def line(it: Line) -> str:
     if isinstance(it, Normal):
         kind = it.composite.style
         words = {"Code": "code_row", "Header": f"row (Header {kind.level})"}.get(kind.name, f"row {kind.name}")
@@ -88,23 +90,34 @@ def line(it):
     return f"table_rule ({listed(a.value.capitalize() for a in it.cells)})"
 
 
-def is_blank(it):
+def is_blank(it: Section) -> bool:
     return it.fresh == 0 and it.lines == [EMPTY]
 
 
-def section(it):
-    """Its gutters, how many of them begin with it, and its lines. A table's are those of a list too, if it becomes one."""
+def language_of(info: str) -> str | None:
+    """The variant of the language that is named behind a fence, if one is."""
+    word = re.match(r"[ \t{}.]*([^ \t,{}:;]*)", info).group(1).lower()
+    return next((language.names[0].capitalize() for language in languages() if word in language.names), None)
+
+
+def section(it: Section) -> str:
+    """Its gutters, how many of them begin with it, and its lines. A table's are those of a list too, if it becomes one. Code in a language has its
+    tones; the examples have one line of it at most."""
     gutters = f"({listed(gutter.term for gutter in it.gutters)})" if it.gutters else "[]"
     if is_blank(it):
         return f"blank {gutters}"
+    language = language_of(it.fence[0]) if it.fence else None
+    if language:
+        _, code = it.fence
+        return f"toned_behind {gutters} {it.fresh} {language} {literal(code)} ({listed(map(line, it.lines))})"
     return f"{'behind' if it.items is None else 'table_behind'} {gutters} {it.fresh} ({listed(map(line, it.lines))})"
 
 
-def link(section, address):
+def link(section: int, address: str) -> str:
     return f"link_at {section} {literal(address)}"
 
 
-def sections_rows(number, text):
+def sections_rows(number: int, text: str) -> Iterator[tuple[str, str]]:
     """The sections of a text, and its links, if it has some."""
     mapping = Mapping(text)
     yield f"e{number}", f"printable_sections {literal(text)} ≡ {listed(map(section, mapping.sections))}"
@@ -123,36 +136,40 @@ VARIANTS = {
     "Rattle.mad_md.specs.declared.alignment.Alignment": ["Unspecified", "Left", "Center", "Right"],
 }
 
+LANGUAGE = "Rattle.code_tables.specs.declared.rules.Language"
+TONED = re.compile(r"toned_behind (?:\(.*?\)|\[\]) \d+ (\w+) ")
 
-def named(names, rows):
+
+def named(names: list[str], rows: list[str]) -> list[str]:
     """Those of the names that stand in the rows, but for their texts."""
     words = set(re.findall(r"\w+", re.sub(r'"(\\.|[^"\\])*"', "", " ".join(rows))))
     return [name for name in names if name in words]
 
 
-def use(path, names):
+def use(path: str, names: list[str]) -> str:
     return f"use {path}.{{{', '.join(names)}}}\n" if names else ""
 
 
-def variants(path, rows):
+def variants(path: str, rows: list[str]) -> str:
     return use(path + ".TheVariants", named(VARIANTS[path], rows))
 
 
-def blocks_uses(rows):
+def blocks_uses(rows: list[str]) -> tuple[str, str]:
     containers, kinds = list(VARIANTS)[:2]
     return "", variants(containers, rows) + variants(kinds, rows) + use("Rattle.markdown_examples.specs.Seen", ["opens", "closes", "leaf", "seen"])
 
 
-def sections_uses(rows):
-    words = ["plain", "flagged", "row", "code_row", "cells", "behind", "table_behind", "blank"]
-    return ", true, false", "".join(variants(path, rows) for path in list(VARIANTS)[2:]) + use(
+def sections_uses(rows: list[str]) -> tuple[str, str]:
+    words = ["plain", "flagged", "row", "code_row", "cells", "behind", "table_behind", "blank", "toned_behind"]
+    tongues = sorted({name for row in rows for name in TONED.findall(row)})
+    return ", true, false", use(LANGUAGE + ".TheVariants", tongues) + "".join(variants(path, rows) for path in list(VARIANTS)[2:]) + use(
         "Rattle.mad_md.specs.Lines", named(["table_rule", "horizontal_rule"], rows)) + use(
         "Rattle.markdown_examples.specs.Rows", named(words, rows)) + use(
         "Rattle.markdown_reader.specs.Mapping", named(["link_at"], rows)) + use(
         "Rattle.markdown_reader.specs.Markdown", named(["printable_sections", "unmarked_links"], rows))
 
 
-def group_files(part, number, first, texts):
+def group_files(part: Part, number: int, first: int, texts: list[str]) -> Iterator[tuple[str, str]]:
     """The statements of a group, and their proofs."""
     title = f"-- Examples {first} to {first + len(texts) - 1}"
     named_rows = [row for k, text in enumerate(texts, first) for row in part.rows_of(k, text)]
@@ -186,7 +203,7 @@ PARTS = [
 ]
 
 
-def part_files(part, texts):
+def part_files(part: Part, texts: list[str]) -> Iterator[tuple[str, str]]:
     starts = range(0, len(texts), PER)
     for number, at in enumerate(starts, 1):
         yield from group_files(part, number, at + 1, texts[at:at + PER])
@@ -198,7 +215,7 @@ def part_files(part, texts):
     yield f"src/{proof}.rt", f"//! {part.head}\n\n{ghosts}{laws}"
 
 
-def files(texts):
+def files(texts: list[str]) -> Iterator[tuple[str, str]]:
     for part in PARTS:
         yield from part_files(part, texts)
     count = len(range(0, len(texts), PER))
@@ -210,7 +227,7 @@ def files(texts):
         yield name, front + made + html + rest
 
 
-def main():
+def main() -> None:
     texts = [json.loads(one)["text"] for one in (HERE / "examples.jsonl").read_text(encoding="utf-8").splitlines()]
     for name, text in files(texts):
         path = CRATE / name

@@ -104,6 +104,10 @@ static termimad_answer answer_of(const request *it, char *buffer, size_t capacit
         return termimad_fit(text, length, skin, skin_length, n[0], n[1], buffer, capacity);
     if (strcmp(it->call, "printable") == 0)
         return termimad_printable(text, length, buffer, capacity);
+    if (strcmp(it->call, "links") == 0)
+        return termimad_links(text, length, buffer, capacity);
+    if (strcmp(it->call, "headings") == 0)
+        return termimad_headings(text, length, buffer, capacity);
     if (strcmp(it->call, "table") == 0)
         return table_of(it, buffer, capacity);
     exit(2);

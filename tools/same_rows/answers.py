@@ -37,6 +37,11 @@ def markdown_of(text, skin, width):
     return made
 
 
+def lines_of(found):
+    """Links or headings as the library writes them: a line for each, its parts with tabs between."""
+    return "".join("\t".join(map(str, parts)) + "\n" for parts in found)
+
+
 def made_by(call, numbers, texts):
     """What a call makes."""
     if call == "table":
@@ -51,6 +56,8 @@ def made_by(call, numbers, texts):
         "rows": lambda: str(termimad.rows(text, *numbers, skin)),
         "fit": lambda: termimad.fit(text, *numbers, skin),
         "printable": lambda: termimad.printable(text),
+        "links": lambda: lines_of((it.section, it.address) for it in termimad.Markdown(text).links),
+        "headings": lambda: lines_of((it.level, it.section, it.name, it.text) for it in termimad.Markdown(text).headings),
     }
     return calls[call]()
 

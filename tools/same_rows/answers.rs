@@ -2,8 +2,8 @@
 
 use std::io::{self, BufRead, Read, Write};
 use termimad_proved::{
-    area, fit, inline, markdown, printable, rows, rows_as_read, table, text, Align, Area, Page,
-    Refused,
+    area, fit, headings, inline, links, markdown, printable, rows, rows_as_read, table, text,
+    Align, Area, Heading, Link, Page, Refused,
 };
 
 const NOT_UTF8: u32 = 3;
@@ -105,6 +105,22 @@ fn page(words: &str, width: usize, skin: &str) -> Result<String, Refused> {
     Ok(made)
 }
 
+/// Links as the library writes them, each as a line.
+fn lines_of_links(links: &[Link]) -> String {
+    let lines = links
+        .iter()
+        .map(|it| format!("{}\t{}\n", it.section, it.address));
+    lines.collect()
+}
+
+/// Headings as the library writes them, each as a line.
+fn lines_of_headings(headings: &[Heading]) -> String {
+    let lines = headings
+        .iter()
+        .map(|it| format!("{}\t{}\t{}\t{}\n", it.level, it.section, it.name, it.text));
+    lines.collect()
+}
+
 fn made_by(request: &Request) -> Result<String, u32> {
     let texts: Result<Vec<&str>, _> = request
         .texts
@@ -129,6 +145,8 @@ fn made_by(request: &Request) -> Result<String, u32> {
         "rows" => rows(texts[0], numbers[0], skin).map(|count| count.to_string()),
         "fit" => fit(texts[0], numbers[0], align_of(numbers[1]), skin),
         "printable" => printable(texts[0]),
+        "links" => links(texts[0]).map(|found| lines_of_links(&found)),
+        "headings" => headings(texts[0]).map(|found| lines_of_headings(&found)),
         "table" => {
             let lines: Vec<Vec<&str>> = texts[1..]
                 .chunks(numbers[1])

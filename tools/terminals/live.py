@@ -1,4 +1,6 @@
 """Texts that grow in tmux: what `termimad-view live` leaves there, in the history and on the screen."""
+from __future__ import annotations
+
 import os
 import random
 import re
@@ -6,6 +8,7 @@ import shlex
 import subprocess
 import sys
 import time
+from pathlib import Path
 
 from windows import ROOT, Tmux, tmux
 
@@ -23,7 +26,7 @@ EMOJI = ["\u26a0\ufe0f", "1\ufe0f\u20e3", "\u2764\ufe0f", "\u2705", "\U0001f44d\
 BENGALI = "\u09ac\u09be\u0982\u09b2\u09be \u09ad\u09be\u09b7\u09be "
 
 
-def growing_text():
+def growing_text() -> str:
     """A text of every kind of line, with a table and a block of code that are higher than most screens."""
     rows = "".join(f"|{n}|row *{n}* of a table{' with more words' * (n % 3)}|{n * n}|\n" for n in range(30))
     code = "".join(f"let line_{n} = {'very ' * (n % 4)}long({n});\n" for n in range(30))
@@ -33,13 +36,13 @@ def growing_text():
         "The last line, which has **no** newline")
 
 
-def kind_of(line, fenced):
+def kind_of(line: str, fenced: bool) -> str:
     if line.startswith("```"):
         return "fence"
     return "code" if fenced or line.startswith(("    ", "\t")) else "table" if line.startswith("|") else "alone"
 
 
-def complete(text):
+def complete(text: str) -> int:
     """How many characters of the text are complete parts."""
     at, end, fenced, last = 0, 0, False, None
     for line in text.splitlines(keepends=True):
@@ -53,35 +56,35 @@ def complete(text):
     return end if last in ("code", "table") else at
 
 
-def rows_of(program, text, width):
+def rows_of(program: str, text: str, width: int) -> list[str]:
     shown = steady(text.replace("\r\n", "\n").replace("\n\t", "\n    ").removesuffix("\r"))
     written = subprocess.run([program, "text", str(width)], input=shown.encode(), capture_output=True, check=True).stdout
     return [row.rstrip() for row in written.decode().split("\n")[:-1]]
 
 
-def wanted(program, text, width, height, is_last):
+def wanted(program: str, text: str, width: int, height: int, is_last: bool) -> list[str]:
     """All rows that a terminal has of the text so far: of the part that may go on, the last ones alone."""
     rows = rows_of(program, text, width)
     done = len(rows) if is_last else len(rows_of(program, text[: complete(text)], width))
     return rows[:done] + rows[done:][-height:]
 
 
-def without_half(text):
+def without_half(text: str) -> str:
     """A text so far without half of a flag: the next character tells what that is."""
     return text[:-1] if len(re.search("[\U0001f1e6-\U0001f1ff]*$", text)[0]) % 2 else text
 
 
-def without_blanks(rows):
+def without_blanks(rows: list[str]) -> list[str]:
     while rows and not rows[-1]:
         rows.pop()
     return rows
 
 
-def history(window):
+def history(window: Tmux) -> list[str]:
     return without_blanks([row.rstrip() for row in tmux("capture-pane", "-t", window.name, "-p", "-S", "-").split("\n")])
 
 
-def grow(program, folder, columns, height, chance):
+def grow(program: str, folder: Path, columns: int, height: int, chance: random.Random) -> tuple[str | None, int]:
     """Feeds the text in random pieces, and looks now and then. What differs, or None, and how often it looked."""
     text, pipe = growing_text(), folder / f"pipe-{columns}"
     os.mkfifo(pipe)
@@ -105,12 +108,12 @@ def grow(program, folder, columns, height, chance):
         window.close()
 
 
-def before_signs(row):
+def before_signs(row: str) -> str:
     """A row up to where tmux counts more columns: there its end stands elsewhere, or past the last column."""
     return re.split("[\u0980-\u09ff]", row)[0].rstrip()
 
 
-def differs(window, rows, when):
+def differs(window: Tmux, rows: list[str], when: str) -> str | None:
     rows = [before_signs(row) for row in without_blanks(rows)]
     end = time.monotonic() + SECONDS
     while (shown := [before_signs(row) for row in history(window)]) != rows:
@@ -121,7 +124,7 @@ def differs(window, rows, when):
     return None
 
 
-def run_live(folder, program):
+def run_live(folder: Path, program: str) -> int:
     """Grows the text in a window of each size; how many of these differ."""
     wrong = 0
     for columns, height in SIZES:

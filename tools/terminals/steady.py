@@ -3,6 +3,8 @@
 The texts are the answers of the rows `$ steady`, cut at blanks. This file is also what runs in the window, as `steady.py TEXTS COLUMNS GO`: it writes
 each text on a row of its own, asks the terminal for the column behind it, and waits for the file GO.
 """
+from __future__ import annotations
+
 import re
 import shlex
 import sys
@@ -10,13 +12,18 @@ import termios
 import time
 import tty
 import unicodedata
+from collections.abc import Callable
 from pathlib import Path
+from typing import TYPE_CHECKING
+
+if TYPE_CHECKING:
+    from windows import Terminal
 
 ROWS = Path(__file__).resolve().parent.parent.parent / "crates/test_texts/data/steady.txt"
 SCREEN = 20
 
 
-def texts():
+def texts() -> tuple[list[list[str]], int]:
     """The texts, and how many columns a row of the file says that those of emoji have in all, with a blank between each two."""
     answers, told = [], 0
     for call, answer in re.findall(r"^\$ (\w+)\n(?:<.*\n)+> (.*)$", ROWS.read_text(), re.M):
@@ -28,16 +35,16 @@ def texts():
     return answers, told
 
 
-def columns_of(text):
+def columns_of(text: str) -> int:
     """The columns of a steady text by the tables of Python: no character of it joins another."""
     return sum(0 if is_widthless(c) else 2 if unicodedata.east_asian_width(c) in "WF" else 1 for c in text)
 
 
-def is_widthless(c):
+def is_widthless(c: str) -> bool:
     return unicodedata.category(c) in ("Mn", "Me") or c in "\u200b\u200c\u2060"
 
 
-def run_steady(kind, folder):
+def run_steady(kind: Callable[[int, int, Path], Terminal], folder: Path) -> int:
     """Shows the texts, and lists those that differ. How many of the emoji do."""
     answers, told = texts()
     emoji = [text for answer in answers if len(answer) > 5 for text in answer]
@@ -54,7 +61,7 @@ def run_steady(kind, folder):
     return differ[0]
 
 
-def show(terminal, folder, chunk):
+def show(terminal: Terminal, folder: Path, chunk: list[str]) -> int:
     """Shows some texts, a row each. How many of them differ."""
     files = [folder / name for name in ("texts", "columns", "go")]
     for file in files:
@@ -77,7 +84,7 @@ def show(terminal, folder, chunk):
     return differ
 
 
-def probe(given, columns, go):
+def probe(given: Path, columns: Path, go: Path) -> None:
     """Runs in the window."""
     told, saved = [], termios.tcgetattr(0)
     tty.setraw(0)

@@ -367,7 +367,7 @@ def no_styles(w):
     for before, options, styled in (("", "", True), ("NO_COLOR=1 ", "", False), ("NO_COLOR= ", "", True), ("NO_COLOR=1 ", "--skin default ", True), ("", "--skin none ", False)):
         begin(w, f"{options}text.md", before)
         same("\x1b[1" in w.shown("-e")[0], styled, before + options)
-        assert "\x1b[7m" in w.shown("-e")[23], "the status row"
+        same("\x1b[7m" in w.shown("-e")[23], not styled, "the status row: reversed where no style is shown")
         end(w)
 
 

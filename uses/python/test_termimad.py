@@ -70,6 +70,16 @@ class Texts(unittest.TestCase):
         page = termimad.Markdown("# head\n\na *b*\nc")
         self.assertEqual("\n".join(page.rows(20)) + "\n", termimad.markdown("# head\n\na *b*\nc", 20))
 
+    def test_links_and_headings_are_told(self):
+        page = termimad.Markdown("# Disks\n\n## Disks\n\nsee [there](#disks-1) and ![this](a.png)")
+        self.assertEqual([heading.name for heading in page.headings], ["disks", "disks-1"])
+        self.assertEqual([heading.level for heading in page.headings], [1, 2])
+        self.assertEqual([link.address for link in page.links], ["#disks-1"])
+        self.assertGreater(page.links[0].section, page.headings[1].section)
+        self.assertEqual(termimad.Markdown("no heading").headings, [])
+        with self.assertRaisesRegex(termimad.NotUtf8, "source is not UTF-8"):
+            termimad.Markdown(b"# \xff").headings
+
     def test_lines_stand_for_themselves(self):
         self.assertEqual(termimad.Lines("a\nb").rows(20), ["a", "b"])
         self.assertEqual(termimad.Markdown("a\nb").rows(20), ["a b"])

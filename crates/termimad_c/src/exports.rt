@@ -9,12 +9,14 @@ ghost use Rattle.termimad_c.specs.Answers.{Answers, Counts, Progresses};
 ghost use Rattle.termimad_c.specs.Inputs.{RefusesCall, RefusesPage, RefusesParts, IsNoArea, IsNoFit, is_told};
 ghost use Rattle.termimad_c.specs.DataTables.{IsNoTable, IsTableWritten};
 ghost use Rattle.termimad_c.specs.Making.{IsWritten, IsAreaWritten, IsTextWritten, IsMarkdownWritten, IsRowCount, IsFittedLine, IsMadePrintable, ArePartsOf};
+ghost use Rattle.termimad_c.specs.Outlines.{AreHeadingsOf, AreLinksOf};
 
 use crate::answer::{Answer, Progress, count_out, hand_out, hand_out_parts};
 use crate::making::{
     area_bytes, fitted_bytes, inline_bytes, markdown_bytes, parts_made, printable_bytes,
     rows_count, table_bytes, text_bytes,
 };
+use crate::outlines::{headings_bytes, links_bytes};
 use std::alloc::Global;
 
 /// A Markdown text in an area of the screen: what `termimad-view area` writes.
@@ -62,6 +64,23 @@ pub extern "C" fn termimad_markdown(
     ensures { Answers (IsMarkdownWritten text.now skin.now width) (RefusesPage (2 ^ 16 ≤ width) text.now skin.now) buffer.old result buffer.new }
 {
     hand_out(markdown_bytes(alloc, text, skin, width), buffer)
+}
+
+/// The links of a text of Markdown as people write it, in the order in which they end, each as a line: the number of its section, a tab, and the address.
+#[unsafe(no_mangle)]
+pub extern "C" fn termimad_links(alloc: Global, text: &[u8], buffer: &mut [u8]) -> Answer
+    ensures { Answers (AreLinksOf text.now) (RefusesCall ⊥ text.now []) buffer.old result buffer.new }
+{
+    hand_out(links_bytes(alloc, text), buffer)
+}
+
+/// The headings of a text of Markdown as people write it, in order, each as a line: its level, the number of its section, the name that a link within
+/// the text goes to, and what it shows, with tabs between.
+#[unsafe(no_mangle)]
+pub extern "C" fn termimad_headings(alloc: Global, text: &[u8], buffer: &mut [u8]) -> Answer
+    ensures { Answers (AreHeadingsOf text.now) (RefusesCall ⊥ text.now []) buffer.old result buffer.new }
+{
+    hand_out(headings_bytes(alloc, text), buffer)
 }
 
 /// The complete parts at the front of a Markdown text, laid out at a width, in columns; where `last` isn't 0, all of the text. A fence is open before

@@ -5,12 +5,14 @@
 //! 1. [`answer`]: what a call answers, and what it leaves in the buffer.
 //! 2. [`inputs`]: what a caller hands: texts, skins, numbers.
 //! 3. [`making`]: what each call makes of its inputs.
-//! 4. [`exports`]: the calls as C sees them.
+//! 4. [`outlines`]: links and headings, as lines.
+//! 5. [`exports`]: the calls as C sees them.
 #![tactic(auto)]
 
 mod answer;
 mod exports;
 mod inputs;
 mod making;
+mod outlines;
 
 pub use answer::{Answer, Parts, Progress, Refusal};

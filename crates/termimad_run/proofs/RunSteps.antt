@@ -1,5 +1,5 @@
 -- How a run ends at each of its steps.
-use Rattle.std.proofs.Common.{◌≡◌, ℕ, List, Result, Ok, Err, IsUtf8, None, refl, ap, sym, ◌∙◌, subst, inl, inr}
+use Rattle.std.proofs.Common.{◌≡◌, ℕ, List, [], ◌∷◌, Result, Ok, Err, IsUtf8, Option, None, refl, ap, sym, ◌∙◌, subst, inl, inr}
 use Rattle.std.specs.Result.{IsErrAnd}
 use Rattle.std.proofs.lemmas.Result.{err_from_is_err_and}
 use Rattle.mad_term.specs.Trace.{Trace, failed, flushed}
@@ -8,17 +8,30 @@ use Rattle.mad_term.specs.declared.errors.Error.TheVariants.{IO, InsufficientWid
 use Rattle.mad_page_skin.specs.declared.page_skin.PageSkin.{PageSkin}
 use Rattle.mad_stream.specs.declared.SourceError.{SourceError}
 use Rattle.termimad_run.specs.declared.call.Command.{Command}
-use Rattle.termimad_run.specs.declared.call.Command.TheVariants.{InArea, AtWidth, AsMarkdown, AsItComes, MarkdownAsItComes, Live, Inline}
+use Rattle.termimad_run.specs.declared.call.Command.TheVariants.{InArea, AtWidth, AsMarkdown, AsCode, AsItComes, MarkdownAsItComes, Live, Inline}
 use Rattle.mad_term.proofs.Traces.{took_flushed}
 use Rattle.mad_layout.specs.Headline.{AreShownAcross}
 use Rattle.mad_layout.specs.RowSkins.{row_skin}
 use Rattle.mad_layout.specs.Shown.{AreShownIn}
 use Rattle.termimad_run.specs.declared.failure.Failure.{Failure}
 use Rattle.termimad_run.specs.declared.failure.Failure.TheVariants.{Io, Usage, Skin, Memory}
-use Rattle.termimad_run.specs.Calls.{IsWhole, RefusesWords}
+use Rattle.termimad_run.specs.Calls.{Asks, IsAllowed, IsWhole, RefusesWords}
 use Rattle.termimad_run.specs.Failures.{failure_of, streamed_failure}
 use Rattle.termimad_run.specs.Reading.{ReadsWhole, ReadingFails}
 use Rattle.termimad_run.specs.ProgramRuns.{ComesAs, Devices, Starts, Started, FailsToStart, HasRead, HasWritten, WritesCall, ShowsCall, RunsWhole, StreamsInput, RunsTo}
+
+-- the area of a command that words ask for is wide enough, and within the limits of a screen
+pub allowed : (words : List (List ℕ)) (command : Command) (word : Option (List ℕ)) → Asks words command word → IsAllowed command
+allowed [] command word h = absurd h
+allowed (name ∷ l ∷ t ∷ w ∷ e ∷ rest) (InArea area) word h = (h.1.0.wide, h.1.0.within)
+allowed (name ∷ words) (AtWidth width) word h = tt
+allowed (name ∷ words) (AsMarkdown width) word h = tt
+allowed (name ∷ words) (AsCode language width) word h = tt
+allowed (name ∷ words) (AsItComes width) word h = tt
+allowed (name ∷ words) (MarkdownAsItComes width) word h = tt
+allowed (name ∷ words) (Live width height) word h = tt
+allowed (name ∷ words) Inline word h = tt
+allowed _ _ word h = absurd h.1
 
 -- the call that was parsed
 abbrev pub started : (words : List (List ℕ)) (old new : Trace) (command : Command) (skin : PageSkin) (unknown : List (List ℕ)) → Starts words old command skin unknown new → Started words old new
@@ -98,6 +111,7 @@ still_shown skin (InArea area) text old written new (headline, h) is = (
 )
 still_shown skin (AtWidth width) text old written new h is = tt
 still_shown skin (AsMarkdown width) text old written new h is = tt
+still_shown skin (AsCode language width) text old written new h is = tt
 still_shown skin (AsItComes width) text old written new h is = tt
 still_shown skin (MarkdownAsItComes width) text old written new h is = tt
 still_shown skin (Live width height) text old written new h is = tt

@@ -3,7 +3,7 @@ use Rattle.std.proofs.Common.{◌≡◌, ◌≢◌, ℕ, Bool, true, false, List
 use Rattle.mad_layout.specs.declared.MadSkin.{MadSkin}
 use Rattle.mad_page_skin.specs.declared.page_skin.PageSkin.{PageSkin}
 use Rattle.termimad_run.specs.declared.call.Command.{Command}
-use Rattle.termimad_run.specs.declared.call.Command.TheVariants.{InArea, AtWidth, AsMarkdown, AsItComes, MarkdownAsItComes, Live, Inline}
+use Rattle.termimad_run.specs.declared.call.Command.TheVariants.{InArea, AtWidth, AsMarkdown, AsCode, AsItComes, MarkdownAsItComes, Live, Inline}
 use Rattle.termimad_run.specs.declared.failure.Failure.{Failure}
 use Rattle.termimad_run.specs.declared.failure.Failure.TheVariants.{Io, Usage, NotUtf8, Skin, Memory}
 use Rattle.mad_term.specs.Trace.{Trace}
@@ -73,6 +73,22 @@ asked_once (name ∷ words) (MarkdownAsItComes k) (Live m y) a b h i = absurd (l
 asked_once (name ∷ words) (AsMarkdown n) (MarkdownAsItComes k) a b h i = absurd (let e : 8 ≡ 15 = ap length (sym h.0 ∙ i.0) in omega (arith, e))
 asked_once (name ∷ words) (MarkdownAsItComes k) (AsMarkdown m) a b h i = absurd (let e : 15 ≡ 8 = ap length (sym h.0 ∙ i.0) in omega (arith, e))
 asked_once (name ∷ w ∷ rest) (MarkdownAsItComes n) (MarkdownAsItComes m) a b h k = (one_word rest a b h.1.1 k.1.1, refl)
+asked_once (name ∷ words) (InArea x) (AsCode u v) a b h k = absurd (let e : 97 ≡ 99 = first_byte 97 99 name _ _ h.0 k.0 in omega (arith, e))
+asked_once (name ∷ words) (AsCode u v) (InArea y) a b h k = absurd (let e : 99 ≡ 97 = first_byte 99 97 name _ _ h.0 k.0 in omega (arith, e))
+asked_once (name ∷ words) (AtWidth n) (AsCode u v) a b h k = absurd (let e : 116 ≡ 99 = first_byte 116 99 name _ _ h.0 k.0 in omega (arith, e))
+asked_once (name ∷ words) (AsCode u v) (AtWidth m) a b h k = absurd (let e : 99 ≡ 116 = first_byte 99 116 name _ _ h.0 k.0 in omega (arith, e))
+asked_once (name ∷ words) (AsMarkdown n) (AsCode u v) a b h k = absurd (let e : 109 ≡ 99 = first_byte 109 99 name _ _ h.0 k.0 in omega (arith, e))
+asked_once (name ∷ words) (AsCode u v) (AsMarkdown m) a b h k = absurd (let e : 99 ≡ 109 = first_byte 99 109 name _ _ h.0 k.0 in omega (arith, e))
+asked_once (name ∷ words) (AsItComes n) (AsCode u v) a b h k = absurd (let e : 115 ≡ 99 = first_byte 115 99 name _ _ h.0 k.0 in omega (arith, e))
+asked_once (name ∷ words) (AsCode u v) (AsItComes m) a b h k = absurd (let e : 99 ≡ 115 = first_byte 99 115 name _ _ h.0 k.0 in omega (arith, e))
+asked_once (name ∷ words) (MarkdownAsItComes n) (AsCode u v) a b h k = absurd (let e : 109 ≡ 99 = first_byte 109 99 name _ _ h.0 k.0 in omega (arith, e))
+asked_once (name ∷ words) (AsCode u v) (MarkdownAsItComes m) a b h k = absurd (let e : 99 ≡ 109 = first_byte 99 109 name _ _ h.0 k.0 in omega (arith, e))
+asked_once (name ∷ words) (Live n x) (AsCode u v) a b h k = absurd (let e : 108 ≡ 99 = first_byte 108 99 name _ _ h.0 k.0 in omega (arith, e))
+asked_once (name ∷ words) (AsCode u v) (Live m y) a b h k = absurd (let e : 99 ≡ 108 = first_byte 99 108 name _ _ h.0 k.0 in omega (arith, e))
+asked_once (name ∷ words) Inline (AsCode u v) a b h k = absurd (let e : 105 ≡ 99 = first_byte 105 99 name _ _ h.0 k.0 in omega (arith, e))
+asked_once (name ∷ words) (AsCode u v) Inline a b h k = absurd (let e : 99 ≡ 105 = first_byte 99 105 name _ _ h.0 k.0 in omega (arith, e))
+asked_once (name ∷ l ∷ w ∷ rest) (AsCode u v) (AsCode x y) a b h k = (one_word rest a b h.1.1.1 k.1.1.1, refl)
+asked_once (name ∷ l ∷ []) (AsCode u v) (AsCode x y) a b h k = absurd h.1.1
 asked_once _ _ _ a b h k = absurd h.1
 
 known_skin : (is_page : Bool) (word : Option (List ℕ)) (given : PageSkin × List (List ℕ)) → skin_shown is_page word ≡ Some given → skin_shown is_page word ≡ None → ⊥

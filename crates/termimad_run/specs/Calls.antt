@@ -4,7 +4,7 @@ use Rattle.mad_measure.specs.Areas.{IsWithinLimits}
 use Rattle.mad_measure.specs.declared.Area.{Area}
 use Rattle.mad_page_skin.specs.declared.page_skin.PageSkin.{PageSkin}
 use Rattle.termimad_run.specs.declared.call.Command.{Command}
-use Rattle.termimad_run.specs.declared.call.Command.TheVariants.{InArea, AtWidth, AsMarkdown, AsItComes, MarkdownAsItComes, Live, Inline}
+use Rattle.termimad_run.specs.declared.call.Command.TheVariants.{InArea, AtWidth, AsMarkdown, AsCode, AsItComes, MarkdownAsItComes, Live, Inline}
 use Rattle.termimad_run.specs.declared.call.Pieces.{Pieces}
 use Rattle.termimad_run.specs.declared.call.Pieces.TheVariants.{Stream as StreamPieces, Markdown as MarkdownPieces, Live as LivePieces}
 use Rattle.termimad_run.specs.declared.failure.Failure.{Failure}
@@ -37,17 +37,23 @@ abbrev pub AsksWidth : List (List ℕ) → ℕ → Option (List ℕ) → Type 0
 AsksWidth [] width word = ⊥
 AsksWidth (given ∷ rest) width word = IsNumber given width × IsSkinWord rest word
 
+-- the words after `code`: LANG W [SKIN]
+abbrev pub AsksCode : List (List ℕ) → List ℕ → ℕ → Option (List ℕ) → Type 0
+AsksCode [] language width word = ⊥
+AsksCode (given ∷ rest) language width word = (language ≡ given) × AsksWidth rest width word
+
 -- the words after `live`: W H [SKIN]
 abbrev pub AsksSize : List (List ℕ) → ℕ → ℕ → Option (List ℕ) → Type 0
 AsksSize (wide ∷ high ∷ rest) width height word = IsNumber wide width × IsNumber high height × IsSkinWord rest word
 AsksSize _ width height word = ⊥
 
--- The words ask for this: area L T W H [SKIN], text W [SKIN], markdown W [SKIN], stream W [SKIN], markdown-stream W [SKIN], live W H [SKIN], or inline [SKIN].
+-- The words ask for this: area L T W H [SKIN], text W [SKIN], markdown W [SKIN], code LANG W [SKIN], stream W [SKIN], markdown-stream W [SKIN], live W H [SKIN], or inline [SKIN].
 abbrev pub Asks : List (List ℕ) → Command → Option (List ℕ) → Type 0
 Asks [] command word = ⊥
 Asks (name ∷ words) (InArea area) word = (name ≡ codes "area") × AsksArea words area word
 Asks (name ∷ words) (AtWidth width) word = (name ≡ codes "text") × AsksWidth words width word
 Asks (name ∷ words) (AsMarkdown width) word = (name ≡ codes "markdown") × AsksWidth words width word
+Asks (name ∷ words) (AsCode language width) word = (name ≡ codes "code") × AsksCode words language.now width word
 Asks (name ∷ words) (AsItComes width) word = (name ≡ codes "stream") × AsksWidth words width word
 Asks (name ∷ words) (MarkdownAsItComes width) word = (name ≡ codes "markdown-stream") × AsksWidth words width word
 Asks (name ∷ words) (Live width height) word = (name ≡ codes "live") × AsksSize words width height word
@@ -58,6 +64,7 @@ abbrev pub IsAllowed : Command → Type 0
 IsAllowed (InArea area) = (4 ≤ area.width) × IsWithinLimits area
 IsAllowed (AtWidth width) = ⊤
 IsAllowed (AsMarkdown width) = ⊤
+IsAllowed (AsCode language width) = ⊤
 IsAllowed (AsItComes width) = ⊤
 IsAllowed (MarkdownAsItComes width) = ⊤
 IsAllowed (Live width height) = ⊤
@@ -70,9 +77,10 @@ IsWhole (MarkdownAsItComes width) = ⊥
 IsWhole (Live width height) = ⊥
 IsWhole _ = ⊤
 
--- the command shows a page of Markdown as people write it
+-- the command shows a page: of Markdown as people write it, or of code
 abbrev pub shows_page : Command → Bool
 shows_page (AsMarkdown width) = true
+shows_page (AsCode language width) = true
 shows_page (MarkdownAsItComes width) = true
 shows_page _ = false
 

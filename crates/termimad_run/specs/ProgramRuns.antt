@@ -13,13 +13,14 @@ use Rattle.markdown_stream.specs.Sources.{StreamsMarkdown}
 use Rattle.mad_layout.specs.RowSkins.{row_skin}
 use Rattle.mad_stream.specs.LiveSources.{ShowsSource}
 use Rattle.mad_stream.specs.Sources.{StreamsSource}
+use Rattle.markdown_code.specs.CodeTexts.{code_sections}
 use Rattle.markdown_layout.specs.WrittenPages.{WritesDressed}
 use Rattle.mad_layout.specs.WrittenParts.{WritesParts}
 use Rattle.mad_layout.specs.declared.MadSkin.{MadSkin}
 use Rattle.mad_page_skin.specs.declared.page_skin.PageSkin.{PageSkin}
 use Rattle.mad_stream.specs.declared.SourceError.{SourceError}
 use Rattle.termimad_run.specs.declared.call.Command.{Command}
-use Rattle.termimad_run.specs.declared.call.Command.TheVariants.{InArea, AtWidth, AsMarkdown, AsItComes, MarkdownAsItComes, Live, Inline}
+use Rattle.termimad_run.specs.declared.call.Command.TheVariants.{InArea, AtWidth, AsMarkdown, AsCode, AsItComes, MarkdownAsItComes, Live, Inline}
 use Rattle.termimad_run.specs.declared.failure.Failure.{Failure}
 use Rattle.termimad_run.specs.declared.failure.Failure.TheVariants.{Io, Usage, NotUtf8, Skin, Memory}
 use Rattle.termimad_run.specs.Calls.{IsCall, IsWhole, IsNoCall, AsksRefusedSkin, AsksJson, RefusesWords}
@@ -56,11 +57,12 @@ abbrev pub WritesLine : {T : Type 0} → MadSkin → List ℕ → Trace → Resu
 WritesLine skin line old r new = DrawsSome (IsInlineReading line) (λ items. inline_bytes (row_skin skin) line items ++ (10 ∷ [])) old r new
 
 -- What the output is asked to take of a text. It is the text in its area, or its lines, laid out at a width part by part. Of `markdown`
--- it is the page that the text is read as, with what stands beside headings; of `inline` the line without its end, and a newline.
+-- it is the page that the text is read as, with what stands beside headings, and of `code` that of a fence around it; of `inline` the line without its end, and a newline.
 abbrev pub WritesCall : {T : Type 0} → PageSkin → Command → List ℕ → Trace → Result T Error → Trace → Type 0
 WritesCall skin (InArea area) text old r new = WritesInArea (row_skin skin.text) text area old r new
 WritesCall skin (AtWidth width) text old r new = WritesParts (row_skin skin.text) (Some width) text old r new
 WritesCall skin (AsMarkdown width) text old r new = WritesDressed skin (Some width) (markdown_sections text) old r new
+WritesCall skin (AsCode language width) text old r new = WritesDressed skin (Some width) (code_sections language.now text) old r new
 WritesCall skin (AsItComes width) text old r new = WritesParts (row_skin skin.text) (Some width) text old r new
 WritesCall skin (MarkdownAsItComes width) text old r new = WritesDressed skin (Some width) (markdown_sections text) old r new
 WritesCall skin (Live width height) text old r new = WritesParts (row_skin skin.text) (Some width) text old r new
@@ -73,6 +75,7 @@ ShowsCall skin (InArea area) text old new =
     ShowsHeadline (row_skin skin.text) text area old new × ShowsText (row_skin skin.text) text area old new
 ShowsCall skin (AtWidth width) text old new = ⊤
 ShowsCall skin (AsMarkdown width) text old new = ⊤
+ShowsCall skin (AsCode language width) text old new = ⊤
 ShowsCall skin (AsItComes width) text old new = ⊤
 ShowsCall skin (MarkdownAsItComes width) text old new = ⊤
 ShowsCall skin (Live width height) text old new = ⊤

@@ -2,7 +2,7 @@
 
 ghost use Rattle.std.specs.Prelude.{◌≡◌, ℕ, List, Option, MatchOption, MatchResult, map, option_map, string_bytes};
 ghost use Rattle.mad_measure.specs.declared.Area.{Area as SomeArea};
-ghost use Rattle.termimad_run.specs.Calls.{Asks, IsWhole, command_of_pieces, shows_page, IsNoCall, IsAreaOf, IsSkinWord, AsksArea, AsksWidth, AsksSize, IsCall, RefusesWords};
+ghost use Rattle.termimad_run.specs.Calls.{Asks, IsWhole, command_of_pieces, shows_page, IsNoCall, IsAreaOf, IsSkinWord, AsksArea, AsksCode, AsksWidth, AsksSize, IsCall, RefusesWords};
 
 use crate::failure::Failure;
 use crate::number::parse_number;
@@ -16,13 +16,15 @@ const LEAST_AREA_WIDTH: u16 = 4;
 
 /// What is to be written.
 #[derive(Clone, PartialEq, Eq, Debug, Drop)]
-pub enum Command {
+pub enum Command<'w> {
     /// `area L T W H`: the text, in that area.
     InArea(Area),
     /// `text W`: the text, laid out at that width, in columns.
     AtWidth(u16),
     /// `markdown W`: the text, read as people write Markdown and laid out at that width, in columns.
     AsMarkdown(u16),
+    /// `code LANG W`: the text, as code in the language of that word, or of a file of that name, laid out at that width, in columns.
+    AsCode(&'w str, u16),
     /// `stream W`: the text, laid out at that width, in columns, as it comes.
     AsItComes(u16),
     /// `markdown-stream W`: the text, read as people write Markdown and laid out at that width, in columns, as it comes.
@@ -36,9 +38,9 @@ pub enum Command {
 
 /// A call of the program.
 #[derive(Drop)]
-pub struct Call {
+pub struct Call<'w> {
     /// What is to be written.
-    pub command: Command,
+    pub command: Command<'w>,
     /// In which skin; a text in that of a page's text.
     pub skin: PageSkin,
     /// The keys of that skin that name no part of one, in byte order.
@@ -46,12 +48,12 @@ pub struct Call {
 }
 
 /// The call that the words after the program's name are: `area L T W H [SKIN]`, `text W [SKIN]`, `markdown W [SKIN]`,
-/// `stream W [SKIN]`, `markdown-stream W [SKIN]`, `live W H [SKIN]` or `inline [SKIN]`.
+/// `code LANG W [SKIN]`, `stream W [SKIN]`, `markdown-stream W [SKIN]`, `live W H [SKIN]` or `inline [SKIN]`.
 ///
 /// # Errors
 ///
 /// `Usage`, where they are none of these; `Skin`, where SKIN is no skin. Or out of memory, where SKIN is JSON text.
-pub fn parse_call(alloc: Global, words: &[String]) -> Result<Call, Failure>
+pub fn parse_call(alloc: Global, words: &[String]) -> Result<Call<'_>, Failure>
     ensures { MatchResult result (λ call. IsCall (map string_bytes words.now) call.command call.skin (map string_bytes call.unknown.items))
         (λ failure. RefusesWords (map string_bytes words.now) failure) }
 {
@@ -64,18 +66,18 @@ pub fn parse_call(alloc: Global, words: &[String]) -> Result<Call, Failure>
     })
 }
 
-// Whether a command shows a page of Markdown as people write it.
+// Whether a command shows a page: of Markdown as people write it, or of code.
 fn shows_page(command: &Command) -> bool
     ensures { result ≡ shows_page command.now }
 {
     matches!(
         command,
-        Command::AsMarkdown(_) | Command::MarkdownAsItComes(_)
+        Command::AsMarkdown(_) | Command::AsCode(_, _) | Command::MarkdownAsItComes(_)
     )
 }
 
 // What the words ask for: the command, and the word given for SKIN.
-fn parse_words(words: &[String]) -> Option<(Command, Option<&str>)>
+fn parse_words(words: &[String]) -> Option<(Command<'_>, Option<&str>)>
     ensures { MatchOption result (IsNoCall (map string_bytes words.now))
         (λ asked. Asks (map string_bytes words.now) asked.0 (option_map (λ word. word.now) asked.1)) }
 {
@@ -92,6 +94,10 @@ fn parse_words(words: &[String]) -> Option<(Command, Option<&str>)>
         "markdown" => {
             let (width, word) = parse_text_call(words)?;
             Some((Command::AsMarkdown(width), word))
+        }
+        "code" => {
+            let (language, width, word) = parse_code_call(words)?;
+            Some((Command::AsCode(language, width), word))
         }
         "stream" => {
             let (width, word) = parse_text_call(words)?;
@@ -120,6 +126,18 @@ fn parse_area_call(words: &[String]) -> Option<(Area, Option<&str>)>
     };
     let area = parse_area(left.as_str(), top.as_str(), width.as_str(), height.as_str())?;
     Some((area, skin_word(rest)?))
+}
+
+// What the words after `code` ask for.
+fn parse_code_call(words: &[String]) -> Option<(&str, u16, Option<&str>)>
+    ensures { MatchOption result ((language : List ℕ) (width : ℕ) (word : Option (List ℕ)) → ¬ (AsksCode (map string_bytes words.now) language width word))
+        (λ asked. AsksCode (map string_bytes words.now) asked.0.now asked.1 (option_map (λ word. word.now) asked.2)) }
+{
+    let [language, rest @ ..] = words else {
+        return None;
+    };
+    let (width, word) = parse_text_call(rest)?;
+    Some((language.as_str(), width, word))
 }
 
 // What the words after `text`, `markdown`, `stream` or `markdown-stream` ask for.
@@ -197,6 +215,10 @@ pub(crate) fn pieces_of(command: &Command) -> Option<Pieces>
         Command::Live(width, height) => {
             Some(Pieces::Live(usize::from(*width), usize::from(*height)))
         }
-        Command::InArea(_) | Command::AtWidth(_) | Command::AsMarkdown(_) | Command::Inline => None,
+        Command::InArea(_)
+        | Command::AtWidth(_)
+        | Command::AsMarkdown(_)
+        | Command::AsCode(_, _)
+        | Command::Inline => None,
     }
 }

@@ -65,7 +65,7 @@ fn execute<I: Source, O: Out, E: Out>(
 
 // What the arguments ask for. The unknown keys of its skin are said.
 #[tactic(auto, using(crate::proofs::SkinWords::json_asked))]
-fn start<E: Out>(alloc: Global, args: &[String], err: &mut E) -> Result<Call, Failure>
+fn start<'w, E: Out>(alloc: Global, args: &'w [String], err: &mut E) -> Result<Call<'w>, Failure>
     ensures { MatchResult result
         (λ call. Starts (map string_bytes args.now) (E.seen err.old) call.command call.skin
         (map string_bytes call.unknown.items) (E.seen err.new))

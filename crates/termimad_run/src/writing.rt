@@ -10,12 +10,13 @@ use mad_layout::MadSkin;
 use mad_page_skin::PageSkin;
 use mad_stream::{SourceError, show_source_on, write_source_on};
 use mad_term::{Error, Out, Source, put_all};
+use markdown_code::write_code_on;
 use markdown_layout::write_markdown_on;
 use markdown_stream::write_markdown_source_on;
 use std::alloc::Global;
 
-/// Writes a text in an area, or laid out at a width, or read as people write Markdown and laid out, or as one line with inline marks and a
-/// newline. Nothing is flushed.
+/// Writes a text in an area, or laid out at a width, or read as people write Markdown or as code and laid out, or as one line with inline marks and
+/// a newline. Nothing is flushed.
 ///
 /// An area has to have four columns at least and lie within the limits of a screen: its right and bottom fit a `u16`.
 ///
@@ -42,6 +43,9 @@ pub fn write_call<O: Out>(
         }
         Command::AsMarkdown(width) | Command::MarkdownAsItComes(width) => {
             write_markdown_on(alloc, out, skin, text, Some(usize::from(*width)))
+        }
+        Command::AsCode(language, width) => {
+            write_code_on(alloc, out, skin, language, text, Some(usize::from(*width)))
         }
         Command::Inline => write_line(alloc, out, &skin.text, without_line_end(text)),
     }

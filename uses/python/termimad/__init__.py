@@ -24,6 +24,7 @@
 `Markdown(..).show()` prints a page in the width of the terminal. It has styles only where the output is a terminal and `NO_COLOR` isn't set.
 
     Markdown, markdown     Markdown as people write it: as an object, and as a call
+    Link, Heading          what `Markdown(..).links` and `Markdown(..).headings` have
     code                   a text of code as a page
     table                  a table of lists, of dicts or of a CSV file
     Lines, text, area      a text of the small grammar: at a width, in an area of the screen
@@ -50,16 +51,16 @@ import os
 from typing import Iterable, Iterator, List, Mapping, Optional, Sequence, Union
 
 from ._calls import NotUtf8, OutOfMemory, Refused, Skin, Words, WrongNumber, WrongSkin, raw, result, row_count, rows_of_parts, skin_word, table_of_cells
-from ._pages import Lines, Markdown, background, code, columns_of, terminal_width
+from ._pages import Heading, Lines, Link, Markdown, background, code, columns_of, terminal_width
 
 __version__ = "0.3.0"
-__all__ = ["Align", "Lines", "Markdown", "NotUtf8", "OutOfMemory", "Refused", "Skin", "Words", "WrongNumber", "WrongSkin", "area", "background", "code", "fit",
+__all__ = ["Align", "Heading", "Lines", "Link", "Markdown", "NotUtf8", "OutOfMemory", "Refused", "Skin", "Words", "WrongNumber", "WrongSkin", "area", "background", "code", "fit",
     "inline", "markdown", "printable", "rows", "table", "terminal_width", "text", "text_of_pieces"]
 
 Record = Union[Sequence[object], Mapping[str, object]]
 
 # A traceback names them as their users do.
-for _kind in (Refused, WrongNumber, NotUtf8, WrongSkin, OutOfMemory):
+for _kind in (Refused, WrongNumber, NotUtf8, WrongSkin, OutOfMemory, Heading, Link):
     _kind.__module__ = __name__
 
 

@@ -76,6 +76,8 @@ _PARAMETERS = {
     "termimad_area": _BYTES * 2 + [ctypes.c_size_t] * 4 + _BYTES,
     "termimad_text": _BYTES * 2 + [ctypes.c_size_t] + _BYTES,
     "termimad_markdown": _BYTES * 2 + [ctypes.c_size_t] + _BYTES,
+    "termimad_links": _BYTES * 2,
+    "termimad_headings": _BYTES * 2,
     "termimad_parts": _BYTES * 2 + [ctypes.c_size_t] * 3 + _BYTES,
     "termimad_inline": _BYTES * 3,
     "termimad_rows": _BYTES * 2 + [ctypes.c_size_t],
@@ -97,6 +99,11 @@ def rows_of_parts(left: bytes, skin: Skin, width: int, fenced: int, last: int) -
     """The rows of the complete parts of what is left, how many of its bytes they are of, and whether a fence is open then."""
     made, answer = _filled("termimad_parts", {"pieces": left, "skin": skin_word(skin)}, {"width": width, "fenced": fenced, "last": last})
     return made, answer.used, answer.fenced
+
+
+def lines_of(name: str, source: bytes) -> List[List[str]]:
+    """What a call tells of a source, line by line, as the parts between tabs."""
+    return [line.split("\t") for line in result(name, {"source": source}, {}).split("\n")[:-1]]
 
 
 def row_count(markdown: Words, skin: Skin, width: int) -> int:

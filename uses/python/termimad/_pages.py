@@ -7,9 +7,9 @@ import select
 import shutil
 import sys
 import time
-from typing import Any, Iterator, List, Optional, TextIO
+from typing import Any, Iterator, List, NamedTuple, Optional, TextIO
 
-from ._calls import Skin, Words, raw, result, skin_word
+from ._calls import Skin, Words, lines_of, raw, result, skin_word
 
 _WIDEST = 65535
 _SECONDS_TO_ANSWER = 1.0
@@ -84,6 +84,30 @@ def _background_of(answer: bytes) -> Optional[str]:
 def _skin_over(background_number: str) -> str:
     """The skin over a color of the sixteen."""
     return "light" if background_number in {"7", "9", "10", "11", "12", "13", "14", "15"} else "dark"
+
+
+class Link(NamedTuple):
+    """A link: the address to which it leads, and the number of its section.
+
+    >>> Markdown("see [the disks](disks.md)").links
+    [Link(address='disks.md', section=0)]
+    """
+
+    address: str
+    section: int
+
+
+class Heading(NamedTuple):
+    """A heading: its level from 1 to 6, what it shows, the name to which `#name` goes, and the number of its section.
+
+    >>> Markdown("# Disks").headings
+    [Heading(level=1, text='Disks', name='disks', section=0)]
+    """
+
+    level: int
+    text: str
+    name: str
+    section: int
 
 
 class _Shown:
@@ -161,6 +185,28 @@ class Markdown(_Shown):
     """
 
     _call = "termimad_markdown"
+
+    @property
+    def links(self) -> List[Link]:
+        """Its links, in the order in which they end: no images. An address has no escapes and entities, and no character that a terminal obeys.
+
+        >>> [link.address for link in Markdown("[a](b.md), <https://c.org> and ![an image](d.png)").links]
+        ['b.md', 'https://c.org']
+        """
+        return [Link(address, int(section)) for section, address in lines_of("termimad_links", self.source)]
+
+    @property
+    def headings(self) -> List[Heading]:
+        """Its headings, in order, each with the name that GitHub gives it.
+
+        >>> page = Markdown("# Disks\\n\\n## `df` says\\n\\nSee [there](#disks).")
+        >>> [(it.level, it.text, it.name) for it in page.headings]
+        [(1, 'Disks', 'disks'), (2, 'df says', 'df-says')]
+        >>> [it.text for it in page.headings if f"#{it.name}" in {link.address for link in page.links}]
+        ['Disks']
+        """
+        found = lines_of("termimad_headings", self.source)
+        return [Heading(int(level), text, name, int(section)) for level, section, name, text in found]
 
 
 class Lines(_Shown):

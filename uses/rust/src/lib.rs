@@ -55,6 +55,18 @@ extern "C" {
         buffer: *mut u8,
         capacity: usize,
     ) -> Answer;
+    fn termimad_links(
+        text: *const u8,
+        text_length: usize,
+        buffer: *mut u8,
+        capacity: usize,
+    ) -> Answer;
+    fn termimad_headings(
+        text: *const u8,
+        text_length: usize,
+        buffer: *mut u8,
+        capacity: usize,
+    ) -> Answer;
     fn termimad_parts(
         text: *const u8,
         text_length: usize,
@@ -463,6 +475,90 @@ pub fn printable(text: &str) -> Result<String, Refused> {
     filled(|buffer| unsafe {
         termimad_printable(text.as_ptr(), text.len(), buffer.as_mut_ptr(), buffer.len())
     })
+}
+
+/// A link of a text.
+#[derive(Clone, PartialEq, Eq, Debug)]
+pub struct Link {
+    /// Where it leads: without escapes and entities, and without a character that a terminal obeys.
+    pub address: String,
+    /// The number of its section, from 0 on.
+    pub section: usize,
+}
+
+/// A heading of a text.
+#[derive(Clone, PartialEq, Eq, Debug)]
+pub struct Heading {
+    /// Its level, 1 to 6.
+    pub level: u8,
+    /// What it shows, without marks.
+    pub text: String,
+    /// The name that GitHub gives it, to which `#name` goes.
+    pub name: String,
+    /// The number of its section, as that of a link.
+    pub section: usize,
+}
+
+/// The links of a text of Markdown as people write it, in the order in which they end. Images aren't among them, nor is html.
+///
+/// ```
+/// let links = termimad_proved::links("see [the disks](disks.md)").unwrap();
+/// assert_eq!(links[0].address, "disks.md");
+/// ```
+pub fn links(text: &str) -> Result<Vec<Link>, Refused> {
+    let lines = filled(|buffer| unsafe {
+        termimad_links(text.as_ptr(), text.len(), buffer.as_mut_ptr(), buffer.len())
+    })?;
+    Ok(lines.lines().map(link_of).collect())
+}
+
+/// The headings of a text of Markdown as people write it, in order.
+///
+/// ```
+/// let headings = termimad_proved::headings("# Disks\n\n## `df` says").unwrap();
+/// assert_eq!(headings[1].name, "df-says");
+/// ```
+pub fn headings(text: &str) -> Result<Vec<Heading>, Refused> {
+    let lines = filled(|buffer| unsafe {
+        termimad_headings(text.as_ptr(), text.len(), buffer.as_mut_ptr(), buffer.len())
+    })?;
+    Ok(lines.lines().map(heading_of).collect())
+}
+
+impl Page<'_> {
+    /// Its [`links`].
+    pub fn links(&self) -> Result<Vec<Link>, Refused> {
+        links(self.text)
+    }
+
+    /// Its [`headings`].
+    pub fn headings(&self) -> Result<Vec<Heading>, Refused> {
+        headings(self.text)
+    }
+}
+
+// The parts of a line between its tabs, of which there are so many.
+fn parts<const N: usize>(line: &str) -> [&str; N] {
+    let parts: Vec<&str> = line.split('\t').collect();
+    parts.try_into().expect("a line has its parts")
+}
+
+fn link_of(line: &str) -> Link {
+    let [section, address] = parts(line);
+    Link {
+        address: address.to_owned(),
+        section: section.parse().expect("a number"),
+    }
+}
+
+fn heading_of(line: &str) -> Heading {
+    let [level, section, name, text] = parts(line);
+    Heading {
+        level: level.parse().expect("a number"),
+        text: text.to_owned(),
+        name: name.to_owned(),
+        section: section.parse().expect("a number"),
+    }
 }
 
 // What the call makes, by a second call where the first buffer is too small.

@@ -1,7 +1,8 @@
 //! What the calls answer, and how they refuse.
 
 use termimad_proved::{
-    code, fit, markdown, printable, rows, rows_as_read, table, text, Align, Page, Refused,
+    code, fit, headings, links, markdown, printable, rows, rows_as_read, table, text, Align, Page,
+    Refused,
 };
 
 #[test]
@@ -63,4 +64,19 @@ fn code_is_one_block() {
     assert_eq!(rows, ["```", "# no heading"]);
     let one = code("a", "rust", 40, "none");
     assert_eq!(code("a", "rust\n```\n# head", 40, "none"), one);
+}
+
+#[test]
+fn links_and_headings_are_told() {
+    let text = "# Disks\n\n## Disks\n\nsee [there](#disks-1) and ![this](a.png)";
+    let names: Vec<String> = headings(text)
+        .unwrap()
+        .into_iter()
+        .map(|heading| heading.name)
+        .collect();
+    assert_eq!(names, ["disks", "disks-1"]);
+    let found = links(text).unwrap();
+    assert_eq!(found.len(), 1);
+    assert_eq!(found[0].address, "#disks-1");
+    assert_eq!(headings("no heading").unwrap(), []);
 }

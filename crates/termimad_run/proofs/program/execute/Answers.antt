@@ -1,5 +1,5 @@
 use Rattle.std.proofs.Common.{refl, subst, List, ℕ, IsUtf8, inl, inr}
-use Rattle.termimad_run.proofs.RunSteps.{call_exit, comes_as, started, has_read, has_written, read_exit, write_exit, flush_exit, stream_exit, still_shown}
+use Rattle.termimad_run.proofs.RunSteps.{allowed, call_exit, comes_as, started, has_read, has_written, read_exit, write_exit, flush_exit, stream_exit, still_shown}
 use Rattle.termimad_run.proofs.program.execute.Goals as goal
 
 pub returns-in_err-call : goal.returns-in_err-call
@@ -44,3 +44,6 @@ returns g c = inl (record {
   flushed = c.in_ok-flush.ensures;
   shown = still_shown c.in_ok-call.call.skin _ _ _ _ _ c.in_ok-write_call.ensures.shown c.in_ok-flush.ensures;
 })
+
+pub write_call-requires : goal.write_call-requires
+write_call-requires g c = allowed _ _ _ c.in_ok-call.ensures.asked.asks

@@ -1,0 +1,3 @@
+pub mod FenceLemmas
+pub mod LineLemmas
+pub mod PrintedLemmas

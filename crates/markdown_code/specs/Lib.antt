@@ -1,0 +1,3 @@
+pub mod CodeTexts
+pub mod FencedTexts
+pub mod Words

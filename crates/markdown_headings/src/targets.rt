@@ -1,0 +1,56 @@
+//! Where a link goes that begins with `#`.
+
+ghost use Rattle.std.specs.Prelude.{◌≡◌, IfOk, map, position, string_bytes};
+ghost use Rattle.std.specs.Str.{bytes_eq};
+ghost use Rattle.std.specs.StrCase.Lower.{str_to_lowercase};
+ghost use Rattle.markdown_headings.specs.HeadingsSaid.{name_said};
+ghost use Rattle.markdown_headings.specs.Targets.{first_named, target_among};
+
+use crate::naming::Heading;
+use std::alloc::{AllocError, Global};
+
+/// The index of the heading to which `#target` goes: the first that has this name, else the first that has it in small letters.
+///
+/// # Errors
+///
+/// Out of memory is the only error.
+pub fn find_target(
+    alloc: Global,
+    headings: &[Heading],
+    target: &str,
+) -> Result<Option<usize>, AllocError>
+    ensures { IfOk result (λ found. found ≡ target_among (map name_said headings.now) target.now) }
+{
+    match find_name(headings, target) {
+        Some(found) => Ok(Some(found)),
+        None => find_small(alloc, headings, target),
+    }
+}
+
+// The index of the first heading that has this name in small letters.
+fn find_small(
+    alloc: Global,
+    headings: &[Heading],
+    target: &str,
+) -> Result<Option<usize>, AllocError>
+    ensures { IfOk result (λ found. found ≡ first_named (map name_said headings.now) (str_to_lowercase target.now)) }
+{
+    let small = target.to_lowercase(alloc)?;
+    Ok(find_name(headings, small.as_str()))
+}
+
+// The index of the first heading of this name.
+fn find_name(headings: &[Heading], name: &str) -> Option<usize>
+    ensures { result ≡ first_named (map name_said headings.now) name.now }
+{
+    find_heading(headings, name)
+}
+
+// The same, by the headings themselves.
+fn find_heading(headings: &[Heading], name: &str) -> Option<usize>
+    ensures { result ≡ position (λ heading. bytes_eq (string_bytes heading.name) name.now) headings.now }
+{
+    headings
+        .iter()
+        .position(|heading| heading.name.as_str() == name)
+}
