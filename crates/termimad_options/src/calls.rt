@@ -8,6 +8,7 @@ use crate::rules::options;
 use clap::error::ErrorKind;
 use clap::{ArgMatches, Command, Error};
 use std::alloc::{AllocError, Global};
+use std::convert::AsStr;
 
 /// How a text is read.
 #[derive(Clone, Copy, Debug, PartialEq, Eq)]
@@ -60,11 +61,11 @@ pub struct Call<'a> {
 ///
 /// Words that aren't options, or values that these don't take: the error says so, and its status is 2. Help and the version are told by an
 /// error too, whose status is 0. Or out of memory.
-pub fn call_of<'a>(alloc: Global, words: &'a [&'a str]) -> Result<Call<'a>, Error>
-    ensures call { IfOk result (λ call. IsCallOf (map (λ word. word.now) words.now) call) }
-    ensures passes { IfErr result (λ e. is_call (map (λ word. word.now) words.now) ≡ true → kind_of e ≡ ErrorKind.OutOfMemory) }
-    ensures taken { IfOk result (λ _. mistakes_of (map (λ word. word.now) words.now) ≡ []) }
-    ensures kinds { IfErr result (IsErrorOf (map (λ word. word.now) words.now)) }
+pub fn call_of<'a, S: AsStr>(alloc: Global, words: &'a [S]) -> Result<Call<'a>, Error>
+    ensures call { IfOk result (λ call. IsCallOf (map S.text words.entry.now) call) }
+    ensures passes { IfErr result (λ e. is_call (map S.text words.entry.now) ≡ true → kind_of e ≡ ErrorKind.OutOfMemory) }
+    ensures taken { IfOk result (λ _. mistakes_of (map S.text words.entry.now) ≡ []) }
+    ensures kinds { IfErr result (IsErrorOf (map S.text words.entry.now)) }
 {
     let mut command = options(alloc)?;
     let matches = command.try_get_matches_from_mut(words)?;

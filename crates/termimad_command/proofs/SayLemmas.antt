@@ -1,0 +1,22 @@
+-- What is said.
+use Rattle.std.proofs.Common.{◌≡◌, ℕ, List, String, string_bytes, subst, sym}
+use Rattle.std.specs.declared.alloc.Global.{Global}
+use Rattle.mad_term.specs.Trace.{Trace}
+use Rattle.termimad_run.specs.Failures.{SaysOnce}
+use Rattle.termimad_command.specs.Refusals.{Says}
+use Rattle.termimad_command.specs.declared.refusals.Refusal.{Refusal}
+use Rattle.termimad_command.specs.declared.refusals.Refusal.TheVariants.{Mistaken}
+
+-- the same text is said
+pub same_said : (old new : Trace) (shown text : List ℕ) → shown ≡ text → SaysOnce old shown new → SaysOnce old text new
+same_said old new shown text e h = subst (λ (text : List ℕ). SaysOnce old text new) e h
+
+-- what is wrong with the words is said
+pub mistake_said : (refusal : Refusal) (text : String Global) (shown : List ℕ) (old new : Trace) → refusal ≡ Mistaken text → shown ≡ string_bytes text
+    → SaysOnce old shown new → Says refusal old new
+mistake_said refusal text shown old new is e h =
+    subst (λ (refusal : Refusal). Says refusal old new) (sym is) (subst (λ (text : List ℕ). SaysOnce old text new) e h)
+
+-- a refusal is said
+pub refusal_said : (refusal given : Refusal) (old new : Trace) → refusal ≡ given → Says given old new → Says refusal old new
+refusal_said refusal given old new is h = subst (λ (refusal : Refusal). Says refusal old new) (sym is) h

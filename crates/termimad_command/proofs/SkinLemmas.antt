@@ -1,0 +1,65 @@
+-- The skin that a word is.
+use Rattle.std.proofs.Common.{◌≡◌, Bool, true, false, ℕ, List, Some, Result, Ok, Err, sym, subst, inl, inr}
+use Rattle.std.specs.Prelude.{MatchBool, MatchResult}
+use Rattle.mad_page_skin.specs.declared.page_skin.PageSkin.{PageSkin}
+use Rattle.termimad_given.specs.Given.{Held}
+use Rattle.termimad_run.specs.GivenSkins.{RefusesPageSkin, page_skin_given}
+use Rattle.termimad_run.specs.declared.failure.Failure.{Failure}
+use Rattle.termimad_run.specs.declared.failure.Failure.TheVariants.{Skin as NoSkin, Memory as NoMemory}
+use Rattle.termimad_command.specs.Skins.{IsNoSkin, IsSkinOf, RefusesSkinWord, RefusesText, SaysSkin, is_said, skin_refusal}
+use Rattle.termimad_command.specs.declared.refusals.Refusal.{Refusal}
+use Rattle.termimad_command.specs.declared.refusals.Refusal.TheVariants.{Mistaken, Undecoded, Lacking, Skin, Unreadable, Output, Unread, Memory}
+
+-- the word says it itself
+pub said_skin : (holds : Held) (word : List ℕ) (r : Result PageSkin Refusal) → is_said word ≡ true
+    → MatchResult r (SaysSkin word) (RefusesText word) → MatchResult r (IsSkinOf holds word) (RefusesSkinWord word)
+said_skin holds word (Ok skin) e h = inl (e, h)
+said_skin holds word (Err refusal) e h = subst (λ (b : Bool). MatchBool b (RefusesText word refusal) (IsNoSkin refusal)) (sym e) h
+
+-- the text that it names says it
+pub named_skin : (holds : Held) (word bytes slice : List ℕ) (r : Result PageSkin Refusal) → is_said word ≡ false → holds word bytes → slice ≡ bytes
+    → MatchResult r (SaysSkin slice) IsNoSkin → MatchResult r (IsSkinOf holds word) (RefusesSkinWord word)
+named_skin holds word bytes slice (Ok skin) e held s h = inr (e, (bytes, held, subst (λ (text : List ℕ). SaysSkin text skin) s h))
+named_skin holds word bytes slice (Err refusal) e held s h = subst (λ (b : Bool). MatchBool b (RefusesText word refusal) (IsNoSkin refusal)) (sym e) h
+
+-- it names none that can be read
+pub no_skin_named : (word : List ℕ) → is_said word ≡ false → RefusesSkinWord word Skin
+no_skin_named word e = subst (λ (b : Bool). MatchBool b (RefusesText word Skin) (IsNoSkin Skin)) (sym e) tt
+
+failure_refuses_by : (text : List ℕ) (failure : Failure) → RefusesPageSkin (Some text) failure → RefusesText text (skin_refusal failure)
+failure_refuses_by text NoSkin h = h
+failure_refuses_by text NoMemory h = tt
+failure_refuses_by text _ h = absurd h
+
+-- why a text says no skin, by the failure to read one
+pub failure_refuses : (text : List ℕ) (failure : Failure) (refusal : Refusal) → refusal ≡ skin_refusal failure → RefusesPageSkin (Some text) failure
+    → RefusesText text refusal
+failure_refuses text failure refusal e h = subst (λ (refusal : Refusal). RefusesText text refusal) (sym e) (failure_refuses_by text failure h)
+
+-- why a text says no skin is that there is none, or no memory
+text_refused : (text : List ℕ) (refusal : Refusal) → RefusesText text refusal → IsNoSkin refusal
+text_refused text (Mistaken words) h = absurd h
+text_refused text Undecoded h = absurd h
+text_refused text Lacking h = absurd h
+text_refused text Skin h = tt
+text_refused text (Unreadable name) h = absurd h
+text_refused text Output h = absurd h
+text_refused text Unread h = absurd h
+text_refused text Memory h = tt
+
+-- bytes say the skin that the text says which they are
+pub skin_in_text : (bytes text : List ℕ) (r : Result PageSkin Refusal) → text ≡ bytes → MatchResult r (SaysSkin text) (RefusesText text)
+    → MatchResult r (SaysSkin bytes) IsNoSkin
+skin_in_text bytes text (Ok skin) e h = subst (λ (text : List ℕ). SaysSkin text skin) e h
+skin_in_text bytes text (Err refusal) e h = text_refused text refusal h
+
+-- a text says this skin
+pub text_said : (text : List ℕ) (r : Result PageSkin Refusal) (skin : PageSkin) (unknown : List (List ℕ)) → r ≡ Ok skin → page_skin_given (Some text) ≡ Some (skin, unknown)
+    → MatchResult r (SaysSkin text) (RefusesText text)
+text_said text r skin unknown is h = subst (λ (r : Result PageSkin Refusal). MatchResult r (SaysSkin text) (RefusesText text)) (sym is) (unknown, h)
+
+-- it says none
+pub text_unsaid : (text : List ℕ) (r : Result PageSkin Refusal) (refusal : Refusal) (failure : Failure) → r ≡ Err refusal → refusal ≡ skin_refusal failure
+    → RefusesPageSkin (Some text) failure → MatchResult r (SaysSkin text) (RefusesText text)
+text_unsaid text r refusal failure is e h =
+    subst (λ (r : Result PageSkin Refusal). MatchResult r (SaysSkin text) (RefusesText text)) (sym is) (failure_refuses text failure refusal e h)

@@ -1,0 +1,15 @@
+use Rattle.termimad_command.proofs.SayLemmas.{mistake_said, refusal_said}
+use Rattle.termimad_command.specs.declared.refusals.Refusal.TheVariants.{Lacking, Skin, Memory}
+use Rattle.termimad_command.proofs.refusals.say_refusal.Goals as goal
+
+pub returns-in-Mistaken : goal.returns-in-Mistaken
+returns-in-Mistaken g c = mistake_said _ c.in-Mistaken.text _ _ _ c.in-Mistaken.is c.deref.ensures c.say.ensures
+
+pub returns-in-Lacking : goal.returns-in-Lacking
+returns-in-Lacking g c = refusal_said _ Lacking _ _ c.in-Lacking.is c.say-in-Lacking.ensures
+
+pub returns-in-Skin : goal.returns-in-Skin
+returns-in-Skin g c = refusal_said _ Skin _ _ c.in-Skin.is c.say-in-Skin.ensures
+
+pub returns-in-Memory : goal.returns-in-Memory
+returns-in-Memory g c = refusal_said _ Memory _ _ c.in-Memory.is c.say-in-Memory.ensures

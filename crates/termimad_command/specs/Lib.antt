@@ -1,0 +1,6 @@
+pub mod Calls
+pub mod Refusals
+pub mod Runs
+pub mod Skins
+pub mod Texts
+pub mod Written

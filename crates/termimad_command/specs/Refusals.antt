@@ -1,0 +1,65 @@
+-- Why a call isn't done, or not all of it: its status, and what is said.
+use Rattle.std.specs.Prelude.{◌≡◌, ◌⊎◌, ◌++◌, ℕ, List, codes, string_bytes}
+use Rattle.std.specs.Borrow.{Bor}
+use Rattle.std.specs.IoError.{error_kind}
+use Rattle.std.specs.declared.io.Error.{Error as IoError}
+use Rattle.std.specs.declared.io.ErrorKind.{ErrorKind}
+use Rattle.std.specs.declared.io.ErrorKind.TheVariants.{BrokenPipe, OutOfMemory}
+use Rattle.mad_measure.specs.KeptCells.{shown_bytes}
+use Rattle.mad_term.specs.Trace.{Trace}
+use Rattle.mad_term.specs.declared.errors.Error.{Error}
+use Rattle.mad_term.specs.declared.errors.Error.TheVariants.{IO, InsufficientWidth, Memory as NoMemory}
+use Rattle.termimad_run.specs.Failures.{SaysOnce}
+use Rattle.termimad_command.specs.declared.refusals.Refusal.{Refusal}
+use Rattle.termimad_command.specs.declared.refusals.Refusal.TheVariants.{Mistaken, Undecoded, Lacking, Skin, Unreadable, Output, Unread, Memory}
+
+-- its status
+abbrev pub status_of : Refusal → ℕ
+status_of (Unreadable name) = 1
+status_of Output = 1
+status_of (Mistaken text) = 2
+status_of Undecoded = 2
+status_of Lacking = 2
+status_of Skin = 4
+status_of Memory = 5
+status_of Unread = 141
+
+-- the line for a text that can't be read: what is printable of its name
+abbrev pub name_line : List ℕ → List ℕ
+name_line name = codes "termimad: " ++ (shown_bytes name ++ codes " can't be read\n")
+
+-- the same without its name
+abbrev pub short_line : List ℕ
+short_line = codes "termimad: a text can't be read\n"
+
+-- what is said on standard error, once; nothing, where nobody reads the output
+abbrev pub Says : Refusal → Trace → Trace → Type 0
+Says (Mistaken text) old new = SaysOnce old (string_bytes text) new
+Says Undecoded old new = SaysOnce old (codes "termimad: a word isn't UTF-8\n") new
+Says Lacking old new = SaysOnce old (codes "termimad: --code, --stream and --links always aren't there yet\n") new
+Says Skin old new = SaysOnce old (codes "termimad: SKIN is no name, no file and no JSON of a skin\n") new
+Says (Unreadable name) old new = SaysOnce old (name_line name.now) new ⊎ SaysOnce old short_line new
+Says Output old new = SaysOnce old (codes "termimad: the output failed\n") new
+Says Unread old new = new ≡ old
+Says Memory old new = SaysOnce old (codes "termimad: out of memory\n") new
+
+-- what a fault of this kind in writing makes of a call
+abbrev pub refusal_by : ErrorKind → Refusal
+refusal_by BrokenPipe = Unread
+refusal_by OutOfMemory = Memory
+refusal_by _ = Output
+
+-- what the refusal of a writing call makes of a call
+abbrev pub refusal_of : Error → Refusal
+refusal_of (IO e) = refusal_by (error_kind e)
+refusal_of (InsufficientWidth e) = Output
+refusal_of NoMemory = Memory
+
+-- what a fault of this kind in reading makes of a call
+abbrev pub reading_by : Bor (List ℕ) → ErrorKind → Refusal
+reading_by name OutOfMemory = Memory
+reading_by name _ = Unreadable name
+
+-- what a fault in reading the text of a name makes of a call
+abbrev pub refusal_reading : Bor (List ℕ) → IoError → Refusal
+refusal_reading name e = reading_by name (error_kind e)

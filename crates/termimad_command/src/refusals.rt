@@ -1,0 +1,136 @@
+//! Why a call isn't done, or not all of it, and what is said of that.
+
+ghost use Rattle.std.specs.Prelude.{◌≡◌, ◌⊎◌, IfOk, string_bytes};
+ghost use Rattle.termimad_command.specs.Refusals.{Says, name_line, refusal_of, refusal_reading, short_line, status_of};
+ghost use Rattle.termimad_run.specs.Failures.{SaysOnce};
+
+use mad_measure::printable;
+use mad_term::{Error, Out, put_all};
+use std::alloc::{AllocError, Global};
+use std::io::{self, ErrorKind};
+
+// The status of a program that writes where nobody reads: 128 and the number of the signal that ends others then.
+const UNREAD: u8 = 141;
+
+/// Why a call isn't done, or not all of it.
+#[derive(Drop)]
+pub enum Refusal<'a> {
+    /// The words are no call: what is wrong with them.
+    Mistaken(String),
+    /// One of the words isn't UTF-8.
+    Undecoded,
+    /// The words ask for what isn't there yet.
+    Lacking,
+    /// The word for the skin says none.
+    Skin,
+    /// The text of this name can't be read.
+    Unreadable(&'a str),
+    /// The output failed.
+    Output,
+    /// Nobody reads the output any more.
+    Unread,
+    /// Out of memory.
+    Memory,
+}
+
+impl Refusal<'_> {
+    /// The exit status.
+    pub fn status(&self) -> u8
+        ensures { result ≡ status_of self.now }
+    {
+        match self {
+            Refusal::Unreadable(_) | Refusal::Output => 1,
+            Refusal::Mistaken(_) | Refusal::Undecoded | Refusal::Lacking => 2,
+            Refusal::Skin => 4,
+            Refusal::Memory => 5,
+            Refusal::Unread => UNREAD,
+        }
+    }
+}
+
+/// What the refusal of a writing call makes of a call.
+pub(crate) fn refusal_of<'a>(e: Error) -> Refusal<'a>
+    ensures { result ≡ refusal_of e }
+{
+    match e {
+        Error::IO(e) => match e.kind() {
+            ErrorKind::BrokenPipe => Refusal::Unread,
+            ErrorKind::OutOfMemory => Refusal::Memory,
+            _ => Refusal::Output,
+        },
+        Error::InsufficientWidth(_) => Refusal::Output,
+        Error::Memory => Refusal::Memory,
+    }
+}
+
+/// What a fault in reading the text of a name makes of a call.
+pub(crate) fn refusal_reading<'a>(name: &'a str, e: &io::Error) -> Refusal<'a>
+    ensures { result ≡ refusal_reading name.entry e.now }
+{
+    match e.kind() {
+        ErrorKind::OutOfMemory => Refusal::Memory,
+        _ => Refusal::Unreadable(name),
+    }
+}
+
+/// Says a refusal on a device, and answers its status. Where nobody reads the output, nothing is said. A fault of the device changes nothing.
+pub fn refuse<E: Out>(alloc: Global, err: &mut E, refusal: Refusal) -> u8
+    ensures status { result ≡ status_of refusal.entry }
+    ensures said { Says refusal.entry (E.seen err.old) (E.seen err.new) }
+{
+    let status = refusal.status();
+    say_refusal(alloc, err, refusal);
+    status
+}
+
+// Says a refusal on a device.
+fn say_refusal<E: Out>(alloc: Global, err: &mut E, refusal: Refusal)
+    ensures { Says refusal.entry (E.seen err.old) (E.seen err.new) }
+{
+    match refusal {
+        Refusal::Mistaken(text) => say(err, &text),
+        Refusal::Undecoded => say(err, "termimad: a word isn't UTF-8\n"),
+        Refusal::Lacking => {
+            say(
+                err,
+                "termimad: --code, --stream and --links always aren't there yet\n",
+            )
+        }
+        Refusal::Skin => say(
+            err,
+            "termimad: SKIN is no name, no file and no JSON of a skin\n",
+        ),
+        Refusal::Unreadable(name) => say_unreadable(alloc, err, name),
+        Refusal::Output => say(err, "termimad: the output failed\n"),
+        Refusal::Unread => {}
+        Refusal::Memory => say(err, "termimad: out of memory\n"),
+    }
+}
+
+// Says a text on a device.
+fn say<E: Out>(err: &mut E, text: &str)
+    ensures { SaysOnce (E.seen err.old) text.now (E.seen err.new) }
+{
+    let _ = put_all(err, text.as_bytes());
+}
+
+// Says that the text of a name can't be read; without the name, where there is no memory for it.
+fn say_unreadable<E: Out>(alloc: Global, err: &mut E, name: &str)
+    ensures { SaysOnce (E.seen err.old) (name_line name.now) (E.seen err.new) ⊎ SaysOnce (E.seen err.old) short_line (E.seen err.new) }
+{
+    match name_line(alloc, name) {
+        Ok(line) => say(err, &line),
+        Err(_) => say(err, "termimad: a text can't be read\n"),
+    }
+}
+
+// The line that says which text can't be read: what is printable of its name.
+fn name_line(alloc: Global, name: &str) -> Result<String, AllocError>
+    ensures { IfOk result (λ line. string_bytes line ≡ name_line name.now) }
+{
+    let name = printable(alloc, name)?;
+    let mut line = String::from_str(alloc, "termimad: ")?;
+    line.push_str(&name)?;
+    line.push_str(" can't be read\n")?;
+    Ok(line)
+}
