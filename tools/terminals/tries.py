@@ -318,45 +318,18 @@ def broken_pipe(w):
     same((out, len(err.splitlines())), (b"1\n", 1))
 
 
-# What stands in for the command rt: it runs the program on the file of --data, and writes nothing past a MiB.
-RT_TRY = """#!/bin/bash
-folder=$(mktemp -d) && cd "$folder" && cp "${3#text.md=}" text.md || exit 2
-"$PROGRAM" "${@:5}" >out
-code=$?
-[ "$(wc -c <out)" -le 1048576 ] || code=6
-[ $code -ne 0 ] || cat out
-rm -r "$folder"
-exit $code
-"""
-
-
 @tried
 def first_look(w):
-    """Where no program is built, less shows what `rt try` lays out of the text's beginning, as wide as the terminal."""
+    """Where no program is built, ./page asks ./termimad, which says what builds it."""
     clone = w.folder / "clone"
-    (clone / "crates/termimad_page").mkdir(parents=True)
+    (clone / "crates").mkdir(parents=True)
     (clone / "crates.txt").touch()
-    shutil.copy(PAGE, clone)
+    for script in (PAGE, ROOT / "termimad"):
+        shutil.copy(script, clone)
     shutil.copytree(ROOT / "tools/package", clone / "tools/package")
-    (clone / "bin").mkdir()
-    (clone / "bin/rt").write_text(RT_TRY)
-    (clone / "bin/rt").chmod(0o755)
-    (w.folder / "tables.md").write_text("".join(f"| `a b c d e f g h` | `{i}` | **x** |\n|---|---|---|\n\n" for i in range(9000)))
-    look = f"env -u TERMIMAD_PAGE PROGRAM={ENVIRONMENT['TERMIMAD_PAGE']} PATH={clone}/bin:$PATH {clone}/page"
-    w.resize(60, 24)
-    w.run(f"{look} long.md")
-    assert until(lambda: w.shown()[23] == ":"), w.shown()
-    same(w.shown()[:23], [line.rstrip() for line in in_shell(w, f"$TERMIMAD_PAGE whole long.md none 60")[0].decode().split("\n")[:23]])
-    w.type("G")
-    assert until(lambda: any(row.startswith("lines of the text that are left out:") for row in w.shown()), 3), w.shown()
-    end(w)
-    assert "isn't proved yet" in " ".join(w.shown()), w.shown()
-    whole, _ = in_shell(w, f"{PAGE} long.md")
-    out, err = in_shell(w, f"{look} long.md")
-    assert out and whole.startswith(out) and len(err.splitlines()) == 2, err
-    out, err = in_shell(w, f"cat tables.md | {look} --skin default")
-    assert 0 < len(out) < 1 << 20 and b"left out" in err, err
-    same(in_shell(w, f"{look} text.md"), (in_shell(w, f"{PAGE} text.md")[0], err.splitlines(True)[0]))
+    for words in ("text.md", "--lines text.md", "<text.md"):
+        out, err = in_shell(w, f"env -u TERMIMAD_PAGE {clone}/page {words}")
+        assert not out and b"./termimad --build" in err, err
 
 
 @tried

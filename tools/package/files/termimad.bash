@@ -1,0 +1,22 @@
+# Completions of termimad for bash.
+_termimad() {
+    local word=${COMP_WORDS[COMP_CWORD]}
+    case ${COMP_WORDS[COMP_CWORD - 1]} in
+    --skin) mapfile -t COMPREPLY < <(compgen -W "auto dark light sixteen none" -- "$word"; compgen -f -X "!*.json" -- "$word") ;;
+    --links) mapfile -t COMPREPLY < <(compgen -W "auto never" -- "$word") ;;
+    -w | --width | --code) COMPREPLY=() ;;
+    *)
+        case $word in
+        -*)
+            mapfile -t COMPREPLY < <(compgen -W \
+                "-w --width --skin --code --links --lines --plain --stream --no-pager -F -h --help -V --version" -- "$word")
+            ;;
+        *)
+            compopt -o filenames
+            mapfile -t COMPREPLY < <(compgen -f -- "$word")
+            ;;
+        esac
+        ;;
+    esac
+}
+complete -F _termimad termimad termimad-page

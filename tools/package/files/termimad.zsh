@@ -1,0 +1,18 @@
+#compdef termimad termimad-page
+# Completions of termimad for zsh.
+_termimad_skins() {
+    _alternative 'names:name:(auto dark light sixteen none)' 'files:file:_files -g "*.json"'
+}
+_arguments -s \
+    '(-w --width)'{-w+,--width=}'[write in so many columns]:columns:' \
+    '--skin=[show it in this skin]:skin: _termimad_skins' \
+    '--code=[code of this language; not there yet]:language:' \
+    '--links=[where links lead]:when:(auto never)' \
+    '--lines[show each line by itself, in the smaller grammar]' \
+    "--plain[show text that isn't Markdown, with its colors]" \
+    '--stream[each part as it comes; not there yet]' \
+    '--no-pager[write, and do not page]' \
+    '-F[do not page what fits on one screen]' \
+    '(- *)'{-h,--help}'[say the options]' \
+    '(- *)'{-V,--version}'[say the version]' \
+    '*:file:_files'
