@@ -1,5 +1,5 @@
 use Rattle.std.proofs.Common.{List, ap, subst}
-use Rattle.std.specs.Fmt.{HasWritten}
+use Rattle.core.specs.Fmt.{HasWritten}
 use Rattle.mad_draw.specs.Pieces.{RowPiece, pieces_bytes}
 use Rattle.mad_page_rows.proofs.TonedLemmas.{toned_text}
 use Rattle.mad_page_rows.proofs.page_rows.TonedLineDisplay.fmt.Goals as goal

@@ -1,0 +1,5 @@
+pub mod BlankLemmas
+pub mod LastLemmas
+pub mod TextLemmas
+pub mod ParagraphLemmas
+pub mod MarkLemmas
