@@ -4,7 +4,7 @@
  *   of length 0   no style
  *   default, dark, light   the made skins
  *   any other     JSON text as {"bold":"red"}, which changes the default skin; keys that name no part of a skin are passed over
- * For termimad_markdown it is the skin of a page: sixteen and none too, and in JSON text the key page.
+ * For termimad_markdown and termimad_code it is the skin of a page: sixteen and none too, and in JSON text the key page.
  *
  * Each call answers a status and a count: how many bytes the whole result has, whatever the buffer holds. Ask with a buffer that is
  * likely large enough. Where the status is TERMIMAD_SHORT, take one of `count` bytes and ask again:
@@ -97,6 +97,17 @@ termimad_answer termimad_text(const char *text, size_t text_length, const char *
  */
 termimad_answer termimad_markdown(const char *text, size_t text_length, const char *skin, size_t skin_length,
                                   size_t width, char *buffer, size_t capacity);
+
+/* The text as code, laid out in WIDTH columns, each row with a newline: what `termimad-view code LANGUAGE WIDTH` writes. It is what a fence around
+ * it shows. Nothing of the text reaches the terminal that it obeys.
+ *
+ * LANGUAGE is the word of a language, as rust, or the name of a file, as main.rs or Makefile. Of one that isn't known, code has no colors. It is UTF-8,
+ * else TERMIMAD_NOT_UTF8. WIDTH is at most 65535, else TERMIMAD_CONDITION.
+ *
+ *   termimad_code("let x = 1;", 10, "rust", 4, "dark", 4, 40, buffer, sizeof buffer);
+ */
+termimad_answer termimad_code(const char *text, size_t text_length, const char *language, size_t language_length,
+                              const char *skin, size_t skin_length, size_t width, char *buffer, size_t capacity);
 
 /* The links of the text, read as termimad_markdown reads it, in the order in which they end. Each is a line: the number of its section in
  * decimal, a tab, and the address to which it leads. Sections count from 0; a heading's is the one that termimad_headings tells.

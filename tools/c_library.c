@@ -23,7 +23,7 @@ typedef struct {
 
 typedef struct {
     unsigned kind;
-    bytes text, skin;
+    bytes text, skin, language;
     sizes lengths, aligns;
     size_t numbers[4];
 } call;
@@ -70,6 +70,8 @@ static const char *const skins[] = {
     "", "", "default", "dark", "light", "{\"bold\":\"red\"}", "{\"bold\":", "nothing", "{\"bold\":\"pissenlit\"}", "{\"colour\":1}", "\xff", "[", "{}", "null",
     "{\"table_border_chars\":\"rounded\",\"headers\":[\"red\",\"\",\"\"]}", "{\"list_items_indentation_mode\":\"hanging(2)\"}",
 };
+
+static const char *const languages[] = { "", "rust", "c", "sh", "json", "main.py", "Makefile", "nothing", "rust and more", "\xff" };
 
 static const size_t numbers[] = { 0, 1, 2, 3, 4, 5, 7, 12, 20, 40, 80, 300, 65535, 65536, 65540, 1u << 31, SIZE_MAX / 2, SIZE_MAX - 3, SIZE_MAX };
 
@@ -130,11 +132,13 @@ static sizes random_aligns(void)
 
 static call random_call(void)
 {
-    call it = { .kind = (unsigned)next(11), .text = random_text() };
+    call it = { .kind = (unsigned)next(12), .text = random_text() };
     it.lengths = random_lengths(it.text.length);
     it.aligns = random_aligns();
     const char *skin = skins[next(COUNT(skins))];
     it.skin = copy_of(skin, strlen(skin));
+    const char *language = languages[next(COUNT(languages))];
+    it.language = copy_of(language, strlen(language));
     for (int n = 0; n < 4; n++)
         it.numbers[n] = numbers[next(COUNT(numbers))];
     /* A tall wide area has gigabytes. */
@@ -177,6 +181,7 @@ static termimad_answer answer_of(const call *c, char *buffer, size_t capacity)
                               buffer, capacity);
     case 8: return termimad_links(text, length, buffer, capacity);
     case 9: return termimad_headings(text, length, buffer, capacity);
+    case 10: return termimad_code(text, length, c->language.bytes, c->language.length, skin, skin_length, n[0], buffer, capacity);
     default: return termimad_printable(text, length, buffer, capacity);
     }
 }
@@ -244,6 +249,7 @@ static int try_call(unsigned number, char *room, unsigned *counted)
     free(buffer);
     free(c.text.bytes);
     free(c.skin.bytes);
+    free(c.language.bytes);
     free(c.lengths.numbers);
     free(c.aligns.numbers);
     return fault == NULL;

@@ -27,7 +27,7 @@ class Run:
     link: Address | None = None
 
     def same(self, o: Run) -> bool:
-        return (self.bold, self.italic, self.code, self.strike, self.link is None) == (o.bold, o.italic, o.code, o.strike, o.link is None)
+        return (self.bold, self.italic, self.code, self.strike) == (o.bold, o.italic, o.code, o.strike) and self.link is o.link
 
 
 TURNS = "\u202a\u202b\u202c\u202d\u202e\u2066\u2067\u2068\u2069"  # what turns the direction

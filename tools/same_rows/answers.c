@@ -98,6 +98,8 @@ static termimad_answer answer_of(const request *it, char *buffer, size_t capacit
         return termimad_text(text, length, skin, skin_length, n[0], buffer, capacity);
     if (strcmp(it->call, "markdown") == 0)
         return termimad_markdown(text, length, skin, skin_length, n[0], buffer, capacity);
+    if (strcmp(it->call, "code") == 0)
+        return termimad_code(text, length, it->texts[2], it->lengths[2], skin, skin_length, n[0], buffer, capacity);
     if (strcmp(it->call, "inline") == 0)
         return termimad_inline(text, length, skin, skin_length, buffer, capacity);
     if (strcmp(it->call, "fit") == 0)

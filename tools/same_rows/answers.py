@@ -37,6 +37,11 @@ def markdown_of(text, skin, width):
     return made
 
 
+def code_of(text, skin, language, width):
+    """A text of code: its rows, each with a newline."""
+    return "".join(f"{row}\n" for row in termimad.code(text, language.decode()).rows(width, skin))
+
+
 def lines_of(found):
     """Links or headings as the library writes them: a line for each, its parts with tabs between."""
     return "".join("\t".join(map(str, parts)) + "\n" for parts in found)
@@ -51,6 +56,7 @@ def made_by(call, numbers, texts):
         "area": lambda: termimad.area(text, *numbers, skin),
         "text": lambda: termimad.text(text, *numbers, skin),
         "markdown": lambda: markdown_of(text, skin, *numbers),
+        "code": lambda: code_of(text, skin, texts[2], *numbers),
         "inline": lambda: termimad.inline(text, skin),
         "pieces": lambda: pieces_of(text, skin, *numbers),
         "rows": lambda: str(termimad.rows(text, *numbers, skin)),

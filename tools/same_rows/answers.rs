@@ -2,8 +2,8 @@
 
 use std::io::{self, BufRead, Read, Write};
 use termimad_proved::{
-    area, fit, headings, inline, links, markdown, printable, rows, rows_as_read, table, text,
-    Align, Area, Heading, Link, Page, Refused,
+    area, code, fit, headings, inline, links, markdown, printable, rows, rows_as_read, table,
+    text, Align, Area, Heading, Link, Page, Refused,
 };
 
 const NOT_UTF8: u32 = 3;
@@ -141,6 +141,7 @@ fn made_by(request: &Request) -> Result<String, u32> {
         "area" => in_area(texts[0], numbers, skin),
         "text" => text(texts[0], numbers[0], skin),
         "markdown" => page(texts[0], numbers[0], skin),
+        "code" => code(texts[0], texts[2], numbers[0], skin),
         "inline" => inline(texts[0], skin),
         "rows" => rows(texts[0], numbers[0], skin).map(|count| count.to_string()),
         "fit" => fit(texts[0], numbers[0], align_of(numbers[1]), skin),

@@ -1,29 +1,34 @@
 """Tries of ./page in tmux, each by a function. A try gets a window of 80 columns and 24 rows, in a folder with texts; it answers None, or a text
 that is shown beside its name."""
+from __future__ import annotations
+
 import os
 import random
 import shutil
 import signal
 import subprocess
 import time
+from collections.abc import Callable
+from pathlib import Path
 
 from windows import AT_REST, ENVIRONMENT, PAGE, PAGING, ROOT, Screen, Tmux, processes, until
 
-TRIES = []
+Try = Callable[[Tmux], "str | None"]
+TRIES: list[Try] = []
 
 
-def tried(f):
+def tried(f: Try) -> Try:
     TRIES.append(f)
     return f
 
 
-def same(a, b, what=""):
+def same(a: object, b: object, what: str = "") -> None:
     if a != b:
-        rows = "".join(f"\n      row {i}: {x!r} / {y!r}" for i, (x, y) in enumerate(zip(a, b)) if x != y) if isinstance(a, list) else ""
+        rows = "".join(f"\n      row {i}: {x!r} / {y!r}" for i, (x, y) in enumerate(zip(a, b)) if x != y) if isinstance(a, list) and isinstance(b, list) else ""
         raise AssertionError(what + (rows or f": {a!r} is not {b!r}"))
 
 
-def fresh(w, columns, rows, words="text.md", keys=""):
+def fresh(w: Tmux, columns: int, rows: int, words: str = "text.md", keys: str = "") -> list[str]:
     """The picture of a new run at that size."""
     other = Tmux(columns, rows, w.folder)
     other.run(f"{PAGE} {words}")
@@ -34,27 +39,27 @@ def fresh(w, columns, rows, words="text.md", keys=""):
     return shown
 
 
-def begin(w, words="text.md", before=""):
+def begin(w: Tmux, words: str = "text.md", before: str = "") -> None:
     w.run(f"{before}{PAGE} {words}")
     assert w.paging(), (words, w.shown(), w.flags())
 
 
-def end(w, status=0, what="", seconds=8.0):
+def end(w: Tmux, status: int = 0, what: str = "", seconds: float = 8.0) -> None:
     w.type("q")
     same(w.ended(seconds), status, what)
 
 
-def stop(w):
+def stop(w: Tmux) -> None:
     w.type("\x1a")
     assert w.stopped(), (w.shown(), w.flags(), w.children())
 
 
-def go_on(w):
+def go_on(w: Tmux) -> None:
     w.type("clear; fg\r")
     assert w.paging(), (w.shown(), w.flags(), w.children())
 
 
-def quit_stopped(w):
+def quit_stopped(w: Tmux) -> None:
     """Ends a run that was stopped before: the rest of its command line is lost, so only the modes are looked at."""
     w.type("q")
     assert w.at_rest(), w.flags()
@@ -62,7 +67,7 @@ def quit_stopped(w):
 
 
 @tried
-def resize_once(w):
+def resize_once(w: Tmux) -> None:
     begin(w)
     w.resize(50, 15)
     assert w.paging()
@@ -71,7 +76,7 @@ def resize_once(w):
 
 
 @tried
-def resize_with_keys(w):
+def resize_with_keys(w: Tmux) -> None:
     for seed in range(4):
         chance = random.Random(seed)
         begin(w)
@@ -87,7 +92,7 @@ def resize_with_keys(w):
 
 
 @tried
-def resize_of_a_long_text(w):
+def resize_of_a_long_text(w: Tmux) -> str:
     """As a mouse that drags the window's edge: 120 signals in two seconds, a text of 10 MB."""
     wanted = fresh(w, 61, 21, "long.md")
     begin(w, "long.md")
@@ -105,7 +110,7 @@ def resize_of_a_long_text(w):
 
 
 @tried
-def resize_of_which_none_is_lost(w):
+def resize_of_which_none_is_lost(w: Tmux) -> None:
     begin(w)
     for i in range(40):
         w.resize(80, 10 + i % 17)
@@ -115,7 +120,7 @@ def resize_of_which_none_is_lost(w):
 
 
 @tried
-def resize_in_search(w):
+def resize_in_search(w: Tmux) -> None:
     begin(w)
     w.type("/seven")
     assert until(lambda: "seven" in w.shown()[23])
@@ -127,7 +132,7 @@ def resize_in_search(w):
 
 
 @tried
-def resize_to_one_cell(w):
+def resize_to_one_cell(w: Tmux) -> None:
     begin(w)
     for size in ((3, 3), (1, 1), (200, 2), (2, 60)):
         w.resize(*size)
@@ -140,7 +145,7 @@ def resize_to_one_cell(w):
 
 
 @tried
-def resize_and_quit(w):
+def resize_and_quit(w: Tmux) -> None:
     """The answer to a question isn't typed at the shell."""
     for i in range(20):
         w.resize(80, 24)
@@ -157,7 +162,7 @@ def resize_and_quit(w):
 
 
 @tried
-def joined_emoji(w):
+def joined_emoji(w: Tmux) -> None:
     begin(w, "emoji.md")
     w.type("j" * 5)
     assert "%" in w.still()[23]
@@ -165,7 +170,7 @@ def joined_emoji(w):
 
 
 @tried
-def from_pipe(w):
+def from_pipe(w: Tmux) -> None:
     wanted = fresh(w, 80, 24, keys="j j")[:23]
     os.mkfifo(w.folder / "fifo")
     for line in (f"cat text.md | {PAGE}", f"cat text.md | {PAGE} -", f"{PAGE} <(cat text.md)", f"{PAGE} - <text.md", f"{PAGE} /dev/stdin <text.md",
@@ -177,13 +182,13 @@ def from_pipe(w):
         end(w, what=line)
 
 
-def reading(w):
+def reading(w: Tmux) -> bool:
     """Waits until the script says that it reads a text, which it does after a second."""
     return until(lambda: any("Control-C shows" in row for row in w.shown()))
 
 
 @tried
-def from_slow_pipe(w):
+def from_slow_pipe(w: Tmux) -> None:
     os.mkfifo(w.folder / "more")
     w.run(f"(echo '# begun'; cat more) | {PAGE}")
     assert reading(w), w.shown()
@@ -195,7 +200,7 @@ def from_slow_pipe(w):
 
 
 @tried
-def from_endless_pipe(w):
+def from_endless_pipe(w: Tmux) -> None:
     """Control-C also ends the command before the pipe, and the shell then drops the rest of its own line."""
     for line in (f"(echo '# begun'; sleep 1000) | {PAGE}", f"{PAGE} <(echo '# begun'; exec sleep 1000)"):
         w.type(f"clear; {line}\r")
@@ -214,7 +219,7 @@ def from_endless_pipe(w):
 
 
 @tried
-def from_pipe_cut_in_a_character(w):
+def from_pipe_cut_in_a_character(w: Tmux) -> None:
     for before in range(1012, 1025):
         w.run(f"(printf '%0{before}d' 7; printf 'aé€😀b\\n') | PAGE_MOST=1 {PAGE}")
         assert w.paging(), (before, w.shown())
@@ -223,7 +228,7 @@ def from_pipe_cut_in_a_character(w):
 
 
 @tried
-def from_empty_pipe(w):
+def from_empty_pipe(w: Tmux) -> None:
     for line in (f"true | {PAGE}", f"false | {PAGE} -", f"{PAGE} /dev/null", f"{PAGE} <(exit 3)"):
         w.run(line)
         assert w.paging(), (line, w.shown())
@@ -231,7 +236,7 @@ def from_empty_pipe(w):
 
 
 @tried
-def refusals(w):
+def refusals(w: Tmux) -> None:
     (w.folder / "latin.txt").write_bytes(b"caf\xe9\n")
     for words, status, said in (
         ("nothing.md", 2, "page: there is no file nothing.md"), ("text.md dark", 2, "page: there is no file dark"), (".", 2, "page: . is a folder"),
@@ -244,7 +249,7 @@ def refusals(w):
 
 
 @tried
-def several_files(w):
+def several_files(w: Tmux) -> None:
     (w.folder / "other.md").write_text("# The other\n\nIts text.\n")
     begin(w, "text.md other.md")
     assert "text.md (1 of 2)" in w.shown()[23], w.shown()
@@ -264,7 +269,7 @@ def several_files(w):
 
 
 @tried
-def several_pipes(w):
+def several_pipes(w: Tmux) -> None:
     """Each is read once, when it is first shown."""
     w.run(f"cat other.md | {PAGE} - <(cat text.md) - other.md")
     for keys, name, row in (("", "standard input (1 of 4)", "The other"), (":n", "(2 of 4)", "A text"), (":n", "standard input (3 of 4)", "The other"),
@@ -280,7 +285,7 @@ def several_pipes(w):
 
 
 @tried
-def files_that_fail(w):
+def files_that_fail(w: Tmux) -> None:
     """They are passed over, the way of the last key, and the last row names them. Where none can be shown, the last one is named at the end."""
     (w.folder / "latin.txt").write_bytes(b"caf\xe9\n")
     (w.folder / "gone.md").write_text("It is taken away before it is shown.\n")
@@ -305,13 +310,13 @@ def files_that_fail(w):
     same([row for row in w.shown() if "not UTF-8" in row][1:], [], "said once")
 
 
-def in_shell(w, line):
+def in_shell(w: Tmux, line: str) -> tuple[bytes, bytes]:
     ran = subprocess.run(["bash", "-c", line], cwd=w.folder, capture_output=True, env=ENVIRONMENT, stdin=subprocess.DEVNULL)
     return ran.stdout, ran.stderr
 
 
 @tried
-def broken_pipe(w):
+def broken_pipe(w: Tmux) -> None:
     for line in (f"{PAGE} long.md", f"{PAGE} --lines long.md", f"cat long.md | {PAGE}", f"{PAGE} <(cat long.md)", f"{PAGE} --skin dark long.md"):
         same(in_shell(w, f"{line} | head -1 >/dev/null; echo ${{PIPESTATUS[-2]}}"), (b"141\n", b""), line)
     out, err = in_shell(w, f"{PAGE} long.md >/dev/full; echo $?")
@@ -319,7 +324,7 @@ def broken_pipe(w):
 
 
 @tried
-def first_look(w):
+def first_look(w: Tmux) -> None:
     """Where no program is built, ./page asks ./termimad, which says what builds it."""
     clone = w.folder / "clone"
     (clone / "crates").mkdir(parents=True)
@@ -333,7 +338,7 @@ def first_look(w):
 
 
 @tried
-def no_styles(w):
+def no_styles(w: Tmux) -> None:
     same(b"\x1b" in in_shell(w, f"{PAGE} text.md")[0], False)
     same(b"\x1b" in in_shell(w, f"{PAGE} --skin default text.md")[0], True)
     same(in_shell(w, f"{PAGE} text.md")[0], in_shell(w, f"cat text.md | {PAGE}")[0])
@@ -345,7 +350,7 @@ def no_styles(w):
 
 
 @tried
-def stop_and_go_on(w):
+def stop_and_go_on(w: Tmux) -> None:
     begin(w)
     w.type("   ")
     shown = w.still()
@@ -365,7 +370,7 @@ def stop_and_go_on(w):
 
 
 @tried
-def stop_in_search(w):
+def stop_in_search(w: Tmux) -> None:
     begin(w)
     w.type("/seven")
     assert until(lambda: "seven" in w.shown()[23])
@@ -380,7 +385,7 @@ def stop_in_search(w):
 
 
 @tried
-def stop_and_resize(w):
+def stop_and_resize(w: Tmux) -> None:
     begin(w)
     stop(w)
     for size in ((40, 10), (100, 30), (55, 17)):
@@ -393,7 +398,7 @@ def stop_and_resize(w):
 
 
 @tried
-def stop_right_after_resize(w):
+def stop_right_after_resize(w: Tmux) -> None:
     for i in range(12):
         begin(w)
         w.resize(70 + i % 2, 20)
@@ -407,7 +412,7 @@ def stop_right_after_resize(w):
 
 
 @tried
-def stop_right_after_continuing(w):
+def stop_right_after_continuing(w: Tmux) -> None:
     """The shell's line that it is stopped may be lost then, so the processes are looked at."""
     begin(w)
     stop(w)
@@ -425,7 +430,7 @@ def stop_right_after_continuing(w):
 
 
 @tried
-def stop_twice_at_once(w):
+def stop_twice_at_once(w: Tmux) -> None:
     for i in range(8):
         begin(w)
         w.type("j\x1a\x1aj" if i % 2 else "\x1a\x1a\x1a")
@@ -441,12 +446,12 @@ def stop_twice_at_once(w):
         quit_stopped(w)
 
 
-def left_of_picture(w):
+def left_of_picture(w: Tmux) -> list[str]:
     return [row for row in w.still() if "aragraph" in row or "█" in row or "%" in row]
 
 
 @tried
-def stop_while_drawing(w):
+def stop_while_drawing(w: Tmux) -> None:
     """In a large window a picture is longer than the terminal's buffer, so the program is mostly stopped in the middle of one."""
     w.resize(300, 100)
     for _ in range(10):
@@ -463,7 +468,7 @@ def stop_while_drawing(w):
 
 
 @tried
-def keys_before_a_signal(w):
+def keys_before_a_signal(w: Tmux) -> None:
     """Keys that the program hasn't read before Control-Z or Control-C aren't typed at the shell."""
     for i in range(6):
         begin(w)
@@ -481,7 +486,7 @@ def keys_before_a_signal(w):
 
 
 @tried
-def stop_and_background(w):
+def stop_and_background(w: Tmux) -> None:
     begin(w)
     stop(w)
     w.type("clear; bg\r")
@@ -495,7 +500,7 @@ def stop_and_background(w):
 
 
 @tried
-def stop_by_signal(w):
+def stop_by_signal(w: Tmux) -> None:
     begin(w)
     os.kill(w.script(), signal.SIGTSTP)
     assert w.stopped()
@@ -505,7 +510,7 @@ def stop_by_signal(w):
 
 
 @tried
-def stop_in_pipe(w):
+def stop_in_pipe(w: Tmux) -> None:
     w.run(f"(cat text.md; exec sleep 0.1) | {PAGE}")
     assert w.paging()
     stop(w)
@@ -519,7 +524,7 @@ def stop_in_pipe(w):
 
 
 @tried
-def stop_below_another_program(w):
+def stop_below_another_program(w: Tmux) -> None:
     """A program starts the pager by a shell, as git does. The shell in the window may have the terminal before the script has put it back."""
     for _ in range(8):
         w.type("clear; stty -g >below1\r")
@@ -538,7 +543,7 @@ def stop_below_another_program(w):
 
 
 @tried
-def stop_alone_in_tmux(w):
+def stop_alone_in_tmux(w: Tmux) -> None:
     """tmux continues what stops."""
     alone = Tmux(80, 24, w.folder, f"{PAGE} {w.folder}/text.md")
     assert alone.paging()
@@ -554,7 +559,7 @@ def stop_alone_in_tmux(w):
 
 
 @tried
-def stop_alone_in_xterm(w):
+def stop_alone_in_xterm(w: Tmux) -> str | None:
     """Nobody could continue it there: Control-Z does nothing that lasts, and `q` ends it and the window."""
     if not all(shutil.which(name) for name in ("Xvfb", "xterm", "xdotool")):
         return "Xvfb, xterm or xdotool isn't there: not tried"
@@ -579,7 +584,7 @@ def stop_alone_in_xterm(w):
 
 
 @tried
-def signals_to_script(w):
+def signals_to_script(w: Tmux) -> None:
     for number, status in ((signal.SIGTERM, 143), (signal.SIGINT, 130), (signal.SIGHUP, 129)):
         begin(w)
         os.kill(w.script(), number)
@@ -591,7 +596,7 @@ def signals_to_script(w):
 
 
 @tried
-def signals_at_once(w):
+def signals_at_once(w: Tmux) -> None:
     """bash's `wait` forgets one of two signals that come at once. (The shell has the terminal by then: it saw the script stopped.)"""
     for number in (signal.SIGTERM, signal.SIGINT, signal.SIGHUP):
         begin(w)
@@ -606,7 +611,7 @@ def signals_at_once(w):
 
 
 @tried
-def signals_to_stopped_script(w):
+def signals_to_stopped_script(w: Tmux) -> None:
     for number in (signal.SIGTERM, signal.SIGHUP):
         begin(w)
         script = w.script()
@@ -619,7 +624,7 @@ def signals_to_stopped_script(w):
 
 
 @tried
-def signals_to_program(w):
+def signals_to_program(w: Tmux) -> None:
     for number in (signal.SIGTERM, signal.SIGKILL, signal.SIGSEGV):
         begin(w)
         os.kill(w.program(), number)
@@ -628,7 +633,7 @@ def signals_to_program(w):
 
 
 @tried
-def window_closes(w):
+def window_closes(w: Tmux) -> None:
     for how in ("running", "stopped", "reading"):
         other = Tmux(80, 24, w.folder)
         if how == "reading":
@@ -645,11 +650,11 @@ def window_closes(w):
 
 
 @tried
-def nothing_is_left(w):
+def nothing_is_left(w: Tmux) -> None:
     same([path.name for path in (w.folder / "tmp").iterdir()], [])
 
 
-def run_tries(folder, word):
+def run_tries(folder: Path, word: str) -> int:
     """Runs the tries whose names have the word. How many failed."""
     chance = random.Random(1)
     words = "one two three four five six seven eight nine ten eleven twelve".split()

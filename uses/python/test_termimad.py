@@ -106,11 +106,23 @@ class Texts(unittest.TestCase):
         self.assertEqual([row.strip() for row in shown], ["```", "# no heading"])
         self.assertEqual(termimad.code("a", "rust\n```\n# head").rows(40), termimad.code("a", "rust").rows(40))
 
+    def test_code_has_the_colors_of_its_language(self):
+        plain, colored = (termimad.code("let a = 1;", language).rows(40, "dark") for language in ("nothing", "rust"))
+        self.assertNotEqual(plain, colored)
+        self.assertEqual(termimad.code("let a = 1;", "main.rs").rows(40, "dark"), colored)
+        self.assertEqual(termimad.markdown("```rust\nlet a = 1;\n```", 40, "dark").split("\n")[:-1], colored)
+        with tempfile.TemporaryDirectory() as folder:
+            path = pathlib.Path(folder) / "main.rs"
+            path.write_text("let a = 1;")
+            self.assertEqual(termimad.code(path).rows(40, "dark"), colored)
+            self.assertEqual(termimad.code(path, "nothing").rows(40, "dark"), plain)
+
     def test_refusals_name_the_argument(self):
         refused = [
             (termimad.NotUtf8, "markdown is not", lambda: termimad.text(b"\xff", 20)),
             (termimad.NotUtf8, "source is not", lambda: termimad.Markdown(b"\xff").rows(20)),
             (termimad.NotUtf8, r"rows\[1\]\[0\] is not", lambda: termimad.table([["a"], [b"\xff"]], 20)),
+            (termimad.WrongNumber, "width=65536 is over 65535", lambda: termimad.code("a", "c").rows(65536)),
             (termimad.WrongSkin, "skin='nothing'", lambda: termimad.text("a", 20, "nothing")),
             (termimad.WrongNumber, "width=65536 is over 65535", lambda: termimad.text("a", 65536)),
             (termimad.WrongNumber, "width=-1 is under 0", lambda: termimad.text("a", -1)),

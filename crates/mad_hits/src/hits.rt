@@ -8,11 +8,11 @@ ghost use Rattle.mad_style.specs.StyledChars.{char_alone};
 ghost use Rattle.mad_hits.specs.Hits.{marked_at, marked_of, placed_cells, placed_row, placed_texts, span, widthless, Adds, AreHits, AreTextHits, AreTextsHits};
 
 use crate::matches::{letters_of, starts};
-use crate::places::{column_in_cell, column_in_row, inner_columns, table_column};
+use crate::places::{column_in_cell, column_in_row, table_column};
 use crate::styled::styled_text;
 use mad_characters::char_columns;
 use mad_format::{FmtComposite, FmtLine};
-use mad_rows::RowSkin;
+use mad_rows::{RowSkin, inner_columns};
 use mad_search::has_capital;
 use mad_style::StyledChar;
 use std::alloc::{AllocError, Global};

@@ -2,22 +2,26 @@
 
 ghost use Rattle.std.specs.Prelude.{◌≡◌, ◌+◌, ℕ, Some, None};
 ghost use Rattle.mad_wrap.specs.WrapLines.{capped};
-ghost use Rattle.mad_rows.specs.Rows.{inner_blanks, inner_columns, left_of_place, margins_of, outer_blanks, row_columns};
+ghost use Rattle.mad_rows.specs.Rows.{inner_blanks, left_of_place, margins_of, row_columns};
 ghost use Rattle.mad_format.specs.Indents.{indent};
 ghost use Rattle.mad_hits.specs.Hits.{text_column};
 
 use mad_format::{FmtComposite, indent_of};
 use mad_md::Alignment;
 use mad_measure::Spacing;
-use mad_rows::RowSkin;
+use mad_rows::{RowPlace, RowSkin, inner_blanks, margins_of, outer_blanks, row_columns};
 
 /// The column in which the text of a line begins in a row of `width` columns, after its blanks and its prefix.
 pub(crate) fn column_in_row(skin: &RowSkin, composite: &FmtComposite, width: usize) -> usize
     ensures { result ≡ capped (text_column skin.now (Some width) (margins_of skin.now (Some width) composite.now) composite.now) }
 {
-    let margins = margins_of(skin, composite, width);
+    let place = RowPlace {
+        outer: Some(width),
+        margins: margins_of(skin, composite, Some(width)),
+        filled: false,
+    };
     let align = skin.line_style(composite.kind).align;
-    let (outer, _) = outer_blanks(composite, align, Some(width), margins);
+    let (outer, _) = outer_blanks(composite, align, place);
     outer.saturating_add(column_in_place(skin, composite))
 }
 
@@ -25,8 +29,13 @@ pub(crate) fn column_in_row(skin: &RowSkin, composite: &FmtComposite, width: usi
 pub(crate) fn column_in_cell(skin: &RowSkin, cell: &FmtComposite) -> usize
     ensures { result ≡ capped (text_column skin.now None (0, 0) cell.now) }
 {
+    let place = RowPlace {
+        outer: None,
+        margins: (0, 0),
+        filled: false,
+    };
     let align = skin.line_style(cell.kind).align;
-    let (outer, _) = outer_blanks(cell, align, None, (0, 0));
+    let (outer, _) = outer_blanks(cell, align, place);
     outer.saturating_add(column_in_place(skin, cell))
 }
 
@@ -35,16 +44,6 @@ pub(crate) fn table_column(skin: &RowSkin, cells: &[FmtComposite], width: usize)
     ensures { result ≡ left_of_place skin.now.table.align (row_columns cells.now) (Some width) }
 {
     left_blank(skin.table.align, row_columns(cells), Some(width))
-}
-
-/// The columns of a composite: those of its own place, or where it has none those of its text.
-pub(crate) fn inner_columns(composite: &FmtComposite) -> usize
-    ensures { result ≡ inner_columns composite.now }
-{
-    match &composite.spacing {
-        Some(spacing) => spacing.width,
-        None => composite.visible_length,
-    }
 }
 
 // The columns before the text of a composite in its own place: blanks, and its prefix.
@@ -56,58 +55,10 @@ fn column_in_place(skin: &RowSkin, composite: &FmtComposite) -> usize
     blanks.saturating_add(prefix)
 }
 
-// The blank columns left and right of a composite in its own place.
-fn inner_blanks(composite: &FmtComposite) -> (usize, usize)
-    ensures { result ≡ inner_blanks composite.now }
-{
-    composite.completions()
-}
-
-// The blank columns left and right of a composite's own place, with its margins.
-fn outer_blanks(
-    composite: &FmtComposite,
-    align: Alignment,
-    outer: Option<usize>,
-    margins: (usize, usize),
-) -> (usize, usize)
-    ensures { result ≡ outer_blanks align outer margins composite.now }
-{
-    let inner = inner_columns(composite);
-    let (left_margin, right_margin) = margins;
-    let columns = inner
-        .saturating_add(left_margin)
-        .saturating_add(right_margin);
-    let (left, right) = Spacing::optional_completions(align, columns, outer);
-    (left + left_margin, right + right_margin)
-}
-
 // The blank columns left of so many in a place, if there is one.
 fn left_blank(align: Alignment, columns: usize, place: Option<usize>) -> usize
     ensures { (n : ℕ) → columns ≡ capped n → result ≡ left_of_place align n place }
 {
     let (left, _) = Spacing::optional_completions(align, columns, place);
     left
-}
-
-// The margins of a composite: those of its layout, or where it has none those of its style.
-fn margins_of(skin: &RowSkin, composite: &FmtComposite, width: usize) -> (usize, usize)
-    ensures { result ≡ margins_of skin.now (Some width) composite.now }
-{
-    match composite.margins {
-        Some(margins) => margins,
-        None => skin.line_style(composite.kind).margins_in(Some(width)),
-    }
-}
-
-// The columns of a row of cells: each has a border before it, and one more is the last.
-fn row_columns(cells: &[FmtComposite]) -> usize
-    ensures { result ≡ capped (row_columns cells.now) }
-{
-    let mut columns: usize = 0;
-    for cell in cells {
-        columns = columns
-            .saturating_add(inner_columns(cell))
-            .saturating_add(1);
-    }
-    columns.saturating_add(1)
 }

@@ -23,7 +23,7 @@ use Rattle.mad_layout.specs.UnmarkedRows.{HandsOnUnmarked}
 use Rattle.mad_layout.specs.WrittenParts.{TakesRead, TakesReadOrNone, TakenPart, TakesPart, WritesPartsOf}
 use Rattle.mad_layout.proofs.UnmarkedLineLemmas.{written_unmarked, written_unmarked_refused}
 use Rattle.mad_layout.proofs.WrittenLemmas.{WrittenSoFar}
-use Rattle.mad_rows.specs.ReadRows.{PutsReadOrNone}
+use Rattle.mad_read_rows.specs.ReadRows.{PutsReadOrNone}
 use Rattle.mad_rows.specs.Rows.{line_bytes, text_bytes}
 use Rattle.mad_rows.specs.RowStyles.{line_rules}
 use Rattle.mad_rows.specs.declared.row_skin.RowSkin.{RowSkin}

@@ -18,7 +18,8 @@ use crate::skin::MadSkin;
 use mad_blocks::{PartCursor, TableCursor, push_read_at, wrap_width};
 use mad_format::FmtLine;
 use mad_md::Composite;
-use mad_rows::{RowSkin, StyleCommands, append_line, append_lines, append_read, is_aligned_left};
+use mad_read_rows::{append_read, is_aligned_left};
+use mad_rows::{RowSkin, StyleCommands, append_line, append_lines};
 use mad_term::{Error, Out, put_all};
 use std::alloc::{AllocError, Global};
 

@@ -1,5 +1,5 @@
 -- What a session shows: a text, the addresses of links, or the headers of a text, and the lines of each.
-use Rattle.std.specs.Prelude.{ℕ, ◌+◌, ◌*◌, ◌-◌, ◌^◌, ◌==◌, ◌&&◌, nat_le, nat_lt, min, Bool, true, false, List, [], ◌∷◌, ◌++◌, length, count_by, Option, Some, None, if◌then◌else◌, codes}
+use Rattle.std.specs.Prelude.{ℕ, ◌+◌, ◌*◌, ◌-◌, ◌^◌, ◌==◌, ◌&&◌, nat_le, nat_lt, min, Bool, true, false, List, [], ◌∷◌, ◌++◌, map, length, count_by, Option, Some, None, if◌then◌else◌, codes}
 use Rattle.mad_md.specs.Flagged.{Run}
 use Rattle.mad_md.specs.Lines.{LineContent, normal}
 use Rattle.mad_md.specs.ReadRaw.{raw_runs}
@@ -74,10 +74,18 @@ header_of l = None
 abbrev pub item_style : Bool → ℕ → CompositeStyle
 item_style chosen level = if chosen then ListItem (min (2 * (level - 1)) 255) else ListItemFollowUp (min (2 * (level - 1)) 255)
 
+-- a part of a text, bold
+abbrev pub bold_run : Run → Run
+bold_run run = record run { flags = record run.flags { bold = true } }
+
+-- the text of the header that is chosen is bold
+abbrev pub item_runs : Bool → List Run → List Run
+item_runs chosen runs = if chosen then map bold_run runs else runs
+
 -- a header as an item, if there is one
 abbrev pub header_item : Bool → Option Headed → List LineContent
 header_item chosen None = []
-header_item chosen (Some h) = normal (record { style = item_style chosen h.level; runs = h.runs }) ∷ []
+header_item chosen (Some h) = normal (record { style = item_style chosen h.level; runs = item_runs chosen h.runs }) ∷ []
 
 -- what the first of lines says as a header, if it is one
 abbrev pub first_header : List LineContent → Option Headed

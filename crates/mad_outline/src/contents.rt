@@ -1,13 +1,14 @@
 //! The headers of a text.
 
 ghost use Rattle.std.specs.Prelude.{◌≡◌, ◌++◌, ◌==◌, length, IfOk, OnOk, map};
+ghost use Rattle.mad_md.specs.Flagged.{run_of};
 ghost use Rattle.mad_md.specs.Lines.{content_of, contents, normal, styled_runs};
-ghost use Rattle.mad_outline.specs.Sources.{header_item, header_of, header_said, headers_listed, item_style, items_by};
+ghost use Rattle.mad_outline.specs.Sources.{bold_run, header_item, header_of, header_said, headers_listed, item_runs, item_style, items_by};
 ghost use Rattle.mad_search.specs.PagedTexts.{paged_sections};
 ghost use Rattle.mad_sections.specs.Sections.{page_content, section_content};
 
 use crate::sources::raw_line;
-use mad_md::{Composite, CompositeStyle, Line, Text};
+use mad_md::{Composite, CompositeStyle, Compound, Line, Text};
 use mad_search::PagedText;
 use mad_sections::{Page, Section};
 use std::alloc::{AllocError, Global};
@@ -51,13 +52,14 @@ fn header_items<'s>(
     let mut lines = Vec::new(alloc);
     let left = page.sections.into_iter();
     for section in left {
-        push_header(&mut lines, section, chosen)?;
+        push_header(alloc, &mut lines, section, chosen)?;
     }
     Ok(lines)
 }
 
 // Puts the first line of a section after others as an item, if it is a header.
 fn push_header<'s>(
+    alloc: Global,
     lines: &mut Vec<Line<'s>>,
     section: Section<'s>,
     chosen: usize,
@@ -66,13 +68,14 @@ fn push_header<'s>(
 {
     let mut left = section.text.lines.into_iter();
     match left.next() {
-        Some(Line::Normal(composite)) => push_heading(lines, composite, chosen),
+        Some(Line::Normal(composite)) => push_heading(alloc, lines, composite, chosen),
         _ => Ok(()),
     }
 }
 
 // Puts a composite after others as an item, if it is a header.
 fn push_heading<'s>(
+    alloc: Global,
     lines: &mut Vec<Line<'s>>,
     composite: Composite<'s>,
     chosen: usize,
@@ -82,13 +85,46 @@ fn push_heading<'s>(
     match composite.style {
         CompositeStyle::Header(level) => {
             let style = item_style(lines.len() == chosen, level);
-            lines.push(Line::Normal(Composite {
-                style,
-                compounds: composite.compounds,
-            }))?;
+            let compounds = item_compounds(alloc, lines.len() == chosen, composite.compounds)?;
+            lines.push(Line::Normal(Composite { style, compounds }))?;
             Ok(())
         }
         _ => Ok(()),
+    }
+}
+
+// The parts of the text of a header as an item: bold, where it is chosen.
+fn item_compounds<'s>(
+    alloc: Global,
+    is_chosen: bool,
+    compounds: Vec<Compound<'s>>,
+) -> Result<Vec<Compound<'s>>, AllocError>
+    ensures { IfOk result (λ shown. map run_of shown.items ≡ item_runs is_chosen (map run_of compounds.entry.items)) }
+{
+    if is_chosen {
+        return bold_each(alloc, compounds.as_slice());
+    }
+    Ok(compounds)
+}
+
+// These parts of a text, each bold.
+fn bold_each<'s>(alloc: Global, compounds: &[Compound<'s>]) -> Result<Vec<Compound<'s>>, AllocError>
+    ensures { IfOk result (λ bold. map run_of bold.items ≡ map bold_run (map run_of compounds.now)) }
+{
+    let mut bold = Vec::new(alloc);
+    for compound in compounds {
+        bold.push(bolder(*compound))?;
+    }
+    Ok(bold)
+}
+
+// A part of a text, bold.
+fn bolder(compound: Compound) -> Compound
+    ensures { run_of result ≡ bold_run (run_of compound.entry) }
+{
+    Compound {
+        bold: true,
+        ..compound
     }
 }
 

@@ -12,5 +12,6 @@ mod sources;
 
 pub use contents::{CONTENTS_NAME, NO_HEADERS};
 pub use links::{LINKS_NAME, NEVER_LINKS, NO_LINKS};
-pub use numbers::{count_below, header_numbers, section_at, start_at};
+pub use mad_search::{section_at, start_at};
+pub use numbers::{count_below, header_numbers};
 pub use sources::Source;

@@ -1,9 +1,8 @@
-//! The numbers of sections: of those that are headers, and of the one that has a row.
+//! The numbers of the sections that are headers.
 
-ghost use Rattle.std.specs.Prelude.{◌≡◌, ◌++◌, ◌+◌, ◌∷◌, [], if◌then◌else◌, slice_index, IfOk, OnOk, map};
+ghost use Rattle.std.specs.Prelude.{◌≡◌, ◌++◌, ◌+◌, ◌∷◌, [], if◌then◌else◌, IfOk, OnOk, map};
 ghost use Rattle.mad_md.specs.Lines.{content_of, contents};
 ghost use Rattle.mad_outline.specs.Sources.{count_below, header_numbers, header_of, is_headed, section_header};
-ghost use Rattle.mad_search.specs.KeptRows.{part_of};
 ghost use Rattle.mad_search.specs.PagedTexts.{paged_sections};
 ghost use Rattle.mad_sections.specs.Sections.{section_content};
 
@@ -71,19 +70,4 @@ pub fn count_below(numbers: &[usize], number: usize) -> usize
     ensures { result ≡ count_below numbers.now number }
 {
     numbers.iter().filter(|n| **n < number).count()
-}
-
-/// The number of the section that has a row, where sections begin in these rows; past the last one that of the last.
-pub fn section_at(starts: &[usize], row: usize) -> usize
-    ensures { result ≡ part_of starts.now row }
-{
-    let begun = starts.iter().filter(|start| **start <= row).count();
-    begun.min(starts.len().saturating_sub(1)).saturating_sub(1)
-}
-
-/// The row in which a section begins; 0, where there is no such section.
-pub fn start_at(starts: &[usize], section: usize) -> usize
-    ensures { result ≡ slice_index starts.now section }
-{
-    starts.get(section).copied().unwrap_or(0)
 }

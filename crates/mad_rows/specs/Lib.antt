@@ -1,4 +1,2 @@
-pub mod ReadRows
 pub mod Rows
 pub mod RowStyles
-pub mod WordRows

@@ -16,8 +16,10 @@ use std::fmt::{self, Display};
 
 /// What is in front of a line's text.
 #[derive(Clone, Copy)]
-pub(crate) struct Prefix<'a> {
+pub struct Prefix<'a> {
+    /// The skin of the row.
     pub skin: &'a RowSkin,
+    /// What the line is.
     pub kind: CompositeKind,
 }
 
@@ -84,7 +86,7 @@ pub struct CompositeFront<'a> {
 
 impl CompositeFront<'_> {
     /// The columns of its blanks.
-    pub(crate) fn columns(&self) -> usize
+    pub fn columns(&self) -> usize
         ensures { result ≡ capped (self.now.outer + self.now.inner) }
     {
         self.outer.saturating_add(self.inner)
@@ -154,9 +156,12 @@ impl fmt::Display for CompositeEnd<'_> {
 
 /// A compound in a line of that style.
 #[derive(Clone, Copy)]
-pub(crate) struct PlacedCompound<'a, 's> {
+pub struct PlacedCompound<'a, 's> {
+    /// The skin of the row.
     pub skin: &'a RowSkin,
+    /// The style of its line.
     pub style: &'a LineStyle,
+    /// The compound.
     pub compound: &'a Compound<'s>,
 }
 

@@ -7,13 +7,11 @@
 //! 3. [`composites`], [`tables`], [`lines`]: a composite, a line of a table, and any line or row as displayed values.
 //! 4. [`style_commands`]: the commands of a style, made once.
 //! 5. [`row_writing`]: lines and rows put after a string.
-//! 6. [`read_rows`]: rows of composites that were read, without a layout in between.
 #![tactic(auto)]
 
 pub mod composites;
 pub mod lines;
 pub mod page_styles;
-pub mod read_rows;
 pub mod row_skin;
 pub mod row_writing;
 pub mod rows;
@@ -23,7 +21,6 @@ pub mod tables;
 pub use composites::{CompositeEnd, CompositeFront, FreeComposite, PlacedComposite};
 pub use lines::{PlacedLine, PlacedLines, PlacedRow};
 pub use page_styles::PageStyles;
-pub use read_rows::{append_read, is_aligned_left};
 pub use row_skin::{
     FlagStyles, HeaderStyles, OrderedItemStyles, RowSkin, ToneStyles, item_style_at, sets_nothing,
     style_of_compound, style_of_kind,

@@ -244,14 +244,14 @@ pub fn sets_nothing(style: &CompoundStyle) -> bool
 }
 
 /// Whether a text is an ellipsis.
-pub(crate) fn is_ellipsis(text: &str) -> bool
+pub fn is_ellipsis(text: &str) -> bool
     ensures { result ≡ bytes_eq text.now ellipsis_bytes }
 {
     text == ELLIPSIS
 }
 
 /// Whether a compound looks as its line does: it has no flag, and isn't an ellipsis.
-pub(crate) fn is_bare(compound: &Compound) -> bool
+pub fn is_bare(compound: &Compound) -> bool
     ensures { IsTrue result → (skin : RowSkin) (line : LineStyle) → compound_style skin line (run_of compound.now) ≡ line.compound_style }
 {
     let flagged = compound.bold

@@ -85,8 +85,12 @@ fn append_composite(
     write!(rows, "{end}")
 }
 
-// The compounds of a line of that style.
-pub(crate) fn append_compounds(
+/// Puts the compounds of a line of that style after the rows that are there.
+///
+/// # Errors
+///
+/// Out of memory.
+pub fn append_compounds(
     rows: &mut String,
     compounds: &[Compound],
     style: &LineStyle,

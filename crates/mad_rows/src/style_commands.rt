@@ -71,7 +71,11 @@ impl StyleCommands {
 }
 
 /// Puts a text between commands after the rows that are there.
-pub(crate) fn append_three(
+///
+/// # Errors
+///
+/// Out of memory.
+pub fn append_three(
     rows: &mut String,
     opening: &str,
     text: &str,

@@ -8,7 +8,7 @@ ghost use Rattle.mad_search.specs.KeptRows.{part_of, row_in_parts};
 pub fn row_in_parts(old: &[usize], new: &[usize], row: usize) -> usize
     ensures { result ≡ row_in_parts old.now new.now row }
 {
-    let part = part_of(old, row);
+    let part = section_at(old, row);
     let start = start_at(new, part);
     let end = start_at(new, part.saturating_add(1));
     start
@@ -16,15 +16,15 @@ pub fn row_in_parts(old: &[usize], new: &[usize], row: usize) -> usize
         .min(end.saturating_sub(1).max(start))
 }
 
-// The row in which the part of an index begins; 0, where there is no such part.
-fn start_at(starts: &[usize], part: usize) -> usize
-    ensures { result ≡ slice_index starts.now part }
+/// The row in which a section begins; 0, where there is no such section.
+pub fn start_at(starts: &[usize], section: usize) -> usize
+    ensures { result ≡ slice_index starts.now section }
 {
-    starts.get(part).copied().unwrap_or(0)
+    starts.get(section).copied().unwrap_or(0)
 }
 
-// The index of the part that has a row, where parts begin in these rows; past the last one that of the last.
-fn part_of(starts: &[usize], row: usize) -> usize
+/// The number of the section that has a row, where sections begin in these rows; past the last one that of the last.
+pub fn section_at(starts: &[usize], row: usize) -> usize
     ensures { result ≡ part_of starts.now row }
 {
     let begun = starts.iter().filter(|start| **start <= row).count();

@@ -3,7 +3,7 @@
 //! 1. [`paged`], [`plain`]: the sections of the text; [`dressed_pages`]: each with what is put into its page with it.
 //! 2. [`letters`], [`breaks`], [`search`]: which row has what is sought.
 //! 3. [`headers`]: which rows begin a header.
-//! 4. [`kept`]: which row stays on top where the width changes.
+//! 4. [`kept`]: which section has a row, and which row stays on top where the width changes.
 #![tactic(auto)]
 
 mod breaks;
@@ -18,7 +18,7 @@ mod search;
 pub use breaks::{rows_after, rows_up_to};
 pub use dressed_pages::dress_each;
 pub use headers::{next_header, previous_header};
-pub use kept::row_in_parts;
+pub use kept::{row_in_parts, section_at, start_at};
 pub use letters::{has_capital, small};
 pub use paged::PagedText;
 pub use plain::plain_page;

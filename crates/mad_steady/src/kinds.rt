@@ -56,7 +56,7 @@ pub fn kind_of(c: char) -> Kind
 }
 
 // Most texts are of these: they need none of the other tests.
-fn ascii_kind(c: char) -> Kind
+pub(crate) fn ascii_kind(c: char) -> Kind
     ensures { result ≡ ascii_kind c }
 {
     match c {

@@ -1,16 +1,17 @@
 //! Texts whose columns every terminal counts alike.
 
-ghost use Rattle.std.specs.Prelude.{◌≡◌, ◌↔◌, ◌++◌, ℕ, Bool, false, true, chars, string_bytes, encode_utf8_all, IfOk, OnOk, OnErr, IsTrue};
+ghost use Rattle.std.specs.Prelude.{◌≡◌, ◌↔◌, ◌++◌, ℕ, Bool, false, true, chars, string_bytes, encode_utf8, encode_utf8_all, length, ◌<◌, ◌≤◌, IfOk, OnOk, OnErr, IsTrue, IsUtf8, MatchOption};
 ghost use Rattle.std.specs.Cow.{cow_str_bytes, IsOwnedStr};
-ghost use Rattle.mad_steady.specs.Kinds.{kind};
-ghost use Rattle.mad_steady.specs.Steady.{held, sign, alone, joined, written, steady_from, steady_text, steady_growing, place_behind, are_steady};
+ghost use Rattle.mad_steady.specs.Kinds.{kind, ascii_kind};
+ghost use Rattle.mad_steady.specs.Plain.{ArePlain};
+ghost use Rattle.mad_steady.specs.Steady.{held, sign, alone, joined, written, behind, steady_from, steady_text, steady_growing, place_behind, are_steady_from, are_steady};
 ghost use Rattle.mad_steady.specs.Widths.{are_borne, PiecesAreJoined};
 ghost use Rattle.std.specs.List.{list_all};
 ghost use Rattle.mad_characters.specs.Pictures.{is_printable_char};
 ghost use Rattle.mad_steady.specs.Kept.{PassesWhatIsMade};
 
-use crate::kinds::{Kind, kind_of};
-use crate::places::{Place, letter, with_tail};
+use crate::kinds::{Kind, ascii_kind, kind_of};
+use crate::places::{Place, behind, letter, with_tail};
 use std::alloc::{AllocError, Global};
 use std::borrow::CowStr;
 
@@ -48,16 +49,92 @@ pub fn is_steady(text: &str) -> bool
     ensures width { IsTrue result → are_borne false (chars text.now) ≡ true }
     ensures each { result ≡ are_steady (chars text.now) }
 {
-    let mut place = Place::Opened;
-    let mut rest = text.chars();
-    while let Some(c) = rest.next() {
+    let (mut place, mut rest) = past_plain(Place::Opened, text);
+    while let Some((c, next)) = first_char(rest) {
         let kind = kind_of(c);
         if !place.keeps(kind) {
             return false;
         }
-        place = place.next(kind, c);
+        let (after, left) = past_plain(place.next(kind, c), next);
+        place = after;
+        rest = left;
     }
     place.may_end()
+}
+
+// The first character of a text, and the others.
+fn first_char(text: &str) -> Option<(char, &str)>
+    ensures { MatchOption result (length text.entry.now ≡ 0) (λ parts. IsUtf8 parts.1.now × (text.entry.now ≡ encode_utf8 parts.0 ++ parts.1.now)) }
+{
+    let mut chars = text.chars();
+    let c = chars.next()?;
+    Some((c, chars.as_str()))
+}
+
+// Whether it is a space or a graphic ASCII character.
+fn is_plain(byte: u8) -> bool
+    ensures { IsTrue result → (31 < byte) × (byte < 127) }
+{
+    (b' '..0x7f).contains(&byte)
+}
+
+// How many of these are in front.
+fn plain_len(bytes: &[u8]) -> usize
+    ensures plain { ArePlain bytes.now result }
+    ensures inside { result ≤ length bytes.now }
+{
+    let mut at = 0;
+    while at < bytes.len() && is_plain(bytes[at]) {
+        at += 1;
+    }
+    at
+}
+
+// The place behind such a character, whatever is before it.
+fn behind_plain(byte: u8) -> Place
+    ensures { result ≡ behind (ascii_kind byte) byte }
+{
+    let c = char::from(byte);
+    behind(ascii_kind(c), c)
+}
+
+// Goes past those in front, which stay but behind half of a flag: the place behind them, and what is left.
+fn past_plain(place: Place, text: &str) -> (Place, &str)
+    ensures utf8 { IsUtf8 result.1.now }
+    ensures steady { are_steady_from result.0 (chars result.1.now) ≡ are_steady_from place (chars text.entry.now) }
+    ensures fewer { length result.1.now ≤ length text.entry.now }
+{
+    let bytes = text.as_bytes();
+    let len = plain_len(bytes);
+    if len == 0 || !place.may_end() {
+        return (place, text);
+    }
+    let after = behind_plain(bytes[len - 1]);
+    let (_, rest) = text.split_at(len);
+    (after, rest)
+}
+
+// Writes what is held and those in front, if there are any: the place behind them, and what is left.
+fn push_plain<'t>(
+    shown: &mut String,
+    place: Place,
+    text: &'t str,
+) -> Result<(Place, &'t str), AllocError>
+    ensures utf8 { IfOk result (λ parts. IsUtf8 parts.1.now) }
+    ensures text { IfOk result (λ parts. string_bytes shown.new ++ encode_utf8_all (steady_growing parts.0 (chars parts.1.now)) ≡ string_bytes shown.old ++ encode_utf8_all (steady_growing place (chars text.entry.now))) }
+    ensures behind { IfOk result (λ parts. place_behind parts.0 (chars parts.1.now) ≡ place_behind place (chars text.entry.now)) }
+    ensures fewer { IfOk result (λ parts. length parts.1.now ≤ length text.entry.now) }
+{
+    let bytes = text.as_bytes();
+    let len = plain_len(bytes);
+    if len == 0 {
+        return Ok((place, text));
+    }
+    push_held(shown, place)?;
+    let after = behind_plain(bytes[len - 1]);
+    let (front, rest) = text.split_at(len);
+    shown.push_str(front)?;
+    Ok((after, rest))
 }
 
 // Writes the steady text.
@@ -81,12 +158,13 @@ pub fn push_steady_piece(shown: &mut String, place: Place, piece: &str) -> Resul
     ensures text { OnOk result (string_bytes shown.new ≡ string_bytes shown.old ++ encode_utf8_all (steady_growing place (chars piece.now))) }
     ensures place { IfOk result (λ next. next ≡ place_behind place (chars piece.now)) }
 {
-    let mut place = place;
-    let mut rest = piece.chars();
-    while let Some(c) = rest.next() {
+    let (mut place, mut rest) = push_plain(shown, place, piece)?;
+    while let Some((c, next)) = first_char(rest) {
         let kind = kind_of(c);
         push_written(shown, place, kind, c)?;
-        place = place.next(kind, c);
+        let (after, left) = push_plain(shown, place.next(kind, c), next)?;
+        place = after;
+        rest = left;
     }
     Ok(place)
 }

@@ -25,7 +25,7 @@ pub(crate) fn place_words<'s>(
     ensures { IfOk result (λ lines. (ts : List Token) × AreTokensIn room compounds.now ts × AreWordLines room ts lines.items) }
 {
     let limit = room.token_limit();
-    let mut lines = WordLines::new(alloc, room);
+    let mut lines = WordLines::new(alloc, room)?;
     // The tokens of a word that may go on, and their columns.
     let mut word = Vec::new(alloc);
     let mut width = 0;
@@ -58,6 +58,11 @@ fn may_go_on(word: &[Token], token: Token) -> bool
     !word.is_empty() || token.end_in_compound == token.compound.src.len()
 }
 
+// How many tokens lines mostly have: one in three columns. In a wide room they get more memory as they grow.
+fn usual_tokens(room: Room) -> usize {
+    room.width.min(120) / 3
+}
+
 /// Lines as pieces are put on them.
 #[derive(Drop)]
 pub(crate) struct WordLines<'s> {
@@ -74,14 +79,15 @@ impl<'s> WordLines<'s> {
     ghost use Rattle.mad_wrap.specs.Words.{alone, together};
 
     // A first line without text.
-    fn new(alloc: Global, room: Room) -> Self
-        ensures { IsAtFirst room result }
+    fn new(alloc: Global, room: Room) -> Result<Self, AllocError>
+        ensures { IfOk result (λ lines. IsAtFirst room lines) }
     {
-        WordLines {
+        let line = WrappedLine::with_capacity(alloc, usual_tokens(room))?;
+        Ok(WordLines {
             lines: Vec::new(alloc),
-            line: WrappedLine::new(alloc),
+            line,
             fit: FirstFit::new(room),
-        }
+        })
     }
 
     // Puts a token alone.

@@ -29,10 +29,10 @@ unfolding
     Rattle.markdown_blocks.specs.Steps.step Rattle.markdown_leaves.specs.Defining.joined Rattle.markdown_leaves.specs.Defining.after_definitions
     Rattle.markdown_leaves.specs.Defining.kept_lines Rattle.markdown_leaves.specs.Gather.filled_from Rattle.markdown_leaves.specs.Gather.closed
     Rattle.markdown_leaves.specs.Gather.line_done Rattle.markdown_leaves.specs.Told.told Rattle.markdown_leaves.specs.Told.parts_of
-    Rattle.markdown_lines.specs.Tables.cell_len Rattle.markdown_lines.specs.Tables.unbarred Rattle.markdown_lines.specs.Tables.cells
-    Rattle.markdown_lines.specs.Tables.alignments Rattle.markdown_lines.specs.Tables.table_lines Rattle.markdown_lines.specs.Tables.cells_addresses
-    Rattle.markdown_lines.specs.Tables.rows_links Rattle.markdown_reader.specs.Definitions.defined_in
-    Rattle.markdown_reader.specs.Definitions.parts_defined Rattle.markdown_as_html.specs.Blocks.still_to_come
+    Rattle.markdown_cells.specs.Cells.cell_len Rattle.markdown_cells.specs.Cells.unbarred Rattle.markdown_cells.specs.Cells.alignments
+    Rattle.markdown_lines.specs.Tables.cells Rattle.markdown_lines.specs.Tables.table_lines Rattle.markdown_lines.specs.Tables.cells_addresses
+    Rattle.markdown_lines.specs.Tables.rows_links Rattle.markdown_definitions.specs.Definitions.defined_in
+    Rattle.markdown_definitions.specs.Definitions.parts_defined Rattle.markdown_as_html.specs.Blocks.still_to_come
     Rattle.markdown_as_html.specs.Defined.defined_in Rattle.markdown_as_html.specs.Defined.parts_defined Rattle.markdown_as_html.specs.Escaped.escaped
     Rattle.markdown_as_html.specs.Escaped.addressed Rattle.markdown_as_html.specs.Html.cells_html Rattle.markdown_as_html.specs.Html.blocks_html
     Rattle.markdown_as_html.specs.Html.html_of Rattle.markdown_as_html.specs.Inlines.spans_from Rattle.markdown_as_html.specs.Inlines.pieces_html

@@ -10,7 +10,7 @@ use Rattle.markdown_leaves.specs.Parts.{PartContent, begins, ends, block}
 use Rattle.markdown_leaves.specs.declared.parts.Kind.{Kind}
 use Rattle.markdown_leaves.specs.declared.parts.Kind.TheVariants.{Nothing, Paragraph, Heading, Indented, Fenced, Html, Table, Rule, Definitions}
 use Rattle.markdown_lines.specs.Links.{Defined as Read}
-use Rattle.markdown_reader.specs.Definitions.{label_of, with_definition as with_read, defined_or as read_or, defined_in as read_in, leaf_defined as leaf_read, part_defined as part_read, parts_defined as parts_read, nothing_defined}
+use Rattle.markdown_definitions.specs.Definitions.{label_of, with_definition as with_read, defined_or as read_or, defined_in as read_in, leaf_defined as leaf_read, part_defined as part_read, parts_defined as parts_read, nothing_defined}
 use Rattle.markdown_as_html.specs.Defined.{Defined, with_definition, defined_or, defined_in, leaf_defined, part_defined, parts_defined}
 use Rattle.markdown_as_html.specs.Laws.{LabelsAreThose}
 

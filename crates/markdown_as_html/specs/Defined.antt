@@ -10,7 +10,7 @@ use Rattle.markdown_leaves.specs.Parts.{PartContent, block}
 use Rattle.markdown_leaves.specs.declared.parts.Kind.{Kind}
 use Rattle.markdown_leaves.specs.declared.parts.Kind.TheVariants.{Definitions}
 use Rattle.markdown_destinations.specs.Destinations.{Leads, defined_leads}
-use Rattle.markdown_reader.specs.Definitions.{label_of}
+use Rattle.markdown_definitions.specs.Definitions.{label_of}
 
 -- labels as they are compared, and where each leads
 pub record Defined : Type 0 where

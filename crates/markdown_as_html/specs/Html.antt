@@ -11,7 +11,8 @@ use Rattle.markdown_leaves.specs.declared.parts.Kind.{Kind}
 use Rattle.markdown_leaves.specs.declared.parts.Kind.TheVariants.{Nothing, Paragraph, Heading, Indented, Fenced, Html, Table, Rule, Definitions}
 use Rattle.mad_md.specs.declared.alignment.Alignment.{Alignment}
 use Rattle.mad_md.specs.declared.alignment.Alignment.TheVariants.{Unspecified, Left, Center, Right}
-use Rattle.markdown_lines.specs.Tables.{row_of, cell_text, after_cell, alignments}
+use Rattle.markdown_cells.specs.Cells.{cell_text, after_cell, alignments}
+use Rattle.markdown_marks.specs.Tables.{row_of}
 use Rattle.markdown_reader.specs.Mapping.{text_of}
 use Rattle.markdown_as_html.specs.Blocks.{Blocks, no_more, leaf, holds, tree_of}
 use Rattle.markdown_as_html.specs.Defined.{Defined, definitions_of}

@@ -1,7 +1,7 @@
 -- What is read for html is what the reader reads.
 use Rattle.std.specs.Prelude.{◌≡◌, List}
 use Rattle.markdown_leaves.specs.Parts.{PartContent}
-use Rattle.markdown_reader.specs.Definitions.{definitions_of as definitions_read}
+use Rattle.markdown_definitions.specs.Definitions.{definitions_of as definitions_read}
 use Rattle.markdown_as_html.specs.Defined.{definitions_of}
 
 -- the same labels are defined

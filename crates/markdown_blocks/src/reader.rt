@@ -59,6 +59,24 @@ impl BlockReader {
         &self.containers
     }
 
+    /// A reader of its own that goes on from here.
+    ///
+    /// # Errors
+    ///
+    /// Out of memory is the only error.
+    pub fn copied(&self, alloc: Global) -> Result<BlockReader, AllocError>
+        ensures { IfOk result (λ made. state_of made ≡ state_of self.now) }
+    {
+        let containers = Vec::from_slice(alloc, &self.containers)?;
+        let defining = Vec::from_slice(alloc, &self.defining)?;
+        Ok(BlockReader {
+            containers,
+            leaf: self.leaf,
+            defining,
+            cells: self.cells,
+        })
+    }
+
     /// Reads the next line, which is without its end.
     ///
     /// # Errors

@@ -102,6 +102,9 @@ fn runs_of(alloc: Global, placed: &[Placed]) -> Result<Vec<Run>, AllocError>
 fn add_pairs(alloc: Global, placed: &[Placed], out: &mut Vec<Pair>) -> Result<(), AllocError>
     ensures { OnOk result (out.new.items ≡ out.old.items ++ inside_pairs placed.now) }
 {
+    if placed.is_empty() {
+        return Ok(());
+    }
     let places = places_of(alloc, placed)?;
     let runs = runs_of(alloc, placed)?;
     let pairs = matches(alloc, &runs)?;

@@ -35,7 +35,7 @@ use Rattle.markdown_reader.specs.Printed.{ArePrintedSections}
 use Rattle.markdown_reader.specs.Steady.{steady_sections, AreSteadySections}
 use Rattle.markdown_tones.specs.Fences.{fence_marks}
 use Rattle.markdown_code.specs.CodeTexts.{code_sections, fence_lines, fence_sections}
-use Rattle.markdown_code.specs.Words.{language_word}
+use Rattle.code_words.specs.Words.{language_word}
 
 -- ---- characters that are read of bytes
 

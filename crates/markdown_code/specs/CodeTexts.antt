@@ -8,7 +8,7 @@ use Rattle.markdown_marks.specs.Remaining.{Remaining, whole}
 use Rattle.markdown_reader.specs.Markdown.{parts_shown}
 use Rattle.markdown_reader.specs.Steady.{steady_sections}
 use Rattle.mad_sections.specs.Sections.{SectionContent}
-use Rattle.markdown_code.specs.Words.{language_word}
+use Rattle.code_words.specs.Words.{language_word}
 
 -- the lines of a fence: what stands behind it, and the lines of a text, with nothing taken of them
 abbrev pub fence_lines : List ℕ → List ℕ → List Remaining

@@ -1,3 +1,2 @@
 pub mod CodeTexts
 pub mod FencedTexts
-pub mod Words

@@ -8,13 +8,13 @@ ghost use Rattle.markdown_reader.specs.MarkdownSays.{markdown_says};
 ghost use Rattle.markdown_reader.specs.Printed.{ArePrintedSections};
 ghost use Rattle.markdown_reader.specs.Steady.{AreSteadySections};
 
-use crate::words::language_word;
+use code_words::language_word;
 use markdown_blocks::lines::cut_line;
+use markdown_definitions::definitions::definitions_of;
 use markdown_leaves::{Block, Kind, Part};
 use markdown_lines::texts::behind_mark;
 use markdown_marks::rest::Rest;
 use markdown_reader::Markdown;
-use markdown_reader::definitions::definitions_of;
 use markdown_reader::mapper::Mapper;
 use std::alloc::{AllocError, Global};
 

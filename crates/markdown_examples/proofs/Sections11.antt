@@ -77,7 +77,7 @@ l262 : unmarked_links (codes "<http://a>\n===\n](&#35;") ≡ link_at 0 (codes "h
 unfolding sections
 l262 = refl
 
-e263 : printable_sections (codes "<http://a><http://a>\n!") ≡ behind [] 0 (row Paragraph (flagged false false false false true (codes "http://ahttp://a") ∷ plain (codes " !") ∷ []) ∷ []) ∷ []
+e263 : printable_sections (codes "<http://a><http://a>\n!") ≡ behind [] 0 (row Paragraph (flagged false false false false true (codes "http://a") ∷ flagged false false false false true (codes "http://a") ∷ plain (codes " !") ∷ []) ∷ []) ∷ []
 unfolding sections
 e263 = refl
 

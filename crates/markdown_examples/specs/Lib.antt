@@ -18,6 +18,8 @@ pub mod Blocks15
 pub mod Blocks16
 pub mod Blocks17
 pub mod Blocks18
+pub mod Blocks19
+pub mod Blocks20
 pub mod Sections1
 pub mod Sections2
 pub mod Sections3
@@ -36,6 +38,8 @@ pub mod Sections15
 pub mod Sections16
 pub mod Sections17
 pub mod Sections18
+pub mod Sections19
+pub mod Sections20
 pub mod Html1
 pub mod Html2
 pub mod Html3
@@ -54,3 +58,5 @@ pub mod Html15
 pub mod Html16
 pub mod Html17
 pub mod Html18
+pub mod Html19
+pub mod Html20

@@ -25,7 +25,7 @@ pub record AreSections11 : Type 0 where
   pub e261 : printable_sections (codes "<div>**2) [ ] ~~```rs\n") ≡ behind [] 0 (row Paragraph (plain (codes "**2) [ ] ~~```rs") ∷ []) ∷ []) ∷ []
   pub e262 : printable_sections (codes "<http://a>\n===\n](&#35;") ≡ behind [] 0 (row (Header 1) (flagged false false false false true (codes "http://a") ∷ []) ∷ []) ∷ blank [] ∷ behind [] 0 (row Paragraph (plain (codes "](#") ∷ []) ∷ []) ∷ []
   pub l262 : unmarked_links (codes "<http://a>\n===\n](&#35;") ≡ link_at 0 (codes "http://a") ∷ []
-  pub e263 : printable_sections (codes "<http://a><http://a>\n!") ≡ behind [] 0 (row Paragraph (flagged false false false false true (codes "http://ahttp://a") ∷ plain (codes " !") ∷ []) ∷ []) ∷ []
+  pub e263 : printable_sections (codes "<http://a><http://a>\n!") ≡ behind [] 0 (row Paragraph (flagged false false false false true (codes "http://a") ∷ flagged false false false false true (codes "http://a") ∷ plain (codes " !") ∷ []) ∷ []) ∷ []
   pub l263 : unmarked_links (codes "<http://a><http://a>\n!") ≡ link_at 0 (codes "http://a") ∷ link_at 0 (codes "http://a") ∷ []
   pub e264 : printable_sections (codes "> >     foo.~~http://x") ≡ behind (Bar ∷ Bar ∷ Code ∷ []) 3 (code_row (plain (codes "foo.~~http://x") ∷ []) ∷ []) ∷ []
   pub e265 : printable_sections (codes "[ ] ``    \n---\n~~\n===\n") ≡ behind [] 0 (row (Header 2) (plain (codes "[ ] ``") ∷ []) ∷ []) ∷ blank [] ∷ behind [] 0 (row (Header 1) (plain (codes "~~") ∷ []) ∷ []) ∷ []

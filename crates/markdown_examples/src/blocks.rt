@@ -18,6 +18,8 @@ ghost use Rattle.markdown_examples.specs.Blocks15.{AreBlocks15};
 ghost use Rattle.markdown_examples.specs.Blocks16.{AreBlocks16};
 ghost use Rattle.markdown_examples.specs.Blocks17.{AreBlocks17};
 ghost use Rattle.markdown_examples.specs.Blocks18.{AreBlocks18};
+ghost use Rattle.markdown_examples.specs.Blocks19.{AreBlocks19};
+ghost use Rattle.markdown_examples.specs.Blocks20.{AreBlocks20};
 
 /// What the blocks of examples 1 to 25 are.
 #[tactic(auto, using(crate::proofs::Blocks1::blocks1))]
@@ -125,4 +127,16 @@ pub fn examples_17()
 #[tactic(auto, using(crate::proofs::Blocks18::blocks18))]
 pub fn examples_18()
     ensures { AreBlocks18 }
+{}
+
+/// What the blocks of examples 451 to 475 are.
+#[tactic(auto, using(crate::proofs::Blocks19::blocks19))]
+pub fn examples_19()
+    ensures { AreBlocks19 }
+{}
+
+/// What the blocks of examples 476 to 485 are.
+#[tactic(auto, using(crate::proofs::Blocks20::blocks20))]
+pub fn examples_20()
+    ensures { AreBlocks20 }
 {}

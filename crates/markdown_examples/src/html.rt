@@ -18,6 +18,8 @@ ghost use Rattle.markdown_examples.specs.Html15.{ArePrinted15};
 ghost use Rattle.markdown_examples.specs.Html16.{ArePrinted16};
 ghost use Rattle.markdown_examples.specs.Html17.{ArePrinted17};
 ghost use Rattle.markdown_examples.specs.Html18.{ArePrinted18};
+ghost use Rattle.markdown_examples.specs.Html19.{ArePrinted19};
+ghost use Rattle.markdown_examples.specs.Html20.{ArePrinted20};
 
 /// Examples 1 to 25 are printed as they are to be.
 #[tactic(auto, using(crate::proofs::Html1::printed1))]
@@ -125,4 +127,16 @@ pub fn examples_17()
 #[tactic(auto, using(crate::proofs::Html18::printed18))]
 pub fn examples_18()
     ensures { ArePrinted18 }
+{}
+
+/// Examples 451 to 475 are printed as they are to be.
+#[tactic(auto, using(crate::proofs::Html19::printed19))]
+pub fn examples_19()
+    ensures { ArePrinted19 }
+{}
+
+/// Examples 476 to 485 are printed as they are to be.
+#[tactic(auto, using(crate::proofs::Html20::printed20))]
+pub fn examples_20()
+    ensures { ArePrinted20 }
 {}

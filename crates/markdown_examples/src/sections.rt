@@ -18,6 +18,8 @@ ghost use Rattle.markdown_examples.specs.Sections15.{AreSections15};
 ghost use Rattle.markdown_examples.specs.Sections16.{AreSections16};
 ghost use Rattle.markdown_examples.specs.Sections17.{AreSections17};
 ghost use Rattle.markdown_examples.specs.Sections18.{AreSections18};
+ghost use Rattle.markdown_examples.specs.Sections19.{AreSections19};
+ghost use Rattle.markdown_examples.specs.Sections20.{AreSections20};
 
 /// The sections and links of examples 1 to 25.
 #[tactic(auto, using(crate::proofs::Sections1::sections1))]
@@ -125,4 +127,16 @@ pub fn examples_17()
 #[tactic(auto, using(crate::proofs::Sections18::sections18))]
 pub fn examples_18()
     ensures { AreSections18 }
+{}
+
+/// The sections and links of examples 451 to 475.
+#[tactic(auto, using(crate::proofs::Sections19::sections19))]
+pub fn examples_19()
+    ensures { AreSections19 }
+{}
+
+/// The sections and links of examples 476 to 485.
+#[tactic(auto, using(crate::proofs::Sections20::sections20))]
+pub fn examples_20()
+    ensures { AreSections20 }
 {}

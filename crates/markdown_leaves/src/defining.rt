@@ -19,6 +19,15 @@ fn add_line(text: &mut Vec<u8>, line: &[u8]) -> Result<(), AllocError>
     Ok(())
 }
 
+// How many bytes the lines have, each with a newline.
+fn bytes_in(lines: &[Rest<'_>]) -> usize {
+    let mut count: usize = 0;
+    for line in lines {
+        count = count.saturating_add(line.bytes.len()).saturating_add(1);
+    }
+    count
+}
+
 /// The lines as one text, with newlines between them.
 ///
 /// # Errors
@@ -28,7 +37,7 @@ fn add_line(text: &mut Vec<u8>, line: &[u8]) -> Result<(), AllocError>
 pub fn joined(alloc: Global, lines: &[Rest<'_>]) -> Result<Vec<u8>, AllocError>
     ensures { IfOk result (λ text. text.items ≡ joined [] (map remaining lines.now)) }
 {
-    let mut text = Vec::new(alloc);
+    let mut text = Vec::with_capacity(alloc, bytes_in(lines))?;
     let mut rest = lines;
     while let [line, next @ ..] = rest {
         add_line(&mut text, line.bytes)?;

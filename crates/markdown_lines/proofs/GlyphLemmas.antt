@@ -1,5 +1,5 @@
 -- Characters of a leaf, one after the other.
-use Rattle.std.proofs.Common.{◌≡◌, ℕ, ◌+◌, ◌-◌, ◌<◌, ◌≤◌, Bool, true, false, List, [], ◌∷◌, ◌++◌, map, length, take, drop, reverse, get_or, sym, ap, subst, ◌∙◌, arith, append_assoc, append-nil, chars, encode_utf8}
+use Rattle.std.proofs.Common.{◌≡◌, ℕ, ◌+◌, ◌-◌, ◌<◌, ◌≤◌, Bool, true, false, List, [], ◌∷◌, ◌++◌, map, length, take, drop, reverse, get_or, None, sym, ap, subst, ◌∙◌, arith, append_assoc, append-nil, chars, encode_utf8}
 use Rattle.std.specs.List.{suffix_len}
 use Rattle.std.specs.Str.{IsUtf8, IsCharBoundary}
 use Rattle.std.proofs.lemmas.List.{length-append, map-append, reverse-append, take_more, take_all}
@@ -17,7 +17,7 @@ use Rattle.markdown_lines.specs.declared.glyphs.Glyph.{Glyph}
 
 -- what an index reads where there is none
 abbrev pub no_glyph : Glyph
-no_glyph = record { c = 0; flags = record { bold = false; italic = false; code = false; strikeout = false; link = false } }
+no_glyph = record { c = 0; flags = record { bold = false; italic = false; code = false; strikeout = false; link = false }; link = None }
 
 -- So many characters are left, after this number at the edge: as many as in all but those at the edge.
 abbrev pub LeavesSame : List Glyph → ℕ → Type 0

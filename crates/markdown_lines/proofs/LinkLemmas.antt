@@ -4,7 +4,8 @@ use Rattle.std.proofs.lemmas.List.{length-append}
 use Rattle.mad_md.specs.Lines.{LineContent}
 use Rattle.markdown_marks.specs.Remaining.{Remaining}
 use Rattle.markdown_lines.specs.Links.{Defined, LinkSaid, leaf_addresses, links_at}
-use Rattle.markdown_lines.specs.Tables.{cell_text, after_cell, cells_addresses, row_addresses, rows_links}
+use Rattle.markdown_cells.specs.Cells.{cell_text, after_cell}
+use Rattle.markdown_lines.specs.Tables.{cells_addresses, row_addresses, rows_links}
 
 -- ---- cells
 

@@ -1,7 +1,7 @@
 -- A text that is one row without flags.
-use Rattle.std.proofs.Common.{◌≡◌, ℕ, suc, ◌+◌, ◌-◌, ◌<◌, ◌≤◌, ⊎_elim, Bool, true, false, cond, eqb, not, ◌||◌, ◌&&◌, List, [], ◌∷◌, ◌++◌, map, reverse, length, take, drop, get_or, refl, sym, ap, subst, ◌∙◌, arith, append_assoc, append-nil, is_some}
+use Rattle.std.proofs.Common.{◌≡◌, ℕ, suc, ◌+◌, ◌-◌, ◌<◌, ◌≤◌, ⊎_elim, Bool, true, false, cond, eqb, not, ◌||◌, ◌&&◌, List, [], ◌∷◌, ◌++◌, map, reverse, length, take, drop, get_or, None, refl, sym, ap, subst, ◌∙◌, arith, append_assoc, append-nil, is_some}
 use Rattle.std.specs.Prelude.{chars, encode_utf8, encode_utf8_all}
-use Rattle.std.specs.List.{suffix_len}
+use Rattle.std.specs.List.{suffix_len, AllByRecursion}
 use Rattle.std.specs.Str.{IsUtf8}
 use Rattle.std.proofs.lemmas.Bool.{cases_lt}
 use Rattle.std.proofs.lemmas.List.{get_or_past, get_or-map, length-map, length-append, take_all, drop_all, nil_from_length}
@@ -19,6 +19,8 @@ use Rattle.markdown_lines.specs.declared.places.RunFlags.{RunFlags}
 use Rattle.markdown_lines.specs.Glyphs.{glyph_of, is_edge, without_front, without_back, trimmed, runs_from, runs_of, run_with}
 use Rattle.markdown_lines.specs.Leaf.{plain_row, row_of, rows_from, rows_of}
 use Rattle.markdown_lines.specs.OneRow.{IsUnmarked, HasNoBreak, AreNoSpaces}
+use Rattle.markdown_lines.specs.LinkNumbers.{rows_numbers}
+use Rattle.markdown_lines.proofs.NumberLemmas.{IsUnlinked, trimmed_kept, rows_none}
 
 -- what a search says that finds none
 pub no_break : (bs : List ℕ) → Nowhere (Passes (is_byte 10) bs) 0 (length bs) → HasNoBreak bs
@@ -35,7 +37,7 @@ bare_flags = record { bold = false; italic = false; code = false; strikeout = fa
 
 -- a character without flags
 abbrev pub bare_glyph : ℕ → Glyph
-bare_glyph c = record { c = c; flags = bare_flags }
+bare_glyph c = record { c = c; flags = bare_flags; link = None }
 
 get_or_behind : (xs ys : List ℕ) (k : ℕ) → get_or (xs ++ ys) (length xs + k) 0 ≡ get_or ys k 0
 get_or_behind [] ys k = ap (λ n. get_or ys n 0) (omega arith)
@@ -72,10 +74,10 @@ one_row row (c ∷ cs) h =
     ap (λ t. cond t (row_of row ∷ rows_from [] (map bare_glyph cs)) (rows_from (row ++ bare_glyph c ∷ []) (map bare_glyph cs))) (first_no c 10 cs (omega arith) (h 0))
     ∙ one_row (row ++ bare_glyph c ∷ []) cs (rest_unbroken c cs h) ∙ ap (λ gs. row_of gs ∷ []) (append_assoc row (bare_glyph c ∷ []) (map bare_glyph cs))
 
-one_run : (text : List ℕ) (cs : List ℕ) → runs_from bare_flags text (map bare_glyph cs) ≡ run_with bare_flags (text ++ encode_utf8_all cs) ∷ []
+one_run : (d : ℕ) (text : List ℕ) (cs : List ℕ) → runs_from (bare_glyph d) text (map bare_glyph cs) ≡ run_with bare_flags (text ++ encode_utf8_all cs) ∷ []
 unfolding runs_from
-one_run text [] = ap (λ t. run_with bare_flags t ∷ []) (sym (append-nil text))
-one_run text (c ∷ cs) = one_run (text ++ encode_utf8 c) cs ∙ ap (λ t. run_with bare_flags t ∷ []) (append_assoc text (encode_utf8 c) (encode_utf8_all cs))
+one_run d text [] = ap (λ t. run_with bare_flags t ∷ []) (sym (append-nil text))
+one_run d text (c ∷ cs) = one_run d (text ++ encode_utf8 c) cs ∙ ap (λ t. run_with bare_flags t ∷ []) (append_assoc text (encode_utf8 c) (encode_utf8_all cs))
 
 -- ---- the last character
 
@@ -123,7 +125,7 @@ whole_row (c ∷ cs) ends unbroken =
     (edge_no (bare_glyph (get_or (c ∷ cs) (length cs) 0)) (last_unbroken c cs unbroken) (last_no c cs ends.2)) in
     let some : eqb (length gs) 0 ≡ false = Rattle.std.proofs.lemmas.Bool.ne_eqb (length gs) 0 (λ e. absurd (omega (arith, e, length-map (c ∷ cs) bare_glyph))) in
     ap rows_of same ∙ ap (λ t. cond t [] (rows_from [] gs)) some ∙ one_row [] (c ∷ cs) unbroken ∙ ap (λ (l : List Glyph). normal (record { style = Paragraph; runs = runs_of l }) ∷ []) same
-    ∙ ap (λ (rs : List Run). normal (record { style = Paragraph; runs = rs }) ∷ []) (one_run (encode_utf8 c) cs)
+    ∙ ap (λ (rs : List Run). normal (record { style = Paragraph; runs = rs }) ∷ []) (one_run c (encode_utf8 c) cs)
 
 -- ---- from a text of one run
 
@@ -133,11 +135,11 @@ bare_glyphs look (c ∷ cs) h = ap (λ (g : Glyph). g ∷ map (glyph_of false) (
   where
     one : (look : Look) (c : ℕ) → IsUnmarked look → glyph_of false (shown_with look c) ≡ bare_glyph c
     one look c h =
-        ap (λ b. let g : Glyph = record { c = c; flags = record { bold = b; italic = look.italic; code = look.code; strikeout = look.strikeout; link = is_some look.link } } in g) h.0
-        ∙ ap (λ b. let g : Glyph = record { c = c; flags = record { bold = false; italic = b; code = look.code; strikeout = look.strikeout; link = is_some look.link } } in g) h.1
-        ∙ ap (λ b. let g : Glyph = record { c = c; flags = record { bold = false; italic = false; code = b; strikeout = look.strikeout; link = is_some look.link } } in g) h.2
-        ∙ ap (λ b. let g : Glyph = record { c = c; flags = record { bold = false; italic = false; code = false; strikeout = b; link = is_some look.link } } in g) h.3
-        ∙ ap (λ o. let g : Glyph = record { c = c; flags = record { bold = false; italic = false; code = false; strikeout = false; link = is_some o } } in g) h.4
+        ap (λ b. let g : Glyph = record { c = c; flags = record { bold = b; italic = look.italic; code = look.code; strikeout = look.strikeout; link = is_some look.link }; link = look.link } in g) h.0
+        ∙ ap (λ b. let g : Glyph = record { c = c; flags = record { bold = false; italic = b; code = look.code; strikeout = look.strikeout; link = is_some look.link }; link = look.link } in g) h.1
+        ∙ ap (λ b. let g : Glyph = record { c = c; flags = record { bold = false; italic = false; code = b; strikeout = look.strikeout; link = is_some look.link }; link = look.link } in g) h.2
+        ∙ ap (λ b. let g : Glyph = record { c = c; flags = record { bold = false; italic = false; code = false; strikeout = b; link = is_some look.link }; link = look.link } in g) h.3
+        ∙ ap (λ o. let g : Glyph = record { c = c; flags = record { bold = false; italic = false; code = false; strikeout = false; link = is_some o }; link = o } in g) h.4
 
 spelled_one : (r : TextRun) (text : List ℕ) → AreRuns (r ∷ []) text → spelled (r ∷ []) text ≡ map (shown_with r.look) (chars text)
 unfolding spelled
@@ -164,3 +166,17 @@ is_plain_text runs d text few utf8 are bare ends unbroken =
     let one : reverse runs ≡ get_or runs 0 d ∷ [] = ap (λ (l : List TextRun). reverse l) (only runs d few) in
     ap (λ (l : List TextRun). rows_of (trimmed (map (glyph_of false) (spelled l text)))) one
     ∙ is_plain_row (get_or runs 0 d) text utf8 (subst (λ (l : List TextRun). AreRuns l text) one are) bare ends unbroken
+
+bare_unlinked : (cs : List ℕ) → AllByRecursion IsUnlinked (map bare_glyph cs)
+bare_unlinked [] = tt
+bare_unlinked (c ∷ cs) = (refl, bare_unlinked cs)
+
+-- a text that is one such run has no number of a link
+pub is_unlinked_text : (runs : List TextRun) (d : TextRun) (text : List ℕ) → length runs ≡ 1 → AreRuns (reverse runs) text → IsUnmarked (get_or runs 0 d).look → rows_numbers (trimmed (map (glyph_of false) (spelled (reverse runs) text))) ≡ []
+is_unlinked_text runs d text few are bare =
+    let r : TextRun = get_or runs 0 d in
+    let one : reverse runs ≡ r ∷ [] = ap (λ (l : List TextRun). reverse l) (only runs d few) in
+    ap (λ (l : List TextRun). rows_numbers (trimmed (map (glyph_of false) (spelled l text)))) one
+    ∙ ap (λ (ss : List Shown). rows_numbers (trimmed (map (glyph_of false) ss))) (spelled_one r text (subst (λ (l : List TextRun). AreRuns l text) one are))
+    ∙ ap (λ (gs : List Glyph). rows_numbers (trimmed gs)) (bare_glyphs r.look (chars text) bare)
+    ∙ rows_none (trimmed (map bare_glyph (chars text))) (trimmed_kept IsUnlinked (map bare_glyph (chars text)) (bare_unlinked (chars text)))

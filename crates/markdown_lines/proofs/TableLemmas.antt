@@ -10,35 +10,11 @@ use Rattle.mad_md.specs.declared.alignment.Alignment.{Alignment}
 use Rattle.mad_md.specs.declared.composite.CompositeStyle.TheVariants.{Paragraph}
 use Rattle.markdown_lines.specs.Leaf.{cell_runs}
 use Rattle.markdown_lines.specs.Lines.{cell_said, lines_said, is_within, all_within}
-use Rattle.markdown_lines.specs.Tables.{cell_of, after_cell, unbarred, cells, alignment_of, alignments, cell_said as first_cell}
+use Rattle.markdown_cells.specs.Cells.{cell_of, after_cell, unbarred, alignment_of, alignments}
+use Rattle.markdown_lines.specs.Tables.{cells, cell_said as first_cell}
 use Rattle.markdown_lines.specs.declared.lines.MarkdownLine.{MarkdownLine}
 use Rattle.markdown_lines.specs.declared.places.RunRange.{RunRange}
 use Rattle.markdown_lines.proofs.LineLemmas.{ranges_more, cells_same, lines_same, within_new, range_new}
-
--- ---- alignments
-
-alignments_suc : (more : ℕ) (row : List ℕ) → alignments (suc more) row ≡ alignment_of (cell_of row) ∷ alignments more (after_cell row)
-unfolding alignments
-alignments_suc more row = refl
-
--- the alignment of one more column is put, and those behind it are to come
-pub alignments_next : (done now : List Alignment) (x : Alignment) (cell row next : List ℕ) (more : ℕ) → 0 < more → now ≡ done ++ x ∷ [] → x ≡ alignment_of cell → cell ≡ cell_of row → next ≡ after_cell row
-    → now ++ alignments (more - 1) next ≡ done ++ alignments more row
-alignments_next done now x cell row next more some now_is x_is cell_is next_is =
-    let e : more ≡ suc (more - 1) = omega arith in
-    ap (λ (rs : List Alignment). rs ++ alignments (more - 1) next) now_is
-    ∙ append_assoc done (x ∷ []) (alignments (more - 1) next)
-    ∙ ap (λ (y : Alignment). done ++ y ∷ alignments (more - 1) next) (x_is ∙ ap alignment_of cell_is)
-    ∙ ap (λ (r : List ℕ). done ++ alignment_of (cell_of row) ∷ alignments (more - 1) r) next_is
-    ∙ ap (λ (rs : List Alignment). done ++ rs) (sym (alignments_suc (more - 1) row))
-    ∙ ap (λ (n : ℕ). done ++ alignments n row) (sym e)
-
--- where no column is to come, all are put
-pub alignments_done : (now : List Alignment) (row : List ℕ) (more : ℕ) → more ≡ 0 → now ++ alignments more row ≡ now
-unfolding alignments
-alignments_done now row more e = ap (λ (n : ℕ). now ++ alignments n row) e ∙ append-nil now
-
--- ---- cells
 
 cells_suc : (labels : List (List ℕ)) (bold : Bool) (more : ℕ) (row : List ℕ) → cells labels bold (suc more) row ≡ first_cell labels bold row ∷ cells labels bold more (after_cell row)
 unfolding cells

@@ -2,9 +2,9 @@
 
 ghost use Rattle.std.specs.Prelude.{◌≡◌, ◌++◌, ◌∷◌, [], IfOk, OnOk, map, chars, reverse};
 ghost use Rattle.markdown_inlines.specs.Styled.{shown_with, spelled_of, IsStyled};
-ghost use Rattle.markdown_lines.specs.Glyphs.{glyph_of, is_edge, without_front, without_back, trimmed, space, spaced_from};
+ghost use Rattle.markdown_lines.specs.Glyphs.{glyph_of, is_edge, is_same_run, without_front, without_back, trimmed, space, spaced_from};
 
-use crate::places::RunFlags;
+use crate::places::{RunFlags, is_same_flags, is_same_link};
 use markdown_inlines::looks::Look;
 use markdown_inlines::styled::Styled;
 use std::alloc::{AllocError, Global};
@@ -14,9 +14,11 @@ use std::alloc::{AllocError, Global};
 pub struct Glyph {
     pub c: char,
     pub flags: RunFlags,
+    /// The number of the link that it belongs to, among those of its leaf.
+    pub link: Option<usize>,
 }
 
-// A character of this look, bold where all are. Where it belongs to a link, it has that flag.
+// A character of this look, bold where all are. Where it belongs to a link, it has that flag and the link's number.
 fn glyph_of(bold: bool, look: &Look, c: char) -> Glyph
     ensures { result ≡ glyph_of bold (shown_with look.now c) }
 {
@@ -29,6 +31,7 @@ fn glyph_of(bold: bool, look: &Look, c: char) -> Glyph
             strikeout: look.strikeout,
             link: look.link.is_some(),
         },
+        link: look.link,
     }
 }
 
@@ -61,6 +64,13 @@ pub fn glyphs_of(alloc: Global, bold: bool, styled: &Styled) -> Result<Vec<Glyph
     }
     glyphs.reverse();
     Ok(glyphs)
+}
+
+// Whether both characters have the same flags, and belong to the same link or to none.
+pub(crate) fn is_same_run(a: Glyph, b: Glyph) -> bool
+    ensures { result ≡ is_same_run a b }
+{
+    is_same_flags(a.flags, b.flags) && is_same_link(a.link, b.link)
 }
 
 // Whether it isn't shown at the ends of a row: a break, and a space but in code.
@@ -113,6 +123,7 @@ fn space(bold: bool) -> Glyph
             strikeout: false,
             link: false,
         },
+        link: None,
     }
 }
 

@@ -1,10 +1,11 @@
 //! What is shown of a leaf's text.
 
-ghost use Rattle.std.specs.Prelude.{◌≡◌, [], ◌∷◌, ◌++◌, IfOk, OnOk, IsTrue, false, map, string_bytes};
+ghost use Rattle.std.specs.Prelude.{◌≡◌, ◌+◌, [], ◌∷◌, ◌++◌, IfOk, OnOk, IsTrue, false, length, map, string_bytes};
 ghost use Rattle.markdown_inlines.specs.Styled.{spelled_of, IsStyled};
 ghost use Rattle.markdown_lines.specs.Glyphs.{glyph_of, trimmed};
 ghost use Rattle.markdown_lines.specs.OneRow.{IsUnmarked, HasNoBreak, AreNoSpaces};
-ghost use Rattle.markdown_lines.specs.Leaf.{shown_text, plain_row, rows_of, leaf_rows, cell_runs, html_row, html_lines};
+ghost use Rattle.markdown_lines.specs.Leaf.{shown_text, plain_row, row_of, rows_of, leaf_rows, cell_runs, html_row, html_lines};
+ghost use Rattle.markdown_lines.specs.LinkNumbers.{after_links, cell_numbers, leaf_numbers, row_numbers, rows_numbers};
 ghost use Rattle.markdown_lines.specs.Links.{leaf_addresses};
 ghost use Rattle.markdown_lines.specs.LinksOf.{defined_of};
 ghost use Rattle.markdown_lines.specs.Said.{said};
@@ -13,6 +14,7 @@ ghost use Rattle.markdown_lines.specs.Shown.{shown};
 use crate::glyphs::{Glyph, glyphs_of, spaced, trimmed};
 use crate::lines::Lines;
 use crate::links::{Definitions, push_addresses};
+use crate::numbers::{push_numbers, sum};
 use crate::runs::Runs;
 use mad_md::CompositeStyle;
 use markdown_html_text::rows::html_rows;
@@ -35,10 +37,27 @@ pub fn shown_text(alloc: Global, text: &str) -> Result<String, AllocError>
     Ok(shown)
 }
 
-// The rows of these characters: breaks cut them.
-#[tactic(auto, unfolding(crate::specs::Leaf::rows_from))]
-fn rows_of(alloc: Global, glyphs: &[Glyph]) -> Result<Lines, AllocError>
-    ensures { IfOk result (λ rows. shown rows ≡ rows_of glyphs.now) }
+// Adds a row of these characters, and the numbers of its links.
+#[tactic(auto, using(crate::proofs::NumberLemmas::after_none))]
+fn push_row(
+    alloc: Global,
+    rows: &mut Lines,
+    numbers: &mut Vec<usize>,
+    row: &[Glyph],
+) -> Result<(), AllocError>
+    ensures rows { OnOk result (shown rows.new ≡ shown rows.old ++ row_of row.now ∷ []) }
+    ensures numbers { OnOk result (numbers.new.items ≡ numbers.old.items ++ row_numbers row.now) }
+{
+    let shown = trimmed(row);
+    push_numbers(numbers, 0, shown)?;
+    rows.push_glyphs(alloc, shown)
+}
+
+// The rows of these characters: breaks cut them. It also adds the numbers of their links.
+#[tactic(auto, unfolding(crate::specs::Leaf::rows_from, crate::specs::LinkNumbers::rows_numbers_from))]
+fn rows_of(alloc: Global, numbers: &mut Vec<usize>, glyphs: &[Glyph]) -> Result<Lines, AllocError>
+    ensures rows { IfOk result (λ rows. shown rows ≡ rows_of glyphs.now) }
+    ensures numbers { OnOk result (numbers.new.items ≡ numbers.old.items ++ rows_numbers glyphs.now) }
 {
     let mut rows = Lines::new(alloc);
     if glyphs.is_empty() {
@@ -49,13 +68,13 @@ fn rows_of(alloc: Global, glyphs: &[Glyph]) -> Result<Lines, AllocError>
     while let [glyph, next @ ..] = rest {
         rest = next;
         if glyph.c == '\n' {
-            rows.push_glyphs(alloc, trimmed(row.as_slice()))?;
+            push_row(alloc, &mut rows, numbers, row.as_slice())?;
             row.clear();
             continue;
         }
         row.push(*glyph)?;
     }
-    rows.push_glyphs(alloc, trimmed(row.as_slice()))?;
+    push_row(alloc, &mut rows, numbers, row.as_slice())?;
     Ok(rows)
 }
 
@@ -65,6 +84,8 @@ pub struct Leaf {
     pub rows: Lines,
     /// In the order in which the links end.
     pub addresses: Vec<String>,
+    /// For each run that belongs to a link, the number of this link, in the order of the text.
+    pub numbers: Vec<usize>,
 }
 
 // Whether nothing is seen of a look.
@@ -94,7 +115,8 @@ fn is_trimmed(text: &[u8]) -> bool
 // Whether a text is one row without flags.
 fn is_one_row(styled: &Styled) -> bool
     requires { IsStyled styled.now }
-    ensures { IsTrue result → rows_of (trimmed (map (glyph_of false) (spelled_of styled.now))) ≡ plain_row (string_bytes styled.now.text) ∷ [] }
+    ensures row { IsTrue result → rows_of (trimmed (map (glyph_of false) (spelled_of styled.now))) ≡ plain_row (string_bytes styled.now.text) ∷ [] }
+    ensures none { IsTrue result → rows_numbers (trimmed (map (glyph_of false) (spelled_of styled.now))) ≡ [] }
 {
     if styled.runs.as_slice().len() != 1 {
         return false;
@@ -110,10 +132,15 @@ fn is_one_row(styled: &Styled) -> bool
     is_unbroken(text)
 }
 
-// The rows of what is shown of a leaf.
-fn styled_rows(alloc: Global, styled: &Styled) -> Result<Lines, AllocError>
+// The rows of what is shown of a leaf. It also adds the numbers of their links.
+fn styled_rows(
+    alloc: Global,
+    numbers: &mut Vec<usize>,
+    styled: &Styled,
+) -> Result<Lines, AllocError>
     requires { IsStyled styled.now }
-    ensures { IfOk result (λ rows. shown rows ≡ rows_of (trimmed (map (glyph_of false) (spelled_of styled.now)))) }
+    ensures rows { IfOk result (λ rows. shown rows ≡ rows_of (trimmed (map (glyph_of false) (spelled_of styled.now)))) }
+    ensures numbers { OnOk result (numbers.new.items ≡ numbers.old.items ++ rows_numbers (trimmed (map (glyph_of false) (spelled_of styled.now)))) }
 {
     if is_one_row(styled) {
         let mut rows = Lines::new(alloc);
@@ -121,21 +148,23 @@ fn styled_rows(alloc: Global, styled: &Styled) -> Result<Lines, AllocError>
         return Ok(rows);
     }
     let glyphs = glyphs_of(alloc, false, styled)?;
-    rows_of(alloc, trimmed(glyphs.as_slice()))
+    rows_of(alloc, numbers, trimmed(glyphs.as_slice()))
 }
 
-/// The rows of a leaf with this text, and where its links lead.
+/// The rows of a leaf with this text, where its links lead, and which runs belong to them.
 ///
 /// # Errors
 ///
 /// Out of memory is the only error.
-#[tactic(auto, unfolding(crate::specs::Leaf::leaf_rows))]
+#[tactic(auto, unfolding(crate::specs::Leaf::leaf_rows, crate::specs::LinkNumbers::leaf_numbers))]
 pub fn read_leaf(alloc: Global, definitions: &Definitions, text: &str) -> Result<Leaf, AllocError>
     ensures rows { IfOk result (λ leaf. shown leaf.rows ≡ leaf_rows (defined_of definitions.now).labels text.now) }
     ensures addresses { IfOk result (λ leaf. map string_bytes leaf.addresses.items ≡ leaf_addresses (defined_of definitions.now) text.now) }
+    ensures numbers { IfOk result (λ leaf. leaf.numbers.items ≡ leaf_numbers (defined_of definitions.now).labels text.now) }
 {
     let leaf = leaf_text(alloc, &definitions.labels, text)?;
-    let rows = styled_rows(alloc, &leaf.styled)?;
+    let mut numbers = Vec::new(alloc);
+    let rows = styled_rows(alloc, &mut numbers, &leaf.styled)?;
     let mut addresses = Vec::new(alloc);
     push_addresses(
         alloc,
@@ -144,30 +173,40 @@ pub fn read_leaf(alloc: Global, definitions: &Definitions, text: &str) -> Result
         text,
         &leaf.links,
     )?;
-    Ok(Leaf { rows, addresses })
+    Ok(Leaf {
+        rows,
+        addresses,
+        numbers,
+    })
 }
 
-/// The runs of a cell with this text, in bold or as they are. It also adds where the links of the cell lead.
+/// The runs of a cell with this text, in bold or as they are. It also adds where the links of the cell lead, and for each run that belongs to one
+/// its number: so many links come before these addresses.
 ///
 /// # Errors
 ///
-/// Out of memory is the only error.
-#[tactic(auto, unfolding(crate::specs::Leaf::cell_runs))]
+/// Out of memory, which a number past `usize::MAX` is too.
+#[tactic(auto, unfolding(crate::specs::Leaf::cell_runs, crate::specs::LinkNumbers::cell_numbers))]
 pub fn read_cell(
     alloc: Global,
     addresses: &mut Vec<String>,
+    numbers: &mut Vec<usize>,
+    before: usize,
     definitions: &Definitions,
     bold: bool,
     text: &str,
 ) -> Result<Runs, AllocError>
     ensures runs { IfOk result (λ runs. said runs ≡ cell_runs (defined_of definitions.now).labels bold text.now) }
     ensures addresses { OnOk result (map string_bytes addresses.new.items ≡ map string_bytes addresses.old.items ++ leaf_addresses (defined_of definitions.now) text.now) }
+    ensures numbers { OnOk result (numbers.new.items ≡ numbers.old.items ++ after_links (length addresses.old.items + before) (cell_numbers (defined_of definitions.now).labels bold text.now)) }
 {
     let leaf = leaf_text(alloc, &definitions.labels, text)?;
     let glyphs = glyphs_of(alloc, bold, &leaf.styled)?;
     let row = spaced(alloc, bold, trimmed(glyphs.as_slice()))?;
     let mut runs = Runs::new(alloc);
     runs.push_glyphs(alloc, row.as_slice())?;
+    let links = sum(addresses.len(), before)?;
+    push_numbers(numbers, links, row.as_slice())?;
     push_addresses(alloc, addresses, &definitions.addresses, text, &leaf.links)?;
     Ok(runs)
 }

@@ -3,7 +3,9 @@
 ghost use Rattle.std.specs.Prelude.{◌≡◌, ◌≤◌, ◌+◌, ◌==◌, true, [], ◌∷◌, ◌++◌, IfOk, OnOk, map, length, false, string_bytes};
 ghost use Rattle.markdown_lines.specs.Glyphs.{runs_of};
 ghost use Rattle.markdown_lines.specs.Leaf.{cell_runs};
-ghost use Rattle.markdown_lines.specs.Tables;
+ghost use Rattle.markdown_lines.specs.LinkNumbers.{after_links, cell_numbers};
+ghost use Rattle.markdown_lines.specs.TableNumbers.{cells_numbers};
+ghost use Rattle.markdown_cells.specs.Cells;
 ghost use Rattle.markdown_lines.specs.Tables.{cells, cells_addresses};
 ghost use Rattle.markdown_lines.specs.Links.{leaf_addresses};
 ghost use Rattle.markdown_lines.specs.LinksOf.{defined_of};
@@ -15,7 +17,6 @@ ghost use Rattle.markdown_lines.specs.Steady.{steady_lines, AreSteadyLines};
 ghost use Rattle.mad_md.specs.Flagged.{unflagged};
 ghost use Rattle.mad_md.specs.Lines.{content_of, normal, table_row, table_rule, horizontal_rule};
 
-use crate::cells::{after_cell, cell_of, cell_text};
 use crate::glyphs::Glyph;
 use crate::leaf::read_cell;
 use crate::links::Definitions;
@@ -23,6 +24,7 @@ use crate::places::{RunFlags, RunRange};
 use crate::runs::Runs;
 use crate::text::make_line;
 use mad_md::{Alignment, CompositeStyle, Line};
+use markdown_cells::cells::{after_cell, cell_of, cell_text};
 use std::alloc::{AllocError, Global};
 
 /// A line, and its runs.
@@ -43,20 +45,31 @@ pub struct Lines {
     ghost within: { all_within (length (said runs)) lines.items ≡ true },
 }
 
-// The runs of the first cell of a row. It also adds where its links lead.
+// The runs of the first cell of a row. It also adds where its links lead, and their numbers.
 fn read_first_cell(
     alloc: Global,
     addresses: &mut Vec<String>,
+    numbers: &mut Vec<usize>,
+    before: usize,
     definitions: &Definitions,
     bold: bool,
     row: &[u8],
 ) -> Result<Runs, AllocError>
-    ensures runs { IfOk result (λ runs. said runs ≡ cell_runs (defined_of definitions.now).labels bold (Tables.cell_text row.now)) }
-    ensures addresses { OnOk result (map string_bytes addresses.new.items ≡ map string_bytes addresses.old.items ++ leaf_addresses (defined_of definitions.now) (Tables.cell_text row.now)) }
+    ensures runs { IfOk result (λ runs. said runs ≡ cell_runs (defined_of definitions.now).labels bold (Cells.cell_text row.now)) }
+    ensures addresses { OnOk result (map string_bytes addresses.new.items ≡ map string_bytes addresses.old.items ++ leaf_addresses (defined_of definitions.now) (Cells.cell_text row.now)) }
+    ensures numbers { OnOk result (numbers.new.items ≡ numbers.old.items ++ after_links (length addresses.old.items + before) (cell_numbers (defined_of definitions.now).labels bold (Cells.cell_text row.now))) }
 {
     let bytes = cell_text(alloc, cell_of(row))?;
     let text = String::from_utf8_lossy(alloc, bytes.as_slice())?;
-    read_cell(alloc, addresses, definitions, bold, text.as_str())
+    read_cell(
+        alloc,
+        addresses,
+        numbers,
+        before,
+        definitions,
+        bold,
+        text.as_str(),
+    )
 }
 
 // The runs of a row.
@@ -184,14 +197,17 @@ impl Lines {
         Ok(RunRange { start, count })
     }
 
-    /// Adds a row of a table, and says where its links lead.
+    /// Adds a row of a table, and says where its links lead. It also adds the number of its link for each run that belongs to one: so many links of the
+    /// table come before.
     ///
     /// # Errors
     ///
-    /// Out of memory is the only error.
+    /// Out of memory, which a number past `usize::MAX` is too.
     pub fn push_table_row(
         &mut self,
         alloc: Global,
+        numbers: &mut Vec<usize>,
+        before: usize,
         definitions: &Definitions,
         columns: usize,
         bold: bool,
@@ -199,13 +215,22 @@ impl Lines {
     ) -> Result<Vec<String>, AllocError>
         ensures row { OnOk result (shown self.new ≡ shown self.old ++ table_row (cells (defined_of definitions.now).labels bold columns row.now) ∷ []) }
         ensures addresses { IfOk result (λ addresses. map string_bytes addresses.items ≡ cells_addresses (defined_of definitions.now) columns row.now) }
+        ensures numbers { OnOk result (numbers.new.items ≡ numbers.old.items ++ cells_numbers (defined_of definitions.now) bold before columns row.now) }
     {
         let mut addresses = Vec::new(alloc);
         let mut ranges = Vec::with_capacity(alloc, columns)?;
         let mut rest = row;
         let mut more = columns;
         while more > 0 {
-            let runs = read_first_cell(alloc, &mut addresses, definitions, bold, rest)?;
+            let runs = read_first_cell(
+                alloc,
+                &mut addresses,
+                numbers,
+                before,
+                definitions,
+                bold,
+                rest,
+            )?;
             let range = self.add_runs(&runs)?;
             ranges.push(range)?;
             rest = after_cell(rest);

@@ -2,7 +2,7 @@
 
 ghost use Rattle.std.specs.Prelude.{◌≡◌};
 ghost use Rattle.mad_md.specs.Flagged;
-ghost use Rattle.markdown_inlines.specs.Looks.{is_same};
+ghost use Rattle.markdown_inlines.specs.Looks.{is_same, is_same_link};
 ghost use Rattle.markdown_lines.specs.Glyphs.{is_same_flags};
 ghost use Rattle.markdown_lines.specs.Runs.{flags_said};
 
@@ -73,4 +73,15 @@ pub(crate) fn is_same_flags(a: RunFlags, b: RunFlags) -> bool
         && is_same(a.code, b.code)
         && is_same(a.strikeout, b.strikeout)
         && is_same(a.link, b.link)
+}
+
+// Whether both are the same link, or none.
+pub(crate) fn is_same_link(a: Option<usize>, b: Option<usize>) -> bool
+    ensures { result ≡ is_same_link a b }
+{
+    match (a, b) {
+        (Some(a), Some(b)) => a == b,
+        (None, None) => true,
+        _ => false,
+    }
 }

@@ -5,8 +5,8 @@ ghost use Rattle.mad_md.specs.Flagged.{run_of};
 ghost use Rattle.markdown_lines.specs.Runs.{flags_said, are_bordered};
 ghost use Rattle.markdown_lines.specs.Steady.{steady_run};
 
-use crate::glyphs::Glyph;
-use crate::places::{RunFlags, RunPlace, RunRange, flags_of, is_same_flags};
+use crate::glyphs::{Glyph, is_same_run};
+use crate::places::{RunFlags, RunPlace, RunRange, flags_of};
 use mad_md::Compound;
 use mad_steady::steady;
 use std::alloc::{AllocError, Global};
@@ -126,25 +126,25 @@ impl Runs {
     // Adds the runs of a character and those after it.
     #[tactic(auto, unfolding(crate::specs::Glyphs::runs_from))]
     fn push_from(&mut self, alloc: Global, first: Glyph, others: &[Glyph]) -> Result<(), AllocError>
-        ensures value { OnOk result (said self.new ≡ said self.old ++ runs_from first.flags (encode_utf8 first.c) others.now) }
+        ensures value { OnOk result (said self.new ≡ said self.old ++ runs_from first (encode_utf8 first.c) others.now) }
         ensures grows { length (said self.old) ≤ length (said self.new) }
     {
-        let mut flags = first.flags;
+        let mut begun = first;
         let mut text = String::with_capacity(alloc, others.len())?;
         text.push(first.c)?;
         let mut rest = others;
         while let [glyph, next @ ..] = rest {
             rest = next;
-            if is_same_flags(flags, glyph.flags) {
+            if is_same_run(begun, *glyph) {
                 text.push(glyph.c)?;
                 continue;
             }
-            self.push(flags, text.as_str())?;
-            flags = glyph.flags;
+            self.push(begun.flags, text.as_str())?;
+            begun = *glyph;
             text.clear();
             text.push(glyph.c)?;
         }
-        self.push(flags, text.as_str())
+        self.push(begun.flags, text.as_str())
     }
 
     /// Adds the runs of these characters.

@@ -24,8 +24,9 @@ use Rattle.markdown_lines.specs.Leaf.{row_of, rows_from, leaf_rows, html_row, ht
 use Rattle.markdown_lines.specs.Links.{Defined}
 use Rattle.markdown_lines.specs.Restyled.{restyled, empty_line}
 use Rattle.markdown_lines.specs.Steady.{steady_lines}
-use Rattle.markdown_lines.specs.Tables as tables
-use Rattle.markdown_lines.specs.Tables.{after_cell, cells, shown_cells, row_said, alignments, body, ruled, table_lines}
+use Rattle.markdown_marks.specs.Tables as tables
+use Rattle.markdown_cells.specs.Cells.{after_cell, alignments}
+use Rattle.markdown_lines.specs.Tables.{cells, shown_cells, row_said, body, ruled, table_lines}
 use Rattle.markdown_lines.specs.Texts.{behind_mark}
 use Rattle.markdown_lines.specs.declared.glyphs.Glyph.{Glyph}
 use Rattle.markdown_gutters.specs.Forms.{is_big}
@@ -33,7 +34,7 @@ use Rattle.markdown_gutters.specs.Lists.{is_item}
 use Rattle.markdown_gutters.specs.Signs.{after_box, box_of, after_line, alert_of}
 use Rattle.markdown_gutters.specs.declared.forms.Form.{Form}
 use Rattle.markdown_gutters.specs.declared.forms.Form.TheVariants.{Words, Large, Listed, Boxed}
-use Rattle.markdown_reader.specs.Definitions.{definitions_of}
+use Rattle.markdown_definitions.specs.Definitions.{definitions_of}
 use Rattle.mad_mark_runs.specs.declared.mark_runs.MarkRun.{MarkRun}
 use Rattle.markdown_tones.specs.Fences.{fence_marks}
 use Rattle.markdown_reader.specs.Mapping.{Mapping, nothing_shown, new_gutter, with_last, is_spaced, spaced, blank_row, linked, section_of, put, passed, list_ended, begun, item_ended, ended_by, text_of, words, addresses_in, words_shown, task_by, alert_line, alert_by, paragraph_by, heading_style, table_addresses, code_shown, leaf_shown, shown_part, shown_parts, with_marks}

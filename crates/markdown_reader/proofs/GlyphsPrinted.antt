@@ -15,10 +15,9 @@ use Rattle.markdown_inlines.specs.Styled.{Shown}
 use Rattle.markdown_inlines.proofs.PrintableLemmas.{shown_is, from_shown}
 use Rattle.mad_md.specs.Flagged.{Run}
 use Rattle.mad_md.specs.Lines.{LineContent}
-use Rattle.markdown_lines.specs.Glyphs.{glyph_of, leaf_glyphs, is_edge, without_front, without_back, trimmed, space, spaced_from, is_same_flags, run_with, runs_from, runs_of}
+use Rattle.markdown_lines.specs.Glyphs.{glyph_of, leaf_glyphs, is_edge, without_front, without_back, trimmed, space, spaced_from, is_same_run, run_with, runs_from, runs_of}
 use Rattle.markdown_lines.specs.Leaf.{row_of, rows_from, leaf_rows, cell_runs}
 use Rattle.markdown_lines.specs.declared.glyphs.Glyph.{Glyph}
-use Rattle.markdown_lines.specs.declared.places.RunFlags.{RunFlags}
 use Rattle.markdown_lines.specs.Printed.{is_obeyed, IsPrintedRun, IsPrintedLine, ArePrinted}
 
 -- ---- characters
@@ -117,16 +116,16 @@ if_runs : (t : Bool) (a b : List Run) → AllByRecursion IsPrintedRun a → AllB
 if_runs true a b h k = h
 if_runs false a b h k = k
 
-from_printed : (flags : RunFlags) (text : List ℕ) (gs : List Glyph) → NoCharPasses is_obeyed text → AllByRecursion IsClean gs → AllByRecursion IsPrintedRun (runs_from flags text gs)
+from_printed : (first : Glyph) (text : List ℕ) (gs : List Glyph) → NoCharPasses is_obeyed text → AllByRecursion IsClean gs → AllByRecursion IsPrintedRun (runs_from first text gs)
 unfolding runs_from
-from_printed flags text [] h k = (h, tt)
-from_printed flags text (g ∷ gs) h k =
-    if_runs (is_same_flags flags g.flags) (runs_from flags (text ++ encode_utf8 g.c) gs) (run_with flags text ∷ runs_from g.flags (encode_utf8 g.c) gs)
-    (from_printed flags (text ++ encode_utf8 g.c) gs (text_more text g.c h k.0) k.1) (h, from_printed g.flags (encode_utf8 g.c) gs (one_text g.c k.0) k.1)
+from_printed first text [] h k = (h, tt)
+from_printed first text (g ∷ gs) h k =
+    if_runs (is_same_run first g) (runs_from first (text ++ encode_utf8 g.c) gs) (run_with first.flags text ∷ runs_from g (encode_utf8 g.c) gs)
+    (from_printed first (text ++ encode_utf8 g.c) gs (text_more text g.c h k.0) k.1) (h, from_printed g (encode_utf8 g.c) gs (one_text g.c k.0) k.1)
 
 clean_runs : (gs : List Glyph) → AllByRecursion IsClean gs → AllByRecursion IsPrintedRun (runs_of gs)
 clean_runs [] h = tt
-clean_runs (g ∷ gs) h = from_printed g.flags (encode_utf8 g.c) gs (one_text g.c h.0) h.1
+clean_runs (g ∷ gs) h = from_printed g (encode_utf8 g.c) gs (one_text g.c h.0) h.1
 
 -- ---- rows
 

@@ -15,7 +15,9 @@ use Rattle.markdown_lines.specs.Leaf.{shown_text, plain_row, html_row, html_line
 use Rattle.markdown_reader.proofs.GlyphsPrinted.{none_obeyed, none_append, nothing_printed, cons_printed, cell_printed}
 use Rattle.markdown_lines.specs.Printed.{is_obeyed, IsPrintedRun, IsPrintedCell, IsPrintedLine, ArePrinted}
 use Rattle.markdown_lines.specs.Restyled.{empty_line, row_runs, restyled}
-use Rattle.markdown_lines.specs.Tables.{row_of, after_cell, cells, shown_cells, row_said, alignments, body, ruled, table_lines}
+use Rattle.markdown_cells.specs.Cells.{after_cell, alignments}
+use Rattle.markdown_marks.specs.Tables.{row_of}
+use Rattle.markdown_lines.specs.Tables.{cells, shown_cells, row_said, body, ruled, table_lines}
 
 -- ---- characters
 

@@ -17,13 +17,14 @@ use Rattle.markdown_leaves.specs.Parts.{PartContent, begins, ends, block}
 use Rattle.markdown_leaves.specs.Told.{parts_of}
 use Rattle.markdown_leaves.specs.declared.parts.Kind.{Kind}
 use Rattle.markdown_leaves.specs.declared.parts.Kind.TheVariants.{Nothing, Paragraph as ParagraphKind, Heading, Indented, Fenced, Html, Table, Rule, Definitions}
-use Rattle.markdown_lines.specs.Tables.{cell_text, after_cell, cells_addresses, row_addresses, rows_links, table_lines}
+use Rattle.markdown_cells.specs.Cells.{cell_text, after_cell}
+use Rattle.markdown_lines.specs.Tables.{cells_addresses, row_addresses, rows_links, table_lines}
 use Rattle.markdown_gutters.specs.Forms.{is_big}
 use Rattle.markdown_gutters.specs.Lists.{is_item}
 use Rattle.markdown_gutters.specs.Signs.{after_box, box_of, after_line, alert_of}
 use Rattle.markdown_gutters.specs.declared.forms.Form.{Form}
 use Rattle.markdown_gutters.specs.declared.forms.Form.TheVariants.{Words, Large, Listed, Boxed}
-use Rattle.markdown_reader.specs.Definitions.{label_of, with_definition, defined_or, defined_in, leaf_defined, part_defined, parts_defined, nothing_defined, definitions_of}
+use Rattle.markdown_definitions.specs.Definitions.{label_of, with_definition, defined_or, defined_in, leaf_defined, part_defined, parts_defined, nothing_defined, definitions_of}
 use Rattle.markdown_reader.specs.Markdown.{unmarked_links}
 use Rattle.mad_md.specs.Lines.{LineContent, horizontal_rule}
 use Rattle.mad_md.specs.declared.composite.CompositeStyle.TheVariants.{Paragraph}

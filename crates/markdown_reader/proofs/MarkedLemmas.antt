@@ -36,7 +36,7 @@ use Rattle.markdown_gutters.specs.Signs.{after_box, box_of, after_line, alert_of
 use Rattle.markdown_gutters.specs.declared.forms.Form.{Form}
 use Rattle.markdown_gutters.specs.declared.forms.Form.TheVariants.{Words, Large, Listed, Boxed}
 use Rattle.markdown_tones.specs.Fences.{fence_language, fence_marks, marks_in}
-use Rattle.markdown_reader.specs.Definitions.{definitions_of}
+use Rattle.markdown_definitions.specs.Definitions.{definitions_of}
 use Rattle.markdown_reader.specs.Mapping.{Mapping, nothing_shown, new_gutter, with_last, is_spaced, spaced, blank_row, linked, section_of, put, added, passed, list_ended, begun, closed, item_ended, ended_by, words, addresses_in, words_shown, task_by, alert_line, alert_by, paragraph_by, heading_style, table_addresses, code_shown, leaf_shown, shown_part, shown_parts, with_marks}
 use Rattle.markdown_reader.specs.Markdown.{printable_sections}
 use Rattle.markdown_reader.specs.Marked.{SectionsAreMarked, ShowsFence, kind_marks, part_marks}

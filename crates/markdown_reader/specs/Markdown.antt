@@ -5,7 +5,7 @@ use Rattle.markdown_leaves.specs.Told.{parts_of}
 use Rattle.markdown_lines.specs.Texts.{behind_mark}
 use Rattle.mad_sections.specs.Sections.{SectionContent}
 pub use Rattle.markdown_reader.specs.Steady.{steady_sections, AreSteadySections}
-use Rattle.markdown_reader.specs.Definitions.{definitions_of}
+use Rattle.markdown_definitions.specs.Definitions.{definitions_of}
 use Rattle.markdown_reader.specs.Mapping.{LinkSaid, Mapping, nothing_shown, shown_parts}
 
 -- what parts are shown as, by all definitions among them

@@ -1,6 +1,8 @@
 //! Laws, each the contract of a small function: what is said of the sections of all texts.
 
 ghost use Rattle.markdown_reader.specs.Faces.{FacesOnce};
+ghost use Rattle.markdown_reader.specs.LeafLinks.{CellsHaveTheirLinks, RunsHaveTheirLinks};
+ghost use Rattle.markdown_reader.specs.LinkLaws.{LinksHaveMarks};
 ghost use Rattle.markdown_reader.specs.ListedSections.{SectionsMayBeListed};
 ghost use Rattle.markdown_reader.specs.Marked.{SectionsAreMarked};
 ghost use Rattle.markdown_reader.specs.Nested.{SectionsNest};
@@ -38,4 +40,19 @@ pub fn lines_are_plain()
 #[tactic(auto, using(crate::proofs::MarkedLemmas::sections_are_marked))]
 pub fn fences_have_their_marks()
     ensures { SectionsAreMarked }
+{}
+
+/// A section has marks for its links: each of its characters that belongs to a link and is no whitespace has one, in the order in which they are shown,
+/// and each mark is that of one of the section's links.
+#[tactic(auto, using(crate::proofs::LinkLawLemmas::links_have_marks))]
+pub fn links_have_marks()
+    ensures { LinksHaveMarks }
+{}
+
+/// The runs of a leaf, or of a table's cell, that belong to links have the bytes of the characters that do. They come in the same order, and each in
+/// the link of its character, apart from spaces.
+#[tactic(auto, using(crate::proofs::LeafLinkLemmas::runs_have_their_links, crate::proofs::LeafLinkLemmas::cells_have_their_links))]
+pub fn runs_have_their_links()
+    ensures leaves { RunsHaveTheirLinks }
+    ensures cells { CellsHaveTheirLinks }
 {}

@@ -1,6 +1,6 @@
 //! What the parts of a text are shown as.
 
-ghost use Rattle.std.specs.Prelude.{◌≡◌, ◌||◌, true, false, Some, [], ◌∷◌, ◌++◌, IfOk, OnOk, map, drop, string_bytes};
+ghost use Rattle.std.specs.Prelude.{◌≡◌, ◌||◌, true, false, Some, [], ◌∷◌, ◌++◌, IfOk, OnOk, map, drop, string_bytes, if◌then◌else◌};
 ghost use Rattle.markdown_marks.specs.Remaining.{remaining};
 ghost use Rattle.markdown_leaves.specs.Defining.{joined};
 ghost use Rattle.markdown_leaves.specs.Parts.{part_of};
@@ -10,10 +10,13 @@ ghost use Rattle.markdown_lines.specs.Leaf.{html_lines};
 ghost use Rattle.markdown_lines.specs.LinksOf.{defined_of};
 ghost use Rattle.markdown_lines.specs.Restyled.{restyled};
 ghost use Rattle.markdown_lines.specs.Shown.{shown};
+ghost use Rattle.markdown_lines.specs.TableNumbers.{table_numbers};
 ghost use Rattle.markdown_lines.specs.Tables.{table_lines};
 ghost use Rattle.markdown_gutters.specs.Signs.{alert_of, box_of};
 ghost use Rattle.markdown_reader.specs.Mapping.{nothing_shown, with_list, new_gutter, with_last, with_section, blank_row, is_spaced, spaced, linked, added, put, passed, list_ended, quote_begun, numbered, begun, item_ended, ended_by, closed, ended, text_of, words_shown, task_by, alert_line, alert_by, paragraph_by, heading_style, heading_shown, code_shown, table_addresses, leaf_shown, shown_part, shown_parts};
 ghost use Rattle.markdown_reader.specs.MappingOf.{mapping_of};
+ghost use Rattle.markdown_reader.specs.NumbersIn.{numbers_in, section_numbers};
+ghost use Rattle.markdown_reader.specs.SectionNumbers.{added_numbers, alert_words, kind_numbers, paragraph_words, part_numbers, parts_numbers, task_words, words_numbers};
 ghost use Rattle.markdown_reader.specs.SectionsSaid.{lines_said, link_said, section_said};
 
 use crate::sections::{Link, MarkdownSection, addresses_of, push_links};
@@ -160,7 +163,8 @@ impl Mapper {
     ///
     /// Out of memory is the only error.
     pub fn new(alloc: Global) -> Result<Mapper, AllocError>
-        ensures { IfOk result (λ made. mapping_of made ≡ nothing_shown) }
+        ensures mapping { IfOk result (λ made. mapping_of made ≡ nothing_shown) }
+        ensures numbers { IfOk result (λ made. numbers_in made ≡ []) }
     {
         let mut lists = Vec::new(alloc);
         lists.push(no_list())?;
@@ -179,6 +183,32 @@ impl Mapper {
         })
     }
 
+    /// A mapper of its own that goes on from here. The sections and links so far stay with this one.
+    ///
+    /// # Errors
+    ///
+    /// Out of memory is the only error.
+    pub fn going_on(&self, alloc: Global) -> Result<Mapper, AllocError>
+        ensures { IfOk result (λ made. mapping_of made ≡ record (mapping_of self.now) { sections = []; links = [] }) }
+    {
+        let gutters = Vec::from_slice(alloc, &self.gutters)?;
+        let lists = Vec::from_slice(alloc, &self.lists)?;
+        let marks = Vec::from_slice(alloc, &self.marks)?;
+        Ok(Mapper {
+            sections: Vec::new(alloc),
+            links: Vec::new(alloc),
+            gutters,
+            seen: self.seen,
+            lists,
+            item_apart: self.item_apart,
+            since: self.since,
+            apart: self.apart,
+            some: self.some,
+            big: self.big,
+            marks,
+        })
+    }
+
     // ---- sections
 
     // The gutter of the innermost open container, if nothing of that is shown yet.
@@ -192,14 +222,16 @@ impl Mapper {
         }
     }
 
-    // Lines behind the gutters of all open containers.
+    // Lines behind the gutters of all open containers, with these numbers of links.
     fn add_section(
         &mut self,
         alloc: Global,
         form: Form,
         lines: Option<Lines>,
+        numbers: Vec<usize>,
     ) -> Result<(), AllocError>
-        ensures { OnOk result (mapping_of self.new ≡ with_section form (lines_said lines) (mapping_of self.old)) }
+        ensures mapping { OnOk result (mapping_of self.new ≡ with_section form (lines_said lines) (mapping_of self.old)) }
+        ensures numbers { OnOk result (numbers_in self.new ≡ numbers_in self.old ++ numbers.items ∷ []) }
     {
         let gutters = leaf_gutters(alloc, form, self.gutters.as_slice())?;
         let list = items_gutters(alloc, form, self.gutters.as_slice())?;
@@ -210,6 +242,7 @@ impl Mapper {
             fresh,
             list,
             marks,
+            numbers,
             lines,
         })?;
         self.seen = self.gutters.as_slice().len();
@@ -218,7 +251,8 @@ impl Mapper {
 
     // A blank row, behind the gutters of the containers that both neighbours are in, up to the last bar.
     fn add_blank(&mut self, alloc: Global) -> Result<(), AllocError>
-        ensures { OnOk result (mapping_of self.new ≡ record (mapping_of self.old) { sections = (mapping_of self.old).sections ++ blank_row (mapping_of self.old) ∷ [] }) }
+        ensures mapping { OnOk result (mapping_of self.new ≡ record (mapping_of self.old) { sections = (mapping_of self.old).sections ++ blank_row (mapping_of self.old) ∷ [] }) }
+        ensures numbers { OnOk result (numbers_in self.new ≡ numbers_in self.old ++ [] ∷ []) }
     {
         let both = first_gutters(self.gutters.as_slice(), self.seen);
         let gutters = Vec::from_slice(alloc, up_to_bar(both))?;
@@ -227,6 +261,7 @@ impl Mapper {
             fresh: 0,
             list: None,
             marks: Vec::new(alloc),
+            numbers: Vec::new(alloc),
             lines: None,
         })?;
         Ok(())
@@ -241,7 +276,8 @@ impl Mapper {
 
     // A blank row, where one comes next.
     fn space(&mut self, alloc: Global, apart: bool, big: bool) -> Result<(), AllocError>
-        ensures { OnOk result (mapping_of self.new ≡ spaced apart big (mapping_of self.old)) }
+        ensures mapping { OnOk result (mapping_of self.new ≡ spaced apart big (mapping_of self.old)) }
+        ensures numbers { OnOk result (numbers_in self.new ≡ numbers_in self.old ++ (if is_spaced apart big (mapping_of self.old) then [] ∷ [] else [])) }
     {
         if self.is_spaced(apart, big) {
             self.add_blank(alloc)
@@ -252,24 +288,27 @@ impl Mapper {
 
     // Adds links of the next section.
     fn link(&mut self, addresses: Vec<String>) -> Result<(), AllocError>
-        ensures { OnOk result (mapping_of self.new ≡ linked (map string_bytes addresses.items) (mapping_of self.old)) }
+        ensures mapping { OnOk result (mapping_of self.new ≡ linked (map string_bytes addresses.items) (mapping_of self.old)) }
+        ensures kept { OnOk result (numbers_in self.new ≡ numbers_in self.old) }
     {
         let section = self.sections.as_slice().len();
         push_links(&mut self.links, section, addresses)
     }
 
-    // Lines of a leaf, and where its links lead.
+    // Lines of a leaf, where its links lead, and which runs belong to them.
     fn add(
         &mut self,
         alloc: Global,
         form: Form,
         lines: Lines,
         addresses: Vec<String>,
+        numbers: Vec<usize>,
     ) -> Result<(), AllocError>
-        ensures { OnOk result (mapping_of self.new ≡ added form (shown lines) (map string_bytes addresses.items) (mapping_of self.old)) }
+        ensures mapping { OnOk result (mapping_of self.new ≡ added form (shown lines) (map string_bytes addresses.items) (mapping_of self.old)) }
+        ensures numbers { OnOk result (numbers_in self.new ≡ numbers_in self.old ++ numbers.items ∷ []) }
     {
         self.link(addresses)?;
-        self.add_section(alloc, form, Some(lines))?;
+        self.add_section(alloc, form, Some(lines), numbers)?;
         self.apart = false;
         self.some = true;
         self.big = is_big(form);
@@ -283,21 +322,24 @@ impl Mapper {
         form: Form,
         lines: Lines,
         addresses: Vec<String>,
+        numbers: Vec<usize>,
     ) -> Result<(), AllocError>
-        ensures { OnOk result (mapping_of self.new ≡ put form (shown lines) (map string_bytes addresses.items) (mapping_of self.old)) }
+        ensures mapping { OnOk result (mapping_of self.new ≡ put form (shown lines) (map string_bytes addresses.items) (mapping_of self.old)) }
+        ensures numbers { OnOk result (numbers_in self.new ≡ numbers_in self.old ++ added_numbers numbers.items (mapping_of self.old) (mapping_of self.new)) }
     {
         if lines.is_empty() {
             return Ok(());
         }
         self.space(alloc, self.apart, is_big(form))?;
-        self.add(alloc, form, lines, addresses)
+        self.add(alloc, form, lines, addresses, numbers)
     }
 
     // ---- containers
 
     // Blank lines came, or didn't.
     fn pass(&mut self, apart: bool)
-        ensures { mapping_of self.new ≡ passed apart (mapping_of self.old) }
+        ensures mapping { mapping_of self.new ≡ passed apart (mapping_of self.old) }
+        ensures kept { numbers_in self.new ≡ numbers_in self.old }
     {
         self.apart = either(self.apart, apart);
         self.since = either(self.since, apart);
@@ -305,7 +347,8 @@ impl Mapper {
 
     // The list in the innermost open container is this one.
     fn set_list(&mut self, list: Counted) -> Result<(), AllocError>
-        ensures { OnOk result (mapping_of self.new ≡ record (mapping_of self.old) { lists = with_list (mapping_of self.old).lists list }) }
+        ensures mapping { OnOk result (mapping_of self.new ≡ record (mapping_of self.old) { lists = with_list (mapping_of self.old).lists list }) }
+        ensures kept { OnOk result (numbers_in self.new ≡ numbers_in self.old) }
     {
         let count = self.lists.as_slice().len().saturating_sub(1);
         self.lists.truncate(count);
@@ -315,13 +358,15 @@ impl Mapper {
 
     // What isn't an item ends the list beside it.
     fn end_list(&mut self) -> Result<(), AllocError>
-        ensures { OnOk result (mapping_of self.new ≡ list_ended (mapping_of self.old)) }
+        ensures mapping { OnOk result (mapping_of self.new ≡ list_ended (mapping_of self.old)) }
+        ensures kept { OnOk result (numbers_in self.new ≡ numbers_in self.old) }
     {
         self.set_list(no_list())
     }
 
     fn begin_quote(&mut self) -> Result<(), AllocError>
-        ensures { OnOk result (mapping_of self.new ≡ quote_begun (mapping_of self.old)) }
+        ensures mapping { OnOk result (mapping_of self.new ≡ quote_begun (mapping_of self.old)) }
+        ensures kept { OnOk result (numbers_in self.new ≡ numbers_in self.old) }
     {
         self.set_list(no_list())?;
         self.lists.push(no_list())?;
@@ -331,7 +376,8 @@ impl Mapper {
 
     // An item with this number begins.
     fn begin_item(&mut self, sign: u8, number: u32) -> Result<(), AllocError>
-        ensures { OnOk result (mapping_of self.new ≡ numbered sign number (mapping_of self.old)) }
+        ensures mapping { OnOk result (mapping_of self.new ≡ numbered sign number (mapping_of self.old)) }
+        ensures kept { OnOk result (numbers_in self.new ≡ numbers_in self.old) }
     {
         self.set_list(list_after(sign, number))?;
         self.lists.push(no_list())?;
@@ -342,7 +388,8 @@ impl Mapper {
     }
 
     fn begin(&mut self, container: Container) -> Result<(), AllocError>
-        ensures { OnOk result (mapping_of self.new ≡ begun container (mapping_of self.old)) }
+        ensures mapping { OnOk result (mapping_of self.new ≡ begun container (mapping_of self.old)) }
+        ensures kept { OnOk result (numbers_in self.new ≡ numbers_in self.old) }
     {
         match container {
             Container::Quote => self.begin_quote(),
@@ -355,10 +402,11 @@ impl Mapper {
 
     // An item ends of which nothing was shown: it has a row where it began.
     fn end_item(&mut self, alloc: Global) -> Result<(), AllocError>
-        ensures { OnOk result (mapping_of self.new ≡ item_ended (mapping_of self.old)) }
+        ensures mapping { OnOk result (mapping_of self.new ≡ item_ended (mapping_of self.old)) }
+        ensures numbers { OnOk result (numbers_in self.new ≡ numbers_in self.old ++ added_numbers [] (mapping_of self.old) (mapping_of self.new)) }
     {
         self.space(alloc, self.item_apart, false)?;
-        self.add_section(alloc, Form::Words, None)?;
+        self.add_section(alloc, Form::Words, None, Vec::new(alloc))?;
         self.apart = self.since;
         self.some = true;
         self.big = false;
@@ -367,7 +415,8 @@ impl Mapper {
 
     // A container ends of which nothing was shown, or another one.
     fn end_new(&mut self, alloc: Global, gutter: Option<Gutter>) -> Result<(), AllocError>
-        ensures { OnOk result (mapping_of self.new ≡ ended_by gutter (mapping_of self.old)) }
+        ensures mapping { OnOk result (mapping_of self.new ≡ ended_by gutter (mapping_of self.old)) }
+        ensures numbers { OnOk result (numbers_in self.new ≡ numbers_in self.old ++ added_numbers [] (mapping_of self.old) (mapping_of self.new)) }
     {
         match gutter {
             Some(gutter) => {
@@ -383,7 +432,8 @@ impl Mapper {
 
     // The innermost container is closed.
     fn close(&mut self)
-        ensures { mapping_of self.new ≡ closed (mapping_of self.old) }
+        ensures mapping { mapping_of self.new ≡ closed (mapping_of self.old) }
+        ensures kept { numbers_in self.new ≡ numbers_in self.old }
     {
         let depth = self.gutters.as_slice().len().saturating_sub(1);
         self.gutters.truncate(depth);
@@ -393,7 +443,8 @@ impl Mapper {
     }
 
     fn end(&mut self, alloc: Global) -> Result<(), AllocError>
-        ensures { OnOk result (mapping_of self.new ≡ ended (mapping_of self.old)) }
+        ensures mapping { OnOk result (mapping_of self.new ≡ ended (mapping_of self.old)) }
+        ensures numbers { OnOk result (numbers_in self.new ≡ numbers_in self.old ++ added_numbers [] (mapping_of self.old) (mapping_of self.new)) }
     {
         let gutter = self.new_gutter();
         self.end_new(alloc, gutter)?;
@@ -409,16 +460,18 @@ impl Mapper {
         definitions: &Definitions,
         bytes: &[u8],
     ) -> Result<(), AllocError>
-        ensures { OnOk result (mapping_of self.new ≡ words_shown (defined_of definitions.now) bytes.now (mapping_of self.old)) }
+        ensures mapping { OnOk result (mapping_of self.new ≡ words_shown (defined_of definitions.now) bytes.now (mapping_of self.old)) }
+        ensures numbers { OnOk result (numbers_in self.new ≡ numbers_in self.old ++ added_numbers (words_numbers (defined_of definitions.now) bytes.now) (mapping_of self.old) (mapping_of self.new)) }
     {
         let text = text_of(alloc, bytes)?;
         let leaf = read_leaf(alloc, definitions, text.as_str())?;
-        self.put(alloc, Form::Words, leaf.rows, leaf.addresses)
+        self.put(alloc, Form::Words, leaf.rows, leaf.addresses, leaf.numbers)
     }
 
     // Another gutter in the place of the last.
     fn replace_gutter(&mut self, gutter: Gutter) -> Result<(), AllocError>
-        ensures { OnOk result (mapping_of self.new ≡ with_last gutter (mapping_of self.old)) }
+        ensures mapping { OnOk result (mapping_of self.new ≡ with_last gutter (mapping_of self.old)) }
+        ensures kept { OnOk result (numbers_in self.new ≡ numbers_in self.old) }
     {
         let depth = self.gutters.as_slice().len().saturating_sub(1);
         self.gutters.truncate(depth);
@@ -433,7 +486,8 @@ impl Mapper {
         definitions: &Definitions,
         bytes: &[u8],
     ) -> Result<(), AllocError>
-        ensures { OnOk result (mapping_of self.new ≡ task_by (box_of bytes.now) (defined_of definitions.now) bytes.now (mapping_of self.old)) }
+        ensures mapping { OnOk result (mapping_of self.new ≡ task_by (box_of bytes.now) (defined_of definitions.now) bytes.now (mapping_of self.old)) }
+        ensures numbers { OnOk result (numbers_in self.new ≡ numbers_in self.old ++ added_numbers (words_numbers (defined_of definitions.now) (task_words (box_of bytes.now) bytes.now)) (mapping_of self.old) (mapping_of self.new)) }
     {
         match box_of(bytes) {
             Some(done) => {
@@ -452,13 +506,14 @@ impl Mapper {
         alert: Alert,
         bytes: &[u8],
     ) -> Result<(), AllocError>
-        ensures { OnOk result (mapping_of self.new ≡ alert_by (Some alert) (defined_of definitions.now) bytes.now (mapping_of self.old)) }
+        ensures mapping { OnOk result (mapping_of self.new ≡ alert_by (Some alert) (defined_of definitions.now) bytes.now (mapping_of self.old)) }
+        ensures numbers { OnOk result (numbers_in self.new ≡ numbers_in self.old ++ added_numbers (words_numbers (defined_of definitions.now) (alert_words (Some alert) bytes.now)) (mapping_of self.old) (mapping_of self.new)) }
     {
         let text = text_of(alloc, after_line(bytes))?;
         let leaf = read_leaf(alloc, definitions, text.as_str())?;
         let lines = alert_rows(alloc, alert, &leaf.rows)?;
         self.replace_gutter(Gutter::AlertBar(alert))?;
-        self.put(alloc, Form::Words, lines, leaf.addresses)
+        self.put(alloc, Form::Words, lines, leaf.addresses, leaf.numbers)
     }
 
     // The first paragraph of a quote.
@@ -468,7 +523,8 @@ impl Mapper {
         definitions: &Definitions,
         bytes: &[u8],
     ) -> Result<(), AllocError>
-        ensures { OnOk result (mapping_of self.new ≡ alert_by (alert_of bytes.now) (defined_of definitions.now) bytes.now (mapping_of self.old)) }
+        ensures mapping { OnOk result (mapping_of self.new ≡ alert_by (alert_of bytes.now) (defined_of definitions.now) bytes.now (mapping_of self.old)) }
+        ensures numbers { OnOk result (numbers_in self.new ≡ numbers_in self.old ++ added_numbers (words_numbers (defined_of definitions.now) (alert_words (alert_of bytes.now) bytes.now)) (mapping_of self.old) (mapping_of self.new)) }
     {
         match alert_of(bytes) {
             Some(alert) => self.put_alert(alloc, definitions, alert, bytes),
@@ -484,7 +540,8 @@ impl Mapper {
         gutter: Option<Gutter>,
         bytes: &[u8],
     ) -> Result<(), AllocError>
-        ensures { OnOk result (mapping_of self.new ≡ paragraph_by gutter (defined_of definitions.now) bytes.now (mapping_of self.old)) }
+        ensures mapping { OnOk result (mapping_of self.new ≡ paragraph_by gutter (defined_of definitions.now) bytes.now (mapping_of self.old)) }
+        ensures numbers { OnOk result (numbers_in self.new ≡ numbers_in self.old ++ added_numbers (words_numbers (defined_of definitions.now) (paragraph_words gutter bytes.now)) (mapping_of self.old) (mapping_of self.new)) }
     {
         match gutter {
             Some(Gutter::Bullet) => self.show_task(alloc, definitions, bytes),
@@ -506,12 +563,13 @@ impl Mapper {
         level: usize,
         bytes: &[u8],
     ) -> Result<(), AllocError>
-        ensures { OnOk result (mapping_of self.new ≡ heading_shown (defined_of definitions.now) level bytes.now (mapping_of self.old)) }
+        ensures mapping { OnOk result (mapping_of self.new ≡ heading_shown (defined_of definitions.now) level bytes.now (mapping_of self.old)) }
+        ensures numbers { OnOk result (numbers_in self.new ≡ numbers_in self.old ++ added_numbers (words_numbers (defined_of definitions.now) bytes.now) (mapping_of self.old) (mapping_of self.new)) }
     {
         let text = text_of(alloc, bytes)?;
         let leaf = read_leaf(alloc, definitions, text.as_str())?;
         let lines = restyled(alloc, heading_style(level), &leaf.rows)?;
-        self.put(alloc, Form::Large, lines, leaf.addresses)
+        self.put(alloc, Form::Large, lines, leaf.addresses, leaf.numbers)
     }
 
     fn show_code(
@@ -520,20 +578,22 @@ impl Mapper {
         marks: Vec<MarkRun>,
         lines: &[Rest<'_>],
     ) -> Result<(), AllocError>
-        ensures { OnOk result (mapping_of self.new ≡ code_shown marks.items (map remaining lines.now) (mapping_of self.old)) }
+        ensures mapping { OnOk result (mapping_of self.new ≡ code_shown marks.items (map remaining lines.now) (mapping_of self.old)) }
+        ensures numbers { OnOk result (numbers_in self.new ≡ numbers_in self.old ++ added_numbers [] (mapping_of self.old) (mapping_of self.new)) }
     {
         let rows = code_rows(alloc, lines)?;
         self.marks = marks;
-        self.put(alloc, Form::Boxed, rows, Vec::new(alloc))?;
+        self.put(alloc, Form::Boxed, rows, Vec::new(alloc), Vec::new(alloc))?;
         self.marks = Vec::new(alloc);
         Ok(())
     }
 
     fn show_html(&mut self, alloc: Global, bytes: &[u8]) -> Result<(), AllocError>
-        ensures { OnOk result (mapping_of self.new ≡ put Form.Words (html_lines bytes.now) [] (mapping_of self.old)) }
+        ensures mapping { OnOk result (mapping_of self.new ≡ put Form.Words (html_lines bytes.now) [] (mapping_of self.old)) }
+        ensures numbers { OnOk result (numbers_in self.new ≡ numbers_in self.old ++ added_numbers [] (mapping_of self.old) (mapping_of self.new)) }
     {
         let rows = html_lines(alloc, bytes)?;
-        self.put(alloc, Form::Words, rows, Vec::new(alloc))
+        self.put(alloc, Form::Words, rows, Vec::new(alloc), Vec::new(alloc))
     }
 
     fn show_table(
@@ -543,20 +603,31 @@ impl Mapper {
         columns: usize,
         lines: &[Rest<'_>],
     ) -> Result<(), AllocError>
-        ensures { OnOk result (mapping_of self.new ≡ put Form.Listed (table_lines (defined_of definitions.now).labels columns (map remaining lines.now)) (table_addresses (defined_of definitions.now) columns (map remaining lines.now)) (mapping_of self.old)) }
+        ensures mapping { OnOk result (mapping_of self.new ≡ put Form.Listed (table_lines (defined_of definitions.now).labels columns (map remaining lines.now)) (table_addresses (defined_of definitions.now) columns (map remaining lines.now)) (mapping_of self.old)) }
+        ensures numbers { OnOk result (numbers_in self.new ≡ numbers_in self.old ++ added_numbers (table_numbers (defined_of definitions.now) 0 columns (map remaining lines.now)) (mapping_of self.old) (mapping_of self.new)) }
     {
         let mut rows = Lines::new(alloc);
         let mut links = Vec::new(alloc);
-        push_table(alloc, &mut rows, &mut links, definitions, columns, lines)?;
+        let mut numbers = Vec::new(alloc);
+        push_table(
+            alloc,
+            &mut rows,
+            &mut links,
+            &mut numbers,
+            definitions,
+            columns,
+            lines,
+        )?;
         let addresses = addresses_of(alloc, links)?;
-        self.put(alloc, Form::Listed, rows, addresses)
+        self.put(alloc, Form::Listed, rows, addresses, numbers)
     }
 
     fn show_rule(&mut self, alloc: Global) -> Result<(), AllocError>
-        ensures { OnOk result (mapping_of self.new ≡ put Form.Large (horizontal_rule ∷ []) [] (mapping_of self.old)) }
+        ensures mapping { OnOk result (mapping_of self.new ≡ put Form.Large (horizontal_rule ∷ []) [] (mapping_of self.old)) }
+        ensures numbers { OnOk result (numbers_in self.new ≡ numbers_in self.old ++ added_numbers [] (mapping_of self.old) (mapping_of self.new)) }
     {
         let row = rule_row(alloc)?;
-        self.put(alloc, Form::Large, row, Vec::new(alloc))
+        self.put(alloc, Form::Large, row, Vec::new(alloc), Vec::new(alloc))
     }
 
     fn show_leaf(
@@ -566,7 +637,8 @@ impl Mapper {
         kind: Kind,
         lines: &[Rest<'_>],
     ) -> Result<(), AllocError>
-        ensures { OnOk result (mapping_of self.new ≡ leaf_shown (defined_of definitions.now) kind (map remaining lines.now) (mapping_of self.old)) }
+        ensures mapping { OnOk result (mapping_of self.new ≡ leaf_shown (defined_of definitions.now) kind (map remaining lines.now) (mapping_of self.old)) }
+        ensures numbers { OnOk result (numbers_in self.new ≡ numbers_in self.old ++ added_numbers (kind_numbers (defined_of definitions.now) (new_gutter (mapping_of self.old)) kind (map remaining lines.now)) (mapping_of self.old) (mapping_of self.new)) }
     {
         match kind {
             Kind::Nothing | Kind::Definitions => Ok(()),
@@ -596,6 +668,8 @@ impl Mapper {
     /// Takes the sections so far.
     pub fn take_sections(&mut self, alloc: Global) -> Vec<MarkdownSection>
         ensures sections { map section_said result.items ≡ (mapping_of self.old).sections }
+        ensures numbers { map section_numbers result.items ≡ numbers_in self.old }
+        ensures none { numbers_in self.new ≡ [] }
         ensures rest { mapping_of self.new ≡ record (mapping_of self.old) { sections = [] } }
     {
         replace(&mut self.sections, Vec::new(alloc))
@@ -605,6 +679,7 @@ impl Mapper {
     pub fn take_links(&mut self, alloc: Global) -> Vec<Link>
         ensures links { map link_said result.items ≡ (mapping_of self.old).links }
         ensures rest { mapping_of self.new ≡ record (mapping_of self.old) { links = [] } }
+        ensures kept { numbers_in self.new ≡ numbers_in self.old }
     {
         replace(&mut self.links, Vec::new(alloc))
     }
@@ -617,7 +692,8 @@ impl Mapper {
         definitions: &Definitions,
         part: &Part<'_>,
     ) -> Result<(), AllocError>
-        ensures { OnOk result (mapping_of self.new ≡ shown_part (defined_of definitions.now) (part_of part.now) (mapping_of self.old)) }
+        ensures mapping { OnOk result (mapping_of self.new ≡ shown_part (defined_of definitions.now) (part_of part.now) (mapping_of self.old)) }
+        ensures numbers { OnOk result (numbers_in self.new ≡ numbers_in self.old ++ added_numbers (part_numbers (defined_of definitions.now) (mapping_of self.old) (part_of part.now)) (mapping_of self.old) (mapping_of self.new)) }
     {
         match part {
             Part::Begins(container, apart) => {
@@ -634,14 +710,15 @@ impl Mapper {
     }
 
     /// Parts of the text, one after the other.
-    #[tactic(auto, unfolding(crate::specs::Mapping::shown_parts))]
+    #[tactic(auto, unfolding(crate::specs::Mapping::shown_parts, crate::specs::SectionNumbers::parts_numbers))]
     pub fn show_all(
         &mut self,
         alloc: Global,
         definitions: &Definitions,
         parts: &[Part<'_>],
     ) -> Result<(), AllocError>
-        ensures { OnOk result (mapping_of self.new ≡ shown_parts (defined_of definitions.now) (map part_of parts.now) (mapping_of self.old)) }
+        ensures mapping { OnOk result (mapping_of self.new ≡ shown_parts (defined_of definitions.now) (map part_of parts.now) (mapping_of self.old)) }
+        ensures numbers { OnOk result (numbers_in self.new ≡ numbers_in self.old ++ parts_numbers (defined_of definitions.now) (map part_of parts.now) (mapping_of self.old)) }
     {
         let mut rest = parts;
         while let [part, next @ ..] = rest {

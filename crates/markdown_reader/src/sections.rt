@@ -7,8 +7,11 @@ ghost use Rattle.markdown_reader.specs.Mapping.{address_said, link_at};
 ghost use Rattle.mad_md.specs.Lines.{content_of};
 ghost use Rattle.mad_md.specs.declared.composite.CompositeStyle.TheVariants.{Paragraph};
 ghost use Rattle.markdown_lines.specs.Restyled.{empty_line};
+ghost use Rattle.mad_mark_runs.specs.Values.{AreRising};
+ghost use Rattle.markdown_reader.specs.NumbersIn.{section_link_marks};
 ghost use Rattle.markdown_reader.specs.SectionsSaid.{link_said, lines_said, section_said};
 
+use mad_link_marks::link_marks::{link_texts, text_marks};
 use mad_mark_runs::MarkRun;
 use mad_md::{Composite, CompositeStyle, Line, Text};
 use mad_sections::{Gutter, Section};
@@ -27,6 +30,8 @@ pub struct MarkdownSection {
     pub(crate) list: Option<Vec<Gutter>>,
     /// The marks of its counted characters.
     pub(crate) marks: Vec<MarkRun>,
+    /// For each run that belongs to a link, the number of this link among those of the section.
+    pub(crate) numbers: Vec<usize>,
     /// The lines; none where it is one row without text.
     pub(crate) lines: Option<Lines>,
 }
@@ -80,6 +85,26 @@ impl MarkdownSection {
             marks: self.marks.as_slice(),
             text: Text { lines },
         })
+    }
+
+    /// The marks of its characters that belong to links.
+    ///
+    /// # Errors
+    ///
+    /// Out of memory, which a mark or a count past `usize::MAX` is too.
+    #[tactic(auto, unfolding(mad_link_marks::specs::LinkMarks::marks_behind))]
+    pub(crate) fn link_marks(&self, alloc: Global) -> Result<Vec<MarkRun>, AllocError>
+        ensures marks { IfOk result (λ marks. marks.items ≡ section_link_marks self.now) }
+        ensures rising { IfOk result (λ marks. AreRising 0 marks.items) }
+    {
+        match self.numbers.as_slice() {
+            [] => Ok(Vec::new(alloc)),
+            numbers => {
+                let lines = self.text_lines(alloc)?;
+                let texts = link_texts(alloc, &lines)?;
+                text_marks(alloc, numbers, &texts)
+            }
+        }
     }
 }
 

@@ -8,7 +8,7 @@ use Rattle.markdown_leaves.specs.declared.parts.Kind.{Kind}
 use Rattle.markdown_leaves.specs.declared.parts.Kind.TheVariants.{Nothing, Paragraph, Heading, Indented, Fenced, Html, Table, Rule, Definitions}
 use Rattle.markdown_marks.specs.Remaining.{Remaining}
 use Rattle.markdown_lines.specs.Links.{Defined}
-use Rattle.markdown_reader.specs.Definitions.{leaf_defined, part_defined, parts_defined, nothing_defined, definitions_of}
+use Rattle.markdown_definitions.specs.Definitions.{leaf_defined, part_defined, parts_defined, nothing_defined, definitions_of}
 use Rattle.markdown_reader.specs.Mapping.{Mapping, passed, list_ended, leaf_shown, shown_part, shown_parts}
 use Rattle.markdown_reader.specs.Markdown.{printable_sections, unmarked_links}
 use Rattle.markdown_stream.specs.Known.{asks_nothing, AreKnown, defines_nothing}
@@ -40,7 +40,7 @@ without_words part defined other h m = part_same part defined other m h
 
 -- ---- parts
 
-known : (all : Defined) (parts : List PartContent) (s : Streamed) → AreKnown all s.defined parts → (parts_streamed parts s).mapping ≡ shown_parts all parts s.mapping
+pub known : (all : Defined) (parts : List PartContent) (s : Streamed) → AreKnown all s.defined parts → (parts_streamed parts s).mapping ≡ shown_parts all parts s.mapping
 unfolding parts_streamed shown_parts
 known all [] s h = refl
 known all (part ∷ parts) s h =
@@ -83,7 +83,7 @@ none_defined (part ∷ parts) defined h =
     let both = and_parts (defines_nothing part) (list_all defines_nothing parts) h in
     ap (λ (d : Defined). parts_defined d parts) (part_defines part defined both.0) ∙ none_defined parts defined both.1
 
-all_known : (parts : List PartContent) (defined : Defined) → list_all defines_nothing parts ≡ true → AreKnown defined defined parts
+pub all_known : (parts : List PartContent) (defined : Defined) → list_all defines_nothing parts ≡ true → AreKnown defined defined parts
 all_known [] defined h = tt
 all_known (part ∷ parts) defined h =
     let both = and_parts (defines_nothing part) (list_all defines_nothing parts) h in

@@ -10,3 +10,4 @@ pub mod ComeLemmas
 pub mod StreamLemmas
 pub mod PieceLemmas
 pub mod SourceLemmas
+pub mod OpenLemmas

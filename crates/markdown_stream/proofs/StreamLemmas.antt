@@ -57,7 +57,7 @@ page_joined : (marks : HeadingMarks) (first next : List SectionContent) → dres
 page_joined marks first next = ap (dressed_page marks) (map-append steady_section first next) ∙ pages_dressed marks (steady_sections first) (steady_sections next)
 
 -- rows of these sections stand below those that were
-more_laid : (skin : PageSkin) (width : Option ℕ) (first next : List SectionContent) (rows own : List RowContent) (sent before now : List ℕ)
+pub more_laid : (skin : PageSkin) (width : Option ℕ) (first next : List SectionContent) (rows own : List RowContent) (sent before now : List ℕ)
     → IsDressedAt skin width (steady_sections first) rows → dressed_bytes skin width rows ≡ sent ++ before
     → IsDressedAt skin width (steady_sections next) own → now ≡ before ++ dressed_bytes skin width own
     → IsDressedAt skin width (steady_sections (first ++ next)) (rows ++ own) × (dressed_bytes skin width (rows ++ own) ≡ sent ++ now)
@@ -81,7 +81,7 @@ some_of : (piece : List ℕ) → (length piece == 0) ≡ false → 0 < length pi
 some_of [] some = absurd (let e : true ≡ false = some in cc)
 some_of (b ∷ piece) some = omega arith
 
-coming_on : (piece later : List ℕ) (fresh : Bool) → IsUtf8 piece → coming fresh (piece ++ later) ≡ coming fresh piece ++ coming (still_fresh fresh piece) later
+pub coming_on : (piece later : List ℕ) (fresh : Bool) → IsUtf8 piece → coming fresh (piece ++ later) ≡ coming fresh piece ++ coming (still_fresh fresh piece) later
 coming_on piece later false u = refl
 coming_on piece later true u = by (length piece == 0) refl
   where

@@ -3,7 +3,7 @@ use Rattle.std.proofs.Common.{◌≡◌, ℕ, List, [], ◌∷◌, ◌++◌, app
 use Rattle.std.specs.List.{flat_map}
 use Rattle.mad_sections.specs.Sections.{SectionContent}
 use Rattle.markdown_leaves.specs.Parts.{PartContent}
-use Rattle.markdown_reader.specs.Definitions.{part_defined}
+use Rattle.markdown_definitions.specs.Definitions.{part_defined}
 use Rattle.markdown_reader.specs.Mapping.{LinkSaid, Mapping}
 use Rattle.markdown_stream.specs.Come.{streamed_after}
 use Rattle.markdown_stream.specs.Laws.{CutsDontMatter, CutsDontMatterToLinks}

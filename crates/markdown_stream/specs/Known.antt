@@ -4,7 +4,7 @@ use Rattle.markdown_leaves.specs.Parts.{PartContent, block}
 use Rattle.markdown_leaves.specs.declared.parts.Kind.{Kind}
 use Rattle.markdown_leaves.specs.declared.parts.Kind.TheVariants.{Paragraph, Heading, Table, Definitions}
 use Rattle.markdown_lines.specs.Links.{Defined}
-use Rattle.markdown_reader.specs.Definitions.{part_defined}
+use Rattle.markdown_definitions.specs.Definitions.{part_defined}
 use Rattle.markdown_reader.specs.Mapping.{Mapping, shown_part}
 
 -- a leaf whose words may name a definition

@@ -12,7 +12,7 @@ use Rattle.markdown_leaves.specs.Parts.{PartContent, ends}
 use Rattle.markdown_leaves.specs.declared.parts.Kind.TheVariants.{Nothing}
 use Rattle.markdown_leaves.specs.Gather.{Gathering, closed}
 use Rattle.markdown_leaves.specs.Told.{happened, parts_of}
-use Rattle.markdown_reader.specs.Definitions.{definitions_of, nothing_defined}
+use Rattle.markdown_definitions.specs.Definitions.{definitions_of, nothing_defined}
 use Rattle.markdown_reader.specs.Mapping.{Mapping, shown_parts}
 use Rattle.markdown_reader.specs.Steady.{steady_sections}
 use Rattle.markdown_reader.specs.Markdown.{printable_sections, unmarked_sections, markdown_sections, unmarked_links}
@@ -22,6 +22,8 @@ use Rattle.markdown_lines.specs.Links.{Defined}
 use Rattle.markdown_lines.specs.Texts.{behind_mark}
 use Rattle.markdown_stream.specs.Streams.{IsStreamed}
 use Rattle.markdown_stream.specs.Known.{SaysTheSame, AreKnown, asks_nothing, defines_nothing}
+use Rattle.markdown_stream.specs.Come.{lines_streamed}
+use Rattle.markdown_stream.specs.OpenSections.{after_lines, open_sections}
 use Rattle.markdown_stream.specs.Readings.{Reading, nothing_read, lines_read, parts_read, parts_at_end, handed_on}
 use Rattle.markdown_stream.specs.Streamed.{streamed_sections, streamed_links}
 use Rattle.markdown_stream.specs.Streaming.{taken, shown_after, nothing_come, pieces_shown, sections_shown, links_shown}
@@ -98,3 +100,10 @@ abbrev pub KnownIsWrittenWhole : Type 0
 KnownIsWrittenWhole = (skin : PageSkin) (width : Option ℕ) (text bytes : List ℕ)
     → AreKnown (definitions_of (parts_of (behind_mark text))) nothing_defined (parts_of (behind_mark text)) → IsStreamed skin width text bytes
     → (rows : List RowContent) × IsDressedAt skin width (markdown_sections text) rows × (bytes ≡ dressed_bytes skin width rows)
+
+-- What the leaves that these lines complete show, and then what is open shows, is what the text shows that ends there, where nothing that is open
+-- defines a link.
+abbrev pub OpenIsStreamed : Type 0
+OpenIsStreamed = (text end : List ℕ) (lines : List (List ℕ)) → text_lines text ≡ lines ++ text_lines end
+    → list_all defines_nothing (parts_at_end (lines_read (after_lines lines).reading (text_lines end))) ≡ true
+    → streamed_sections text ≡ (lines_streamed lines).mapping.sections ++ open_sections end (after_lines lines)

@@ -5,6 +5,7 @@ pub mod Known
 pub mod ShowingOf
 pub mod Held
 pub mod Come
+pub mod OpenSections
 pub mod Streams
 pub mod Sources
 pub mod SourceSteps

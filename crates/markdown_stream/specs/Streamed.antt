@@ -4,7 +4,7 @@ use Rattle.mad_sections.specs.Sections.{SectionContent}
 use Rattle.markdown_leaves.specs.Parts.{PartContent}
 use Rattle.markdown_leaves.specs.Told.{parts_of}
 use Rattle.markdown_lines.specs.Links.{Defined}
-use Rattle.markdown_reader.specs.Definitions.{part_defined, nothing_defined}
+use Rattle.markdown_definitions.specs.Definitions.{part_defined, nothing_defined}
 use Rattle.markdown_reader.specs.Mapping.{LinkSaid, Mapping, nothing_shown, shown_part}
 
 -- The definitions so far, and what the parts so far are shown as.

@@ -1,6 +1,6 @@
 //! Laws, each the contract of a small function: what is shown of a text in pieces is what is shown of the whole.
 
-ghost use Rattle.markdown_stream.specs.Laws.{PartsComeInTurn, SectionsComeInTurn, CutsDontMatter, KnownIsWhole, KnownHasLinks, UndefinedIsWhole, DefinedInFrontIsWhole, WithoutWordsIsSame, RowsAreThoseOfTheWhole, NothingIsHeld, LinesComeInTurn, LeavesEndEarly, CutsDontMatterToLinks, KnownIsWrittenWhole};
+ghost use Rattle.markdown_stream.specs.Laws.{PartsComeInTurn, SectionsComeInTurn, CutsDontMatter, KnownIsWhole, KnownHasLinks, UndefinedIsWhole, DefinedInFrontIsWhole, WithoutWordsIsSame, RowsAreThoseOfTheWhole, NothingIsHeld, LinesComeInTurn, LeavesEndEarly, CutsDontMatterToLinks, KnownIsWrittenWhole, OpenIsStreamed};
 
 /// Whatever comes after some lines, the parts that they complete are the first ones of the text.
 #[tactic(auto, using(crate::proofs::ReadingLemmas::parts_come_in_turn))]
@@ -84,4 +84,10 @@ pub fn cuts_dont_matter_to_links()
 /// Where each part says the same by the definitions that came up to it as by all, what goes out of pieces is what goes out of the whole text.
 pub fn known_is_written_whole()
     ensures { KnownIsWrittenWhole }
+{}
+
+/// What the complete leaves show, and then what is open shows, is what the text shows that ends there, where nothing that is open defines a link.
+#[tactic(auto, using(crate::proofs::OpenLemmas::open_is_streamed))]
+pub fn open_is_streamed()
+    ensures { OpenIsStreamed }
 {}

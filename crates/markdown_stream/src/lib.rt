@@ -5,12 +5,14 @@
 //!
 //! 1. [`open_leaf`]: the leaf that is open between two lines, which owns its lines.
 //! 2. [`showing`]: what the parts so far are shown as, and what the next ones depend on.
-//! 3. [`section_stream`]: a text in pieces, as sections.
-//! 4. [`stream`]: a text in pieces, whose rows go out leaf by leaf.
-//! 5. [`pieces`]: a text that is given in pieces; [`sources`]: one that a source gives.
-//! 6. [`laws`]: what is shown of pieces is what is shown of the whole.
+//! 3. [`ahead`]: what a text tells if it goes on so.
+//! 4. [`section_stream`]: a text in pieces, as sections.
+//! 5. [`stream`]: a text in pieces, whose rows go out leaf by leaf.
+//! 6. [`pieces`]: a text that is given in pieces; [`sources`]: one that a source gives.
+//! 7. [`laws`]: what is shown of pieces is what is shown of the whole.
 #![tactic(auto)]
 
+mod ahead;
 pub mod laws;
 mod open_leaf;
 mod pieces;
@@ -23,4 +25,4 @@ pub use pieces::write_markdown_pieces_on;
 pub use section_stream::SectionStream;
 pub use showing::Showing;
 pub use sources::write_markdown_source_on;
-pub use stream::MarkdownStream;
+pub use stream::{MarkdownStream, coming, still_fresh};

@@ -87,6 +87,13 @@ impl OpenLeaf {
         }
     }
 
+    /// What it is.
+    pub(crate) fn kind(&self) -> Kind
+        ensures { result ≡ (gathering_held self.now).kind }
+    {
+        self.kind
+    }
+
     /// The leaf goes on with this line.
     pub(crate) fn push(&mut self, alloc: Global, line: Rest<'_>) -> Result<(), AllocError>
         ensures { OnOk result (gathering_held self.new ≡ gone_on (remaining line.entry) (gathering_held self.old)) }

@@ -6,13 +6,16 @@ ghost use Rattle.markdown_reader.specs.MarkdownSays.{markdown_says};
 ghost use Rattle.markdown_reader.specs.Steady.{steady_sections};
 ghost use Rattle.markdown_stream.specs.Come.{HasCome, Comes, Takes, Ends, sections_there};
 ghost use Rattle.markdown_stream.specs.Held.{streaming_of};
+ghost use Rattle.markdown_stream.specs.OpenSections.{open_sections};
 ghost use Rattle.markdown_stream.specs.Streaming.{nothing_come, line_come, text_come, end_shown, gathered, taken_now, is_text, goes_on};
 
+use crate::ahead::{ended_parts, read_all_ahead};
 use crate::open_leaf::OpenLeaf;
 use crate::showing::Showing;
 use mad_stream::cut_line as cut_source_line;
 use markdown_blocks::lines::cut_line;
 use markdown_blocks::{BlockReader, Deed, LineRead};
+use markdown_leaves::Kind;
 use markdown_reader::Markdown;
 use std::alloc::{AllocError, Global};
 use std::mem::replace;
@@ -91,6 +94,36 @@ impl SectionStream {
     {
         let read = self.showing.take(alloc)?;
         Ok(read)
+    }
+
+    /// The line that has begun: what came behind the last newline.
+    pub fn begun_line(&self) -> &[u8]
+        ensures { result.now ≡ string_bytes self.now.line }
+    {
+        self.line.as_bytes()
+    }
+
+    /// What the leaf is that is open after the last newline.
+    pub fn open_kind(&self) -> Kind
+        ensures { result ≡ (streaming_of self.now).reading.gathering.kind }
+    {
+        self.leaf.kind()
+    }
+
+    /// What the leaf that is open shows, if the text ends with this in place of the line that has begun. A definition counts once its leaf is
+    /// complete. Nothing is taken.
+    ///
+    /// # Errors
+    ///
+    /// Out of memory.
+    pub fn read_open<'t>(&'t self, alloc: Global, end: &'t [u8]) -> Result<Markdown, AllocError>
+        ensures { IfOk result (λ read. markdown_says read ≡ steady_sections (open_sections end.entry.now (streaming_of self.entry.now))) }
+    {
+        let mut reader = self.reader.copied(alloc)?;
+        let mut gatherer = self.leaf.gatherer(alloc)?;
+        read_all_ahead(alloc, &mut reader, &mut gatherer, end)?;
+        let parts = ended_parts(alloc, &reader, gatherer)?;
+        self.showing.read_next(alloc, &parts)
     }
 
     // The line that has begun ends so.

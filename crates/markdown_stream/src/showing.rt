@@ -3,15 +3,16 @@
 ghost use Rattle.std.specs.Prelude.{◌≡◌, IfOk, OnOk, map};
 ghost use Rattle.markdown_leaves.specs.Parts.{part_of};
 ghost use Rattle.markdown_reader.specs.MarkdownSays.{markdown_says, links_said};
+ghost use Rattle.markdown_reader.specs.Mapping.{shown_parts};
 ghost use Rattle.markdown_reader.specs.Steady.{steady_sections};
 ghost use Rattle.markdown_stream.specs.ShowingOf.{streamed_of};
 ghost use Rattle.markdown_stream.specs.Streamed.{nothing_streamed, part_streamed, parts_streamed};
-ghost use Rattle.markdown_stream.specs.Streaming.{taken_from};
+ghost use Rattle.markdown_stream.specs.Streaming.{taken, taken_from};
 
+use markdown_definitions::definitions::{no_definitions, push_part_definitions};
 use markdown_leaves::Part;
 use markdown_lines::links::Definitions;
 use markdown_reader::Markdown;
-use markdown_reader::definitions::{no_definitions, push_part_definitions};
 use markdown_reader::mapper::Mapper;
 use std::alloc::{AllocError, Global};
 
@@ -79,5 +80,18 @@ impl Showing {
         ensures rest { OnOk result (streamed_of self.new ≡ taken_from (streamed_of self.old)) }
     {
         Markdown::take(alloc, &mut self.mapper)
+    }
+
+    /// What these parts are shown as if they come next, by the definitions so far. Nothing changes.
+    ///
+    /// # Errors
+    ///
+    /// Out of memory is the only error.
+    pub fn read_next(&self, alloc: Global, parts: &[Part<'_>]) -> Result<Markdown, AllocError>
+        ensures { IfOk result (λ read. markdown_says read ≡ steady_sections (shown_parts (streamed_of self.now).defined (map part_of parts.now) (taken (streamed_of self.now).mapping)).sections) }
+    {
+        let mut mapper = self.mapper.going_on(alloc)?;
+        mapper.show_all(alloc, &self.definitions, parts)?;
+        Markdown::take(alloc, &mut mapper)
     }
 }

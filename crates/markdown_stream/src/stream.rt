@@ -140,15 +140,15 @@ impl MarkdownStream {
     }
 }
 
-// What a piece adds to a text behind its byte order mark: all of it, unless nothing came before.
-fn coming(fresh: bool, piece: &str) -> &str
+/// What a piece adds to a text behind its byte order mark: all of it, unless nothing came before.
+pub fn coming(fresh: bool, piece: &str) -> &str
     ensures { result.now ≡ coming fresh piece.entry.now }
 {
     if fresh { behind_mark(piece) } else { piece }
 }
 
-// Whether nothing came yet.
-fn still_fresh(fresh: bool, piece: &str) -> bool
+/// Whether nothing came yet, once this piece came.
+pub fn still_fresh(fresh: bool, piece: &str) -> bool
     ensures { result ≡ still_fresh fresh piece.now }
 {
     fresh && piece.is_empty()

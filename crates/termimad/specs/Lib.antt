@@ -252,6 +252,10 @@ pub use Rattle.markdown_view.specs.MarkdownViews
 pub use Rattle.markdown_reader.specs.Markdown
 pub use Rattle.markdown_reader.specs.MarkdownSays
 pub use Rattle.markdown_reader.specs.Printed
+pub use Rattle.markdown_live.specs.Growing as GrowingMarkdown
+pub use Rattle.markdown_live.specs.LiveMarkdowns
+pub use Rattle.markdown_live.specs.ShownLines
+pub use Rattle.markdown_live.specs.Sources as LiveMarkdownSources
 pub use Rattle.markdown_stream.specs.Come as MarkdownComing
 pub use Rattle.markdown_stream.specs.Sources as MarkdownSources
 pub use Rattle.markdown_stream.specs.Streamed as StreamedMarkdown

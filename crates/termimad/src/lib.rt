@@ -1,8 +1,21 @@
 //! Markdown for terminals: the names that a program needs, from the crates that have them.
 //!
 //! Most names are at the top. What a text is, what a terminal takes and shows, and each other subject has a module of its own, with more
-//! names and with laws: [`md`], [`term`], [`keys`], [`screen`], [`frames`], [`draw`], [`wrap`], [`layout`], [`pages`], [`widths`], [`parse`], [`edit`], [`field`], [`list`], [`live`] and [`ask`].
+//! names and with laws: [`md`], [`events`], [`term`], [`keys`], [`screen`], [`frames`], [`draw`], [`wrap`], [`layout`], [`pages`], [`widths`], [`parse`], [`edit`], [`field`], [`list`], [`live`] and [`ask`].
 #![tactic(auto)]
+
+/// The blocks of Markdown as events and the inlines of a leaf as events, for programs that make something else of a text.
+pub mod events {
+    pub use markdown_definitions::definitions::definitions_of;
+    pub use markdown_destinations::destinations::{Destination, link_leads};
+    pub use markdown_events::{Event, Tag, read_events, read_placed};
+    pub use markdown_inline_events::{
+        Inline, InlineEvent, InlineTag, LinePlace, laws, leaf_source, line_places, read_inlines,
+    };
+    pub use markdown_inlines::inlines::LinkTarget;
+    pub use markdown_leaves::{Block, Kind, Part};
+    pub use markdown_lines::links::Definitions;
+}
 
 /// What a terminal takes, and what it shows.
 pub mod term {
@@ -95,6 +108,7 @@ pub mod list {
 pub mod live {
     pub use mad_live::laws;
     pub use mad_stream::laws as text_laws;
+    pub use markdown_live::laws as page_laws;
 }
 
 /// Questions, and what can be answered.
@@ -284,6 +298,10 @@ pub use markdown_layout::DressedMarkdown;
 pub use markdown_layout::draw_markdown;
 pub use markdown_layout::write_markdown_on;
 pub use markdown_layout::write_page_on;
+pub use markdown_live::LiveMarkdown;
+pub use markdown_live::show_markdown_pieces_on;
+pub use markdown_live::show_markdown_source_on;
+pub use markdown_live::shown_line;
 pub use markdown_reader::Link;
 pub use markdown_reader::Markdown;
 pub use markdown_stream::MarkdownStream;

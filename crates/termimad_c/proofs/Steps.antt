@@ -18,14 +18,14 @@ use Rattle.termimad.specs.declared.FmtLine.{FmtLine}
 use Rattle.termimad.specs.declared.MadSkin.{MadSkin}
 use Rattle.mad_page_skin.specs.PageSkins.{page_skin_of}
 use Rattle.mad_page_skin.specs.declared.page_skin.PageSkin.{PageSkin}
-use Rattle.termimad_run.specs.GivenSkins.{page_skin_given, skin_given, RefusesPageSkin as RefusesPageWord, RefusesSkin as RefusesWord}
+use Rattle.termimad_words.specs.GivenSkins.{page_skin_given, skin_given, RefusesPageSkin as RefusesPageWord, RefusesSkin as RefusesWord}
 use Rattle.termimad_run.specs.ProgramRuns.{WritesCall, ShowsCall}
 use Rattle.termimad_run.specs.declared.call.Command.{Command}
-use Rattle.termimad_run.specs.declared.failure.Failure.{Failure}
-use Rattle.termimad_run.specs.declared.failure.Failure.TheVariants as failure
+use Rattle.termimad_words.specs.declared.failure.Failure.{Failure}
+use Rattle.termimad_words.specs.declared.failure.Failure.TheVariants as failure
 use Rattle.termimad_c.specs.Answers.{HandsOut, HandsOutParts, bit, refusal_of}
 use Rattle.mad_frames.specs.Gathered.{untouched}
-use Rattle.termimad_c.specs.Inputs.{word_given, IsNoText, IsPageSkinOf, IsSkinOf, IsTextSoFar, RefusesPage, RefusesPageSkin, RefusesSkin, RefusesCall, RefusesParts, alignment_number}
+use Rattle.termimad_c.specs.Inputs.{word_given, IsNoText, IsPageSkinOf, IsSkinOf, IsTextSoFar, RefusesCode, RefusesPage, RefusesPageSkin, RefusesSkin, RefusesCall, RefusesParts, alignment_number}
 use Rattle.termimad_c.specs.Making.{ArePartsOf, IsPageWritten, IsWritten, IsRowCount, IsFittedLine}
 use Rattle.termimad_c.specs.declared.answer.Answer.{Answer}
 use Rattle.termimad_c.specs.declared.answer.Progress.{Progress}
@@ -87,6 +87,17 @@ page_refused Wrong text word NotUtf8 h = h
 page_refused Wrong text word Skin h = h
 page_refused Wrong text word Memory h = h
 page_refused Wrong text word Condition h = absurd h
+
+-- code is refused for what is no text: the word of its language
+pub code_refused : (Wrong : Type 0) (text language word : List ℕ) (refusal : Refusal) → (refusal ≡ NotUtf8) × (¬ (IsUtf8 language)) → RefusesCode Wrong text language word refusal
+code_refused Wrong text language word refusal (is, none) = subst (RefusesCode Wrong text language word) (sym is) (inl none)
+
+-- code is refused as a page is that has no numbers
+pub code_in_page : (Wrong : Type 0) (text language word : List ℕ) (refusal : Refusal) → RefusesPage ⊥ text word refusal → RefusesCode Wrong text language word refusal
+code_in_page Wrong text language word NotUtf8 h = inr h
+code_in_page Wrong text language word Skin h = h
+code_in_page Wrong text language word Memory h = h
+code_in_page Wrong text language word Condition h = absurd h
 
 -- the skin of a page for a word that is a text
 pub page_skin_read : (word text : List ℕ) (given : Option (List ℕ)) (skin : PageSkin) (unknown : List (List ℕ)) → IsUtf8 word → text ≡ word → given ≡ word_given text → page_skin_given given ≡ Some (skin, unknown) → IsPageSkinOf word skin

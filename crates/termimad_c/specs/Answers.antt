@@ -1,7 +1,7 @@
 -- What a call answers, and what is in the caller's buffer then.
 use Rattle.std.specs.Prelude.{◌≡◌, ℕ, ◌≤◌, ◌<◌, ◌⊎◌, Bool, true, false, List, ◌++◌, length, take, drop}
-use Rattle.termimad_run.specs.declared.failure.Failure.{Failure}
-use Rattle.termimad_run.specs.declared.failure.Failure.TheVariants as failure
+use Rattle.termimad_words.specs.declared.failure.Failure.{Failure}
+use Rattle.termimad_words.specs.declared.failure.Failure.TheVariants as failure
 use Rattle.termimad_c.specs.declared.answer.Answer.{Answer}
 use Rattle.termimad_c.specs.declared.answer.Progress.{Progress}
 use Rattle.termimad_c.specs.declared.answer.Refusal.{Refusal}

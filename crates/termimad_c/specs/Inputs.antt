@@ -7,7 +7,7 @@ use Rattle.termimad.specs.declared.Alignment.TheVariants.{Unspecified, Left, Cen
 use Rattle.termimad.specs.declared.Area.{Area}
 use Rattle.termimad.specs.declared.MadSkin.{MadSkin}
 use Rattle.mad_page_skin.specs.declared.page_skin.PageSkin.{PageSkin}
-use Rattle.termimad_run.specs.GivenSkins.{page_skin_given, skin_given}
+use Rattle.termimad_words.specs.GivenSkins.{page_skin_given, skin_given}
 use Rattle.termimad_c.specs.declared.answer.Refusal.{Refusal}
 use Rattle.termimad_c.specs.declared.answer.Refusal.TheVariants.{Condition, NotUtf8, Skin, Memory}
 
@@ -65,6 +65,13 @@ RefusesPage Wrong text word Condition = Wrong
 RefusesPage Wrong text word NotUtf8 = (¬ (IsUtf8 text)) ⊎ (¬ (IsUtf8 word))
 RefusesPage Wrong text word Skin = page_skin_given (word_given word) ≡ None
 RefusesPage Wrong text word Memory = Unit {0}
+
+-- Why a text of code, the word of its language and the skin of a page are refused by a call whose numbers are wrong where this is so.
+abbrev pub RefusesCode : Type 0 → List ℕ → List ℕ → List ℕ → Refusal → Type 0
+RefusesCode Wrong text language word Condition = Wrong
+RefusesCode Wrong text language word NotUtf8 = (¬ (IsUtf8 language)) ⊎ ((¬ (IsUtf8 text)) ⊎ (¬ (IsUtf8 word)))
+RefusesCode Wrong text language word Skin = page_skin_given (word_given word) ≡ None
+RefusesCode Wrong text language word Memory = Unit {0}
 
 -- why a text that goes on or ends there, at a width, and a skin are refused
 abbrev pub RefusesParts : List ℕ → List ℕ → ℕ → Bool → Refusal → Type 0

@@ -1,5 +1,6 @@
 -- The bytes that a call makes of a text, in the skin of a word.
 use Rattle.std.specs.Prelude.{◌≡◌, ℕ, ◌≤◌, ◌<◌, ◌^◌, Bool, List, Some, None, false, Ok, IsUtf8, chars, encode_utf8_all, length}
+use Rattle.std.specs.Borrow.{Bor}
 use Rattle.termimad.specs.Fitting.{IsCompositeFitted}
 use Rattle.termimad.specs.Inlines.{IsInlineOf}
 use Rattle.termimad.specs.Layouts.{IsMarkdownLayout}
@@ -19,7 +20,7 @@ use Rattle.mad_page_skin.specs.PageSkins.{page_skin_of}
 use Rattle.mad_page_skin.specs.declared.page_skin.PageSkin.{PageSkin}
 use Rattle.termimad_run.specs.ProgramRuns.{WritesCall, ShowsCall}
 use Rattle.termimad_run.specs.declared.call.Command.{Command}
-use Rattle.termimad_run.specs.declared.call.Command.TheVariants.{InArea, AtWidth, AsMarkdown}
+use Rattle.termimad_run.specs.declared.call.Command.TheVariants.{InArea, AtWidth, AsMarkdown, AsCode}
 use Rattle.mad_frames.specs.Gathered.{untouched}
 use Rattle.termimad_c.specs.Inputs.{IsTextSoFar, IsPageSkinOf, IsSkinOf, IsAreaOf, alignment_number}
 
@@ -54,6 +55,11 @@ pub record IsPageWritten (text word : List ℕ) (command : Command) (whole : Lis
 -- so it writes what the text is as Markdown that people write
 abbrev pub IsMarkdownWritten : List ℕ → List ℕ → ℕ → List ℕ → Type 0
 IsMarkdownWritten text word width whole = (width < 2 ^ 16) × IsPageWritten text word (AsMarkdown width) whole
+
+-- so it writes what the text is as code in the language of this word, which is a text
+abbrev pub IsCodeWritten : List ℕ → List ℕ → List ℕ → ℕ → List ℕ → Type 0
+IsCodeWritten text language word width whole =
+    (width < 2 ^ 16) × IsUtf8 language × (given : Bor (List ℕ)) × (given.now ≡ language) × IsPageWritten text word (AsCode given width) whole
 
 -- The text has a layout of so many lines at this width, in the skin of this word. Each is one row.
 pub record IsRowCount (text word : List ℕ) (width count : ℕ) : Type 0 where

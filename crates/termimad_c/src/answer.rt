@@ -5,7 +5,7 @@ ghost use Rattle.termimad_c.specs.Answers.{HandsOut, HandsOutParts, IsNoProgress
 
 use std::alloc::AllocError;
 use termimad::Error;
-use termimad_run::Failure;
+use termimad_words::Failure;
 
 // All of it is in the buffer.
 const DONE: u32 = 0;

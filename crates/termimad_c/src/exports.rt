@@ -6,15 +6,15 @@
 ghost use Rattle.std.specs.Prelude.{◌≡◌, ◌⊎◌, ◌≤◌, ◌^◌, []};
 ghost use Rattle.termimad_run.specs.declared.call.Command.TheVariants.{Inline};
 ghost use Rattle.termimad_c.specs.Answers.{Answers, Counts, Progresses};
-ghost use Rattle.termimad_c.specs.Inputs.{RefusesCall, RefusesPage, RefusesParts, IsNoArea, IsNoFit, is_told};
+ghost use Rattle.termimad_c.specs.Inputs.{RefusesCall, RefusesCode, RefusesPage, RefusesParts, IsNoArea, IsNoFit, is_told};
 ghost use Rattle.termimad_c.specs.DataTables.{IsNoTable, IsTableWritten};
-ghost use Rattle.termimad_c.specs.Making.{IsWritten, IsAreaWritten, IsTextWritten, IsMarkdownWritten, IsRowCount, IsFittedLine, IsMadePrintable, ArePartsOf};
+ghost use Rattle.termimad_c.specs.Making.{IsWritten, IsAreaWritten, IsTextWritten, IsCodeWritten, IsMarkdownWritten, IsRowCount, IsFittedLine, IsMadePrintable, ArePartsOf};
 ghost use Rattle.termimad_c.specs.Outlines.{AreHeadingsOf, AreLinksOf};
 
 use crate::answer::{Answer, Progress, count_out, hand_out, hand_out_parts};
 use crate::making::{
-    area_bytes, fitted_bytes, inline_bytes, markdown_bytes, parts_made, printable_bytes,
-    rows_count, table_bytes, text_bytes,
+    area_bytes, code_bytes, fitted_bytes, inline_bytes, markdown_bytes, parts_made,
+    printable_bytes, rows_count, table_bytes, text_bytes,
 };
 use crate::outlines::{headings_bytes, links_bytes};
 use std::alloc::Global;
@@ -64,6 +64,21 @@ pub extern "C" fn termimad_markdown(
     ensures { Answers (IsMarkdownWritten text.now skin.now width) (RefusesPage (2 ^ 16 ≤ width) text.now skin.now) buffer.old result buffer.new }
 {
     hand_out(markdown_bytes(alloc, text, skin, width), buffer)
+}
+
+/// A text of code, in the language of a word or of a file of that name, laid out at a width, in columns: what `termimad-view code` writes.
+#[unsafe(no_mangle)]
+pub extern "C" fn termimad_code(
+    alloc: Global,
+    text: &[u8],
+    language: &[u8],
+    skin: &[u8],
+    width: usize,
+    buffer: &mut [u8],
+) -> Answer
+    ensures { Answers (IsCodeWritten text.now language.now skin.now width) (RefusesCode (2 ^ 16 ≤ width) text.now language.now skin.now) buffer.old result buffer.new }
+{
+    hand_out(code_bytes(alloc, text, language, skin, width), buffer)
 }
 
 /// The links of a text of Markdown as people write it, in the order in which they end, each as a line: the number of its section, a tab, and the address.

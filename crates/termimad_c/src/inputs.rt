@@ -7,7 +7,7 @@ ghost use Rattle.termimad_c.specs.Inputs.{AreAligned, IsTextSoFar, IsNoText, IsP
 use crate::answer::Refusal;
 use std::alloc::Global;
 use termimad::{Alignment, Area, MadSkin, PageSkin, cut_text};
-use termimad_run::{page_skin_of_word, skin_of};
+use termimad_words::{page_skin_of_word, skin_of};
 
 // The least width of an area, in columns.
 const LEAST_AREA_WIDTH: u16 = 4;

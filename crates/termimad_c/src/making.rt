@@ -3,9 +3,9 @@
 ghost use Rattle.std.specs.Prelude.{◌≡◌, ◌≤◌, ◌^◌, [], MatchResult};
 ghost use Rattle.termimad_run.specs.Calls.{IsAllowed};
 ghost use Rattle.termimad_run.specs.declared.call.Command.TheVariants.{Inline};
-ghost use Rattle.termimad_c.specs.Inputs.{RefusesCall, RefusesPage, RefusesParts, IsNoArea, IsNoFit};
+ghost use Rattle.termimad_c.specs.Inputs.{RefusesCall, RefusesCode, RefusesPage, RefusesParts, IsNoArea, IsNoFit};
 ghost use Rattle.termimad_c.specs.DataTables.{IsNoTable, IsTableWritten};
-ghost use Rattle.termimad_c.specs.Making.{IsWritten, IsAreaWritten, IsPageWritten, IsTextWritten, IsMarkdownWritten, IsRowCount, IsFittedLine, IsMadePrintable, ArePartsOf};
+ghost use Rattle.termimad_c.specs.Making.{IsWritten, IsAreaWritten, IsPageWritten, IsTextWritten, IsCodeWritten, IsMarkdownWritten, IsRowCount, IsFittedLine, IsMadePrintable, ArePartsOf};
 
 use crate::answer::{Parts, Refusal};
 use crate::inputs::{
@@ -57,6 +57,23 @@ pub fn markdown_bytes(
 {
     let width = number_of(width)?;
     page_written(alloc, text, skin, &Command::AsMarkdown(width))
+}
+
+/// A text of code at a width: the bytes of `termimad-view code`.
+#[tactic(auto, using(crate::proofs::Steps::code_refused, crate::proofs::Steps::code_in_page))]
+pub fn code_bytes(
+    alloc: Global,
+    text: &[u8],
+    language: &[u8],
+    skin: &[u8],
+    width: usize,
+) -> Result<Vec<u8>, Refusal>
+    ensures { MatchResult result (λ whole. IsCodeWritten text.now language.now skin.now width whole.items)
+        (RefusesCode (2 ^ 16 ≤ width) text.now language.now skin.now) }
+{
+    let width = number_of(width)?;
+    let language = text_of(language)?;
+    page_written(alloc, text, skin, &Command::AsCode(language, width))
 }
 
 /// A text as one line: the bytes of `termimad-view inline`.

@@ -8,8 +8,8 @@ use Rattle.std.specs.declared.io.ErrorKind.TheVariants.{OutOfMemory}
 use Rattle.mad_term.specs.Trace.{Trace}
 use Rattle.termimad_given.specs.Given.{Held}
 use Rattle.termimad_run.specs.Reading.{ReadingFails, ReadsWhole}
-use Rattle.termimad_run.specs.declared.failure.Failure.{Failure}
-use Rattle.termimad_run.specs.declared.failure.Failure.TheVariants.{Io, Memory}
+use Rattle.termimad_words.specs.declared.failure.Failure.{Failure}
+use Rattle.termimad_words.specs.declared.failure.Failure.TheVariants.{Io, Memory}
 use Rattle.termimad_command.specs.Refusals.{reading_by}
 use Rattle.termimad_command.specs.Texts.{FailsAtInput, IsReadAs, IsUnread, IsUnreadable, input_refusal}
 use Rattle.termimad_command.specs.declared.refusals.Refusal.{Refusal}

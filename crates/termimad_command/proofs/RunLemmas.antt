@@ -16,8 +16,8 @@ use Rattle.termimad_command.specs.Calls.{AreParted, Asks, RefusesCall, asks_plan
 use Rattle.termimad_command.specs.Refusals.{Says, status_of}
 use Rattle.termimad_command.specs.Runs.{Acts, Answers, Fulfils, HasRun, Outcome, Performs, ShowsTexts, TellsPlan, look_of, names_of, names_or_input, place_text}
 use Rattle.termimad_command.specs.Skins.{IsSkinOf, RefusesSkinWord}
-use Rattle.termimad_command.specs.Texts.{AreShown, FailsAmong, Streams, streams}
-use Rattle.termimad_command.specs.Written.{FlushesOut, WritesOut}
+use Rattle.termimad_command.specs.Texts.{AreShown, FailsAmong}
+use Rattle.termimad_command.specs.Written.{FlushesOut, Streams, WritesOut, streams}
 use Rattle.termimad_command.specs.declared.asking.Request.{Request}
 use Rattle.termimad_command.specs.declared.asking.Request.TheVariants.{Call as SomeCall, Answer}
 use Rattle.termimad_command.specs.declared.refusals.Refusal.{Refusal}

@@ -2,7 +2,7 @@
 use Rattle.std.proofs.Common.{◌≡◌, ℕ, List, String, string_bytes, subst, sym}
 use Rattle.std.specs.declared.alloc.Global.{Global}
 use Rattle.mad_term.specs.Trace.{Trace}
-use Rattle.termimad_run.specs.Failures.{SaysOnce}
+use Rattle.termimad_words.specs.Failures.{SaysOnce}
 use Rattle.termimad_command.specs.Refusals.{Says}
 use Rattle.termimad_command.specs.declared.refusals.Refusal.{Refusal}
 use Rattle.termimad_command.specs.declared.refusals.Refusal.TheVariants.{Mistaken}

@@ -1,13 +1,13 @@
 -- Texts that are shown one after the other.
-use Rattle.std.proofs.Common.{◌≡◌, ◌+◌, ◌<◌, ℕ, List, [], ◌∷◌, Option, Result, Ok, Err, refl, sym, subst, inl, inr, drop, get_or, length, map}
+use Rattle.std.proofs.Common.{◌≡◌, ◌+◌, ◌<◌, ℕ, Bool, true, false, List, [], ◌∷◌, Option, Result, Ok, Err, refl, sym, subst, inl, inr, drop, get_or, length, map}
 use Rattle.std.proofs.lemmas.List.{drop_more}
-use Rattle.std.specs.Prelude.{IsErrAnd, MatchResult}
+use Rattle.std.specs.Prelude.{IsErrAnd, MatchBool, MatchResult}
 use Rattle.mad_term.specs.Trace.{Trace}
 use Rattle.termimad_given.specs.Given.{Held}
 use Rattle.termimad_options.specs.Calls.{Reading}
 use Rattle.termimad_options.specs.Names.{reading_of_file}
-use Rattle.termimad_command.specs.Texts.{AreShown, FailsAmong, IsReadAs, IsShown, IsUnread, IsUnshown, Streams, streams}
-use Rattle.termimad_command.specs.Written.{WritesBytes}
+use Rattle.termimad_command.specs.Texts.{AreShown, FailsAmong, IsReadAs, IsShown, IsShownWhole, IsUnread, IsUnshown, IsUnshownWhole, comes}
+use Rattle.termimad_command.specs.Written.{FailsInStream, IsStreamed, Streams, WritesBytes, streams}
 use Rattle.termimad_command.specs.declared.refusals.Refusal.{Refusal}
 use Rattle.termimad_command.specs.declared.writing.Look.{Look}
 
@@ -22,8 +22,8 @@ err_exit (Err x) e P Q h q = subst Q (sym h) q
 pub read_and_written : (holds : Held) (look : Look) (said : Option Reading) (name bytes slice : List ℕ) (reading : Reading) (before after old new : Trace)
     (r : Result (Unit {0}) Refusal) → IsReadAs holds name before bytes after → slice ≡ bytes → reading ≡ reading_of_file said name
     → WritesBytes look reading slice old r new
-    → MatchResult r (λ _. IsShown holds look said name (streams before old) (streams after new))
-    (λ refusal. IsUnshown holds look said name refusal (streams before old) (streams after new))
+    → MatchResult r (λ _. IsShownWhole holds look said name (streams before old) (streams after new))
+    (λ refusal. IsUnshownWhole holds look said name refusal (streams before old) (streams after new))
 read_and_written holds look said name bytes slice reading before after old new (Ok x) read s g w =
     let on_bytes = subst (λ (b : List ℕ). WritesBytes look reading b old (Ok x) new) s w in
     record { bytes = bytes; read = read; wrote = subst (λ (reading : Reading). WritesBytes look reading bytes old (Ok x) new) g on_bytes }
@@ -33,8 +33,24 @@ read_and_written holds look said name bytes slice reading before after old new (
 
 -- a text that isn't read isn't shown
 pub unread_unshown : (holds : Held) (look : Look) (said : Option Reading) (name : List ℕ) (refusal : Refusal) (before after out : Trace)
-    → IsUnread name before refusal after → IsUnshown holds look said name refusal (streams before out) (streams after out)
+    → IsUnread name before refusal after → IsUnshownWhole holds look said name refusal (streams before out) (streams after out)
 unread_unshown holds look said name refusal before after out h = inl (h, refl)
+
+-- the input is written as it comes, or not all of it
+pub shown_as_it_comes : (holds : Held) (look : Look) (said : Option Reading) (name : List ℕ) (old new : Streams) (r : Result (Unit {0}) Refusal) → comes look name ≡ true
+    → MatchResult r (λ _. IsStreamed look old new) (λ refusal. FailsInStream look name refusal old new)
+    → MatchResult r (λ _. IsShown holds look said name old new) (λ refusal. IsUnshown holds look said name refusal old new)
+shown_as_it_comes holds look said name old new r e h =
+    subst (λ (b : Bool). MatchResult r (λ _. MatchBool b (IsStreamed look old new) (IsShownWhole holds look said name old new))
+    (λ refusal. MatchBool b (FailsInStream look name refusal old new) (IsUnshownWhole holds look said name refusal old new))) (sym e) h
+
+-- a text is shown whole, or not
+pub shown_whole : (holds : Held) (look : Look) (said : Option Reading) (name : List ℕ) (old new : Streams) (r : Result (Unit {0}) Refusal) → comes look name ≡ false
+    → MatchResult r (λ _. IsShownWhole holds look said name old new) (λ refusal. IsUnshownWhole holds look said name refusal old new)
+    → MatchResult r (λ _. IsShown holds look said name old new) (λ refusal. IsUnshown holds look said name refusal old new)
+shown_whole holds look said name old new r e h =
+    subst (λ (b : Bool). MatchResult r (λ _. MatchBool b (IsStreamed look old new) (IsShownWhole holds look said name old new))
+    (λ refusal. MatchBool b (FailsInStream look name refusal old new) (IsUnshownWhole holds look said name refusal old new))) (sym e) h
 
 -- ---- all of them
 

@@ -3,12 +3,12 @@ use Rattle.std.proofs.Common.{◌≡◌, Bool, true, false, ℕ, List, Some, Res
 use Rattle.std.specs.Prelude.{MatchBool, MatchResult}
 use Rattle.mad_page_skin.specs.declared.page_skin.PageSkin.{PageSkin}
 use Rattle.termimad_given.specs.Given.{Held}
-use Rattle.termimad_run.specs.GivenSkins.{RefusesPageSkin, page_skin_given}
-use Rattle.termimad_run.specs.declared.failure.Failure.{Failure}
-use Rattle.termimad_run.specs.declared.failure.Failure.TheVariants.{Skin as NoSkin, Memory as NoMemory}
+use Rattle.termimad_words.specs.GivenSkins.{RefusesPageSkin, page_skin_given}
+use Rattle.termimad_words.specs.declared.failure.Failure.{Failure}
+use Rattle.termimad_words.specs.declared.failure.Failure.TheVariants.{Skin as NoSkin, Memory as NoMemory}
 use Rattle.termimad_command.specs.Skins.{IsNoSkin, IsSkinOf, RefusesSkinWord, RefusesText, SaysSkin, is_said, skin_refusal}
 use Rattle.termimad_command.specs.declared.refusals.Refusal.{Refusal}
-use Rattle.termimad_command.specs.declared.refusals.Refusal.TheVariants.{Mistaken, Undecoded, Lacking, Skin, Unreadable, Output, Unread, Memory}
+use Rattle.termimad_command.specs.declared.refusals.Refusal.TheVariants.{Mistaken, Undecoded, Lacking, Skin, Unreadable, NotUtf8, Output, Unread, Memory}
 
 -- the word says it itself
 pub said_skin : (holds : Held) (word : List ℕ) (r : Result PageSkin Refusal) → is_said word ≡ true
@@ -43,6 +43,7 @@ text_refused text Undecoded h = absurd h
 text_refused text Lacking h = absurd h
 text_refused text Skin h = tt
 text_refused text (Unreadable name) h = absurd h
+text_refused text NotUtf8 h = absurd h
 text_refused text Output h = absurd h
 text_refused text Unread h = absurd h
 text_refused text Memory h = tt

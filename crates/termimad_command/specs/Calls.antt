@@ -1,5 +1,5 @@
 -- What the words of a call ask for, and why they are no call.
-use Rattle.std.specs.Prelude.{◌≡◌, ◌≢◌, ◌⊎◌, ◌||◌, Bool, true, false, List, [], ◌∷◌, map, drop, Option, Some, option_map, codes, ⊤, if◌then◌else◌}
+use Rattle.std.specs.Prelude.{◌≡◌, ◌≢◌, ◌⊎◌, ◌&&◌, Bool, true, false, List, [], ◌∷◌, map, drop, Option, is_some, option_map, codes, ⊤, if◌then◌else◌}
 use Rattle.std.specs.Borrow.{Bor}
 use Rattle.std.specs.Str.{bytes_eq}
 use Rattle.clap.specs.Words.{IsAmong, Text}
@@ -8,10 +8,6 @@ use Rattle.clap.specs.declared.error.kind.ErrorKind.TheVariants.{OutOfMemory}
 use Rattle.termimad_options.specs.Calls.{AreOtherLinks, IsAnswer, IsCallOf, mistakes_of}
 use Rattle.termimad_options.specs.Places.{place_said, words_left}
 use Rattle.termimad_options.specs.declared.calls.Call.{Call}
-use Rattle.termimad_options.specs.declared.calls.Grammar.{Grammar}
-use Rattle.termimad_options.specs.declared.calls.Grammar.TheVariants.{Code}
-use Rattle.termimad_options.specs.declared.calls.Links.{Links}
-use Rattle.termimad_options.specs.declared.calls.Links.TheVariants.{Always}
 use Rattle.termimad_command.specs.declared.asking.Request.{Request}
 use Rattle.termimad_command.specs.declared.asking.Request.TheVariants.{Call as SomeCall, Answer}
 use Rattle.termimad_command.specs.declared.refusals.Refusal.{Refusal}
@@ -37,19 +33,9 @@ pub record AreParted (args options : List Text) (place : Option Text) : Type 0 w
 
 -- ---- what they ask for
 
--- it is code of a language
-abbrev pub is_code : Option Grammar → Bool
-is_code (Some (Code language)) = true
-is_code _ = false
-
--- where links lead is to be written everywhere
-abbrev pub is_always : Links → Bool
-is_always Always = true
-is_always _ = false
-
--- the call asks for what isn't there yet: code of a language, parts as they come, or where links lead
+-- the call asks for what isn't there yet: what isn't Markdown as it comes
 abbrev pub asks_more : Call → Bool
-asks_more call = is_code call.grammar || call.streams || is_always call.links
+asks_more call = call.streams && is_some call.grammar
 
 -- the words ask for an answer: help or the version
 abbrev pub AsksAnswer : List Text → Type 0

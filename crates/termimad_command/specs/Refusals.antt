@@ -6,12 +6,14 @@ use Rattle.std.specs.declared.io.Error.{Error as IoError}
 use Rattle.std.specs.declared.io.ErrorKind.{ErrorKind}
 use Rattle.std.specs.declared.io.ErrorKind.TheVariants.{BrokenPipe, OutOfMemory}
 use Rattle.mad_measure.specs.KeptCells.{shown_bytes}
+use Rattle.mad_stream.specs.declared.source_error.SourceError.{SourceError}
+use Rattle.mad_stream.specs.declared.source_error.SourceError.TheVariants.{Source, Device, NotUtf8 as NoText, Memory as NoRoom}
 use Rattle.mad_term.specs.Trace.{Trace}
 use Rattle.mad_term.specs.declared.errors.Error.{Error}
 use Rattle.mad_term.specs.declared.errors.Error.TheVariants.{IO, InsufficientWidth, Memory as NoMemory}
-use Rattle.termimad_run.specs.Failures.{SaysOnce}
+use Rattle.termimad_words.specs.Failures.{SaysOnce}
 use Rattle.termimad_command.specs.declared.refusals.Refusal.{Refusal}
-use Rattle.termimad_command.specs.declared.refusals.Refusal.TheVariants.{Mistaken, Undecoded, Lacking, Skin, Unreadable, Output, Unread, Memory}
+use Rattle.termimad_command.specs.declared.refusals.Refusal.TheVariants.{Mistaken, Undecoded, Lacking, Skin, Unreadable, NotUtf8, Output, Unread, Memory}
 
 -- its status
 abbrev pub status_of : Refusal → ℕ
@@ -20,6 +22,7 @@ status_of Output = 1
 status_of (Mistaken text) = 2
 status_of Undecoded = 2
 status_of Lacking = 2
+status_of NotUtf8 = 3
 status_of Skin = 4
 status_of Memory = 5
 status_of Unread = 141
@@ -36,9 +39,10 @@ short_line = codes "termimad: a text can't be read\n"
 abbrev pub Says : Refusal → Trace → Trace → Type 0
 Says (Mistaken text) old new = SaysOnce old (string_bytes text) new
 Says Undecoded old new = SaysOnce old (codes "termimad: a word isn't UTF-8\n") new
-Says Lacking old new = SaysOnce old (codes "termimad: --code, --stream and --links always aren't there yet\n") new
+Says Lacking old new = SaysOnce old (codes "termimad: --stream of what isn't Markdown isn't there yet\n") new
 Says Skin old new = SaysOnce old (codes "termimad: SKIN is no name, no file and no JSON of a skin\n") new
 Says (Unreadable name) old new = SaysOnce old (name_line name.now) new ⊎ SaysOnce old short_line new
+Says NotUtf8 old new = SaysOnce old (codes "termimad: what came isn't UTF-8\n") new
 Says Output old new = SaysOnce old (codes "termimad: the output failed\n") new
 Says Unread old new = new ≡ old
 Says Memory old new = SaysOnce old (codes "termimad: out of memory\n") new
@@ -63,3 +67,10 @@ reading_by name _ = Unreadable name
 -- what a fault in reading the text of a name makes of a call
 abbrev pub refusal_reading : Bor (List ℕ) → IoError → Refusal
 refusal_reading name e = reading_by name (error_kind e)
+
+-- what makes of a call that the text of a name isn't written whole as it comes
+abbrev pub stream_refusal : Bor (List ℕ) → SourceError → Refusal
+stream_refusal name (Source e) = refusal_reading name e
+stream_refusal name (Device e) = refusal_by (error_kind e)
+stream_refusal name NoText = NotUtf8
+stream_refusal name NoRoom = Memory

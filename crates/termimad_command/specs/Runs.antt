@@ -15,8 +15,8 @@ use Rattle.termimad_options.specs.declared.plans.Surroundings.{Surroundings}
 use Rattle.termimad_command.specs.Calls.{AreParted, Asks, RefusesCall, asks_plan}
 use Rattle.termimad_command.specs.Refusals.{Says, status_of}
 use Rattle.termimad_command.specs.Skins.{IsSkinOf, RefusesSkinWord}
-use Rattle.termimad_command.specs.Texts.{AreShown, FailsAmong, Streams, streams}
-use Rattle.termimad_command.specs.Written.{FlushesOut, WritesOut}
+use Rattle.termimad_command.specs.Texts.{AreShown, FailsAmong}
+use Rattle.termimad_command.specs.Written.{FlushesOut, Streams, WritesOut, streams}
 use Rattle.termimad_command.specs.declared.asking.Request.{Request}
 use Rattle.termimad_command.specs.declared.asking.Request.TheVariants.{Call as SomeCall, Answer}
 use Rattle.termimad_command.specs.declared.refusals.Refusal.{Refusal}
@@ -31,7 +31,7 @@ Outcome = Result (Unit {0}) Refusal
 
 -- how texts are written by a plan, in this skin
 abbrev pub look_of : Plan → PageSkin → Look
-look_of plan skin = record { skin = skin; columns = plan.columns; is_styled = not (bytes_eq plan.skin.now (codes "none")) }
+look_of plan skin = record { skin = skin; columns = plan.columns; is_styled = not (bytes_eq plan.skin.now (codes "none")); streams = plan.streams; says_links = plan.says_links }
 
 -- that of the input, where there is none
 abbrev pub names_or_input : List Text → List Text

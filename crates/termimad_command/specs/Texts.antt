@@ -1,5 +1,5 @@
 -- The texts of a call, one after the other.
-use Rattle.std.specs.Prelude.{◌≡◌, ◌⊎◌, ℕ, List, [], ◌∷◌, codes, Option, Ok, ⊤}
+use Rattle.std.specs.Prelude.{◌≡◌, ◌⊎◌, ◌&&◌, ℕ, Bool, List, [], ◌∷◌, codes, Option, Ok, ⊤}
 use Rattle.std.specs.Bool.{MatchBool}
 use Rattle.std.specs.Borrow.{Bor}
 use Rattle.std.specs.Str.{bytes_eq}
@@ -8,20 +8,12 @@ use Rattle.termimad_given.specs.Given.{Held}
 use Rattle.termimad_options.specs.Calls.{Reading}
 use Rattle.termimad_options.specs.Names.{reading_of_file}
 use Rattle.termimad_run.specs.Reading.{ReadsSome, ReadsToFault, ReadsWhole}
-use Rattle.termimad_run.specs.declared.failure.Failure.{Failure}
-use Rattle.termimad_run.specs.declared.failure.Failure.TheVariants.{Memory as NoMemory}
-use Rattle.termimad_command.specs.Written.{RefusesBytes, WritesText, text_of}
+use Rattle.termimad_words.specs.declared.failure.Failure.{Failure}
+use Rattle.termimad_words.specs.declared.failure.Failure.TheVariants.{Memory as NoMemory}
+use Rattle.termimad_command.specs.Written.{FailsInStream, IsStreamed, RefusesBytes, Streams, WritesText, text_of}
 use Rattle.termimad_command.specs.declared.refusals.Refusal.{Refusal}
 use Rattle.termimad_command.specs.declared.refusals.Refusal.TheVariants.{Unreadable, Memory}
 use Rattle.termimad_command.specs.declared.writing.Look.{Look}
-
--- the input and the output of a call
-pub record Streams : Type 0 where
-  pub input : Trace
-  pub out : Trace
-
-abbrev pub streams : Trace → Trace → Streams
-streams input out = record { input = input; out = out }
 
 -- ---- reading
 
@@ -52,8 +44,12 @@ IsUnread name old refusal new = MatchBool (bytes_eq name (codes "-")) (FailsAtIn
 
 -- ---- showing
 
--- The text of a name is read, as is said or by its name, and written.
-pub record IsShown (holds : Held) (look : Look) (said : Option Reading) (name : List ℕ) (old new : Streams) : Type 0 where
+-- the text of a name is the input, and is written as it comes
+abbrev pub comes : Look → List ℕ → Bool
+comes look name = look.streams && bytes_eq name (codes "-")
+
+-- The text of a name is read whole, as is said or by its name, and written.
+pub record IsShownWhole (holds : Held) (look : Look) (said : Option Reading) (name : List ℕ) (old new : Streams) : Type 0 where
   pub bytes : List ℕ
   pub read : IsReadAs holds name old.input bytes new.input
   pub wrote : WritesText {T = Unit {0}} look (reading_of_file said name) (text_of bytes) old.out (Ok (tt {0})) new.out
@@ -65,9 +61,19 @@ pub record IsUnwritten (holds : Held) (look : Look) (said : Option Reading) (nam
   pub refused : RefusesBytes look (reading_of_file said name) bytes old.out refusal new.out
 
 -- It isn't read, and nothing is written; or writing it is refused.
+abbrev pub IsUnshownWhole : Held → Look → Option Reading → List ℕ → Refusal → Streams → Streams → Type 0
+IsUnshownWhole holds look said name refusal old new =
+    (IsUnread name old.input refusal new.input × (new.out ≡ old.out)) ⊎ IsUnwritten holds look said name refusal old new
+
+-- the text of a name is shown: as it comes, or else whole
+abbrev pub IsShown : Held → Look → Option Reading → List ℕ → Streams → Streams → Type 0
+IsShown holds look said name old new =
+    MatchBool (comes look name) (IsStreamed look old new) (IsShownWhole holds look said name old new)
+
+-- it isn't, or not all of it
 abbrev pub IsUnshown : Held → Look → Option Reading → List ℕ → Refusal → Streams → Streams → Type 0
 IsUnshown holds look said name refusal old new =
-    (IsUnread name old.input refusal new.input × (new.out ≡ old.out)) ⊎ IsUnwritten holds look said name refusal old new
+    MatchBool (comes look name) (FailsInStream look name refusal old new) (IsUnshownWhole holds look said name refusal old new)
 
 -- the texts of names are shown, one after the other
 abbrev pub AreShown : Held → Look → Option Reading → List (List ℕ) → Streams → Streams → Type 0

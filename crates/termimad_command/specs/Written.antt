@@ -1,5 +1,7 @@
 -- What is written of a text.
 use Rattle.std.specs.Prelude.{◌≡◌, ◌⊎◌, ℕ, Bool, true, false, List, Some, Result, Ok, Err, MatchResult, IsErrOf, chars, encode_utf8_all}
+use Rattle.std.specs.Bool.{MatchBool}
+use Rattle.std.specs.Borrow.{Bor}
 use Rattle.std.specs.Str.Lossy.{utf8_lossy}
 use Rattle.mad_layout.specs.RowSkins.{row_skin}
 use Rattle.mad_layout.specs.WrittenParts.{WritesParts}
@@ -7,15 +9,20 @@ use Rattle.mad_measure.specs.KeptCells.{shown_bytes}
 use Rattle.mad_page_skin.specs.declared.page_skin.PageSkin.{PageSkin}
 use Rattle.mad_plain_rows.specs.PlainRows.{WritesPlain}
 use Rattle.mad_steady.specs.Steady.{steady_text}
+use Rattle.mad_stream.specs.declared.source_error.SourceError.{SourceError}
 use Rattle.mad_term.specs.Draws.{Refused}
 use Rattle.mad_term.specs.Trace.{Trace, after, failed, flushed}
 use Rattle.mad_term.specs.declared.errors.Error.{Error}
 use Rattle.mad_term.specs.declared.errors.Error.TheVariants.{Memory as NoMemory}
+use Rattle.markdown_code.specs.CodeTexts.{code_sections}
 use Rattle.markdown_layout.specs.WrittenPages.{WritesDressed}
 use Rattle.markdown_lines.specs.Texts.{behind_mark}
-use Rattle.markdown_reader.specs.Markdown.{markdown_sections}
+use Rattle.markdown_reader.specs.LinkMarks.{markdown_link_marks}
+use Rattle.markdown_linked_pages.specs.LinkedPages.{WritesLinked}
+use Rattle.markdown_reader.specs.Markdown.{markdown_links, markdown_sections}
+use Rattle.markdown_stream.specs.Sources.{StreamsMarkdown}
 use Rattle.termimad_options.specs.Calls.{Reading, as_code, as_markdown, as_plain, by_lines}
-use Rattle.termimad_command.specs.Refusals.{refusal_of}
+use Rattle.termimad_command.specs.Refusals.{refusal_of, stream_refusal}
 use Rattle.termimad_command.specs.declared.refusals.Refusal.{Refusal}
 use Rattle.termimad_command.specs.declared.refusals.Refusal.TheVariants.{Memory}
 use Rattle.termimad_command.specs.declared.writing.Look.{Look}
@@ -34,13 +41,19 @@ steady_text_of text = encode_utf8_all (steady_text (chars (shown_bytes text)))
 abbrev pub WritesLines : {T : Type 0} → PageSkin → ℕ → List ℕ → Trace → Result T Error → Trace → Type 0
 WritesLines skin width text old r new = WritesParts (row_skin skin.text) (Some width) (steady_text_of text) old r new ⊎ (IsErrOf r NoMemory × (new ≡ old))
 
--- What is written of a text that is read so. Markdown is a page in which words stay whole, in the skin, with what stands beside headings. A text
--- that isn't Markdown, and code, is its lines, wrapped.
+-- what is written of the page that a text is as Markdown: its rows, with its links, if they are written
+abbrev pub WritesPage : {T : Type 0} → Look → List ℕ → Trace → Result T Error → Trace → Type 0
+WritesPage look text old r new = MatchBool look.says_links
+    (WritesLinked (with_words look.skin true) (Some look.columns) (markdown_sections text) (markdown_links text) (markdown_link_marks text) old r new)
+    (WritesDressed (with_words look.skin true) (Some look.columns) (markdown_sections text) old r new)
+
+-- What is written of a text that is read so. Markdown is a page in which words stay whole, in the skin, with what stands beside headings, and code is
+-- that of a fence around it. A text that isn't Markdown is its lines, wrapped.
 abbrev pub WritesText : {T : Type 0} → Look → Reading → List ℕ → Trace → Result T Error → Trace → Type 0
-WritesText look as_markdown text old r new = WritesDressed (with_words look.skin true) (Some look.columns) (markdown_sections text) old r new
+WritesText look as_markdown text old r new = WritesPage look text old r new
 WritesText look by_lines text old r new = WritesLines (with_words look.skin false) look.columns text old r new
 WritesText look as_plain text old r new = WritesPlain look.columns look.is_styled text old r new
-WritesText look (as_code language) text old r new = WritesPlain look.columns look.is_styled text old r new
+WritesText look (as_code word) text old r new = WritesDressed (with_words look.skin true) (Some look.columns) (code_sections word text) old r new
 
 -- the text that bytes are: U+FFFD stands for what is none, and a byte order mark at the front is dropped
 abbrev pub text_of : List ℕ → List ℕ
@@ -65,6 +78,29 @@ abbrev pub WritesBytes : Look → Reading → List ℕ → Trace → Result (Uni
 WritesBytes look reading bytes old r new = MatchResult r
     (λ _. WritesText {T = Unit {0}} look reading (text_of bytes) old (Ok (tt {0})) new)
     (λ refusal. RefusesBytes look reading bytes old refusal new)
+
+-- ---- a text that comes
+
+-- the input and the output of a call
+pub record Streams : Type 0 where
+  pub input : Trace
+  pub out : Trace
+
+abbrev pub streams : Trace → Trace → Streams
+streams input out = record { input = input; out = out }
+
+-- the input is written as it comes: Markdown in which words stay whole, each leaf once it is complete
+abbrev pub StreamsText : Look → Streams → Result (Unit {0}) SourceError → Streams → Type 0
+StreamsText look old r new = StreamsMarkdown (with_words look.skin true) (Some look.columns) old.input old.out r new.input new.out
+
+-- it is so, to its end
+abbrev pub IsStreamed : Look → Streams → Streams → Type 0
+IsStreamed look old new = StreamsText look old (Ok (tt {0})) new
+
+-- the input, which has that name, isn't written whole, for this reason
+abbrev pub FailsInStream : Look → List ℕ → Refusal → Streams → Streams → Type 0
+FailsInStream look name refusal old new =
+    (e : SourceError) × (given : Bor (List ℕ)) × (given.now ≡ name) × (refusal ≡ stream_refusal given e) × StreamsText look old (Err e) new
 
 -- ---- a text as it is
 

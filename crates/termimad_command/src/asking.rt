@@ -8,7 +8,7 @@ use crate::refusals::Refusal;
 use clap::Error;
 use clap::error::ErrorKind;
 use std::alloc::Global;
-use termimad_options::{Call, Grammar, Links, call_of};
+use termimad_options::{Call, call_of};
 
 /// What words ask for.
 #[derive(Drop)]
@@ -38,11 +38,11 @@ pub(crate) fn asked<'a>(alloc: Global, words: &'a [&str]) -> Result<Request<'a>,
     }
 }
 
-// Whether a call asks for what isn't there yet: code of a language, parts as they come, or where links lead.
+// Whether a call asks for what isn't there yet: what isn't Markdown as it comes.
 fn asks_more(call: &Call) -> bool
     ensures { result ≡ asks_more call.now }
 {
-    matches!(call.grammar, Some(Grammar::Code(_))) || call.streams || call.links == Links::Always
+    call.streams && call.grammar.is_some()
 }
 
 // What an error tells of words that are no call.

@@ -8,7 +8,8 @@ use crate::refusals::{Refusal, refusal_reading};
 use mad_term::Source;
 use std::alloc::Global;
 use termimad_given::Texts;
-use termimad_run::{Failure, read_all};
+use termimad_run::read_all;
+use termimad_words::Failure;
 
 /// The bytes of the text of a name: of the input, which is read to its end, where the name is `-`.
 ///

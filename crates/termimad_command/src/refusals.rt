@@ -1,10 +1,11 @@
 //! Why a call isn't done, or not all of it, and what is said of that.
 
 ghost use Rattle.std.specs.Prelude.{◌≡◌, ◌⊎◌, IfOk, string_bytes};
-ghost use Rattle.termimad_command.specs.Refusals.{Says, name_line, refusal_of, refusal_reading, short_line, status_of};
-ghost use Rattle.termimad_run.specs.Failures.{SaysOnce};
+ghost use Rattle.termimad_command.specs.Refusals.{Says, name_line, refusal_of, refusal_reading, short_line, status_of, stream_refusal};
+ghost use Rattle.termimad_words.specs.Failures.{SaysOnce};
 
 use mad_measure::printable;
+use mad_stream::SourceError;
 use mad_term::{Error, Out, put_all};
 use std::alloc::{AllocError, Global};
 use std::io::{self, ErrorKind};
@@ -25,6 +26,8 @@ pub enum Refusal<'a> {
     Skin,
     /// The text of this name can't be read.
     Unreadable(&'a str),
+    /// What came isn't UTF-8.
+    NotUtf8,
     /// The output failed.
     Output,
     /// Nobody reads the output any more.
@@ -41,6 +44,7 @@ impl Refusal<'_> {
         match self {
             Refusal::Unreadable(_) | Refusal::Output => 1,
             Refusal::Mistaken(_) | Refusal::Undecoded | Refusal::Lacking => 2,
+            Refusal::NotUtf8 => 3,
             Refusal::Skin => 4,
             Refusal::Memory => 5,
             Refusal::Unread => UNREAD,
@@ -73,6 +77,18 @@ pub(crate) fn refusal_reading<'a>(name: &'a str, e: &io::Error) -> Refusal<'a>
     }
 }
 
+/// What makes of a call that the text of a name isn't written whole as it comes.
+pub(crate) fn stream_refusal<'a>(name: &'a str, e: SourceError) -> Refusal<'a>
+    ensures { result ≡ stream_refusal name.entry e }
+{
+    match e {
+        SourceError::Source(e) => refusal_reading(name, &e),
+        SourceError::Device(e) => refusal_of(Error::IO(e)),
+        SourceError::NotUtf8 => Refusal::NotUtf8,
+        SourceError::Memory => Refusal::Memory,
+    }
+}
+
 /// Says a refusal on a device, and answers its status. Where nobody reads the output, nothing is said. A fault of the device changes nothing.
 pub fn refuse<E: Out>(alloc: Global, err: &mut E, refusal: Refusal) -> u8
     ensures status { result ≡ status_of refusal.entry }
@@ -93,7 +109,7 @@ fn say_refusal<E: Out>(alloc: Global, err: &mut E, refusal: Refusal)
         Refusal::Lacking => {
             say(
                 err,
-                "termimad: --code, --stream and --links always aren't there yet\n",
+                "termimad: --stream of what isn't Markdown isn't there yet\n",
             )
         }
         Refusal::Skin => say(
@@ -101,6 +117,7 @@ fn say_refusal<E: Out>(alloc: Global, err: &mut E, refusal: Refusal)
             "termimad: SKIN is no name, no file and no JSON of a skin\n",
         ),
         Refusal::Unreadable(name) => say_unreadable(alloc, err, name),
+        Refusal::NotUtf8 => say(err, "termimad: what came isn't UTF-8\n"),
         Refusal::Output => say(err, "termimad: the output failed\n"),
         Refusal::Unread => {}
         Refusal::Memory => say(err, "termimad: out of memory\n"),

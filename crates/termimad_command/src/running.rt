@@ -2,7 +2,7 @@
 
 ghost use Rattle.std.specs.Prelude.{◌≡◌, map, option_map, string_bytes};
 ghost use Rattle.termimad_command.specs.Runs.{Acts, Answers, Fulfils, HasRun, Performs, ShowsTexts, TellsPlan, look_of, names_of, place_text};
-ghost use Rattle.termimad_command.specs.Texts.{streams};
+ghost use Rattle.termimad_command.specs.Written.{streams};
 
 use crate::asking::{Request, asked};
 use crate::refusals::{Refusal, refuse};
@@ -19,8 +19,9 @@ use termimad_options::{Call, Plan, Surroundings, plan_line, plan_of};
 /// Does what the words after the program's name ask for, and answers the status.
 ///
 /// The texts are written in their order, each as it is read, in the columns and the skin that are planned where the call is made, and then the
-/// output is flushed; without a name the input is written. Help and the version are written too. Where the first word is `--plan`, what the call
-/// would do is written instead, as a line that a shell reads. A refusal is said once, on `err`. Statuses are 0, and of a refusal 1, 2, 4, 5 and 141.
+/// output is flushed; without a name the input is written. With `--stream` the input is written and flushed as it comes. Help and the version are written
+/// too. Where the first word is `--plan`, what the call would do is written instead, as a line that a shell reads. A refusal is said once, on `err`.
+/// Statuses are 0, and of a refusal 1 to 5 and 141.
 pub fn run<T: Texts, I: Source, O: Out, E: Out>(
     alloc: Global,
     args: &[String],
@@ -203,6 +204,8 @@ fn look_of(plan: &Plan, skin: PageSkin) -> Look
         skin,
         columns: plan.columns,
         is_styled: plan.skin != "none",
+        streams: plan.streams,
+        says_links: plan.says_links,
     }
 }
 

@@ -7,7 +7,7 @@ use crate::refusals::Refusal;
 use mad_page_skin::PageSkin;
 use std::alloc::Global;
 use termimad_given::Texts;
-use termimad_run::{Failure, page_skin_of_word};
+use termimad_words::{Failure, page_skin_of_word};
 
 /// The skin of a word: the made one of that name, what it says as JSON text, or what the text of that name says so.
 ///

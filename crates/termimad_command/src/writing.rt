@@ -1,19 +1,22 @@
 //! What is written of a text.
 
-ghost use Rattle.std.specs.Prelude.{◌≡◌, ◌⊎◌};
+ghost use Rattle.std.specs.Prelude.{◌≡◌, ◌⊎◌, MatchResult};
 ghost use Rattle.mad_term.specs.Trace.{failed, flushed};
 ghost use Rattle.termimad_options.specs.Calls.{reading_of};
-ghost use Rattle.termimad_command.specs.Written.{FlushesOut, WritesBytes, WritesLines, WritesOrRefuses, WritesOut, WritesText, with_words};
+ghost use Rattle.termimad_command.specs.Written.{FailsInStream, FlushesOut, IsStreamed, WritesBytes, WritesLines, WritesOrRefuses, WritesOut, WritesPage, WritesText, streams, with_words};
 
-use crate::refusals::{Refusal, refusal_of};
+use crate::refusals::{Refusal, refusal_of, stream_refusal};
 use mad_measure::printable;
 use mad_page_skin::PageSkin;
 use mad_plain::lossy_text;
 use mad_plain_rows::write_plain_on;
 use mad_steady::steady;
-use mad_term::{Error, Out, put_text};
+use mad_term::{Error, Out, Source, put_text};
+use markdown_code::write_code_on;
 use markdown_layout::write_markdown_on;
 use markdown_lines::texts::behind_mark;
+use markdown_linked_pages::write_markdown_with_links_on;
+use markdown_stream::write_markdown_source_on;
 use std::alloc::Global;
 use termimad_options::Grammar;
 
@@ -26,6 +29,10 @@ pub(crate) struct Look {
     pub columns: u16,
     /// Whether a text that isn't Markdown keeps its colors.
     pub is_styled: bool,
+    /// Whether the input is written as it comes.
+    pub streams: bool,
+    /// Whether links of Markdown are written as such, for a terminal to follow.
+    pub says_links: bool,
 }
 
 /// Writes the text that bytes are, with U+FFFD for what is none, and without a byte order mark at its front. Nothing is flushed.
@@ -64,7 +71,7 @@ fn write_text<'a, O: Out>(
     }
 }
 
-// Writes the rows of a text that is read so. Words of Markdown stay whole; code is written as text that isn't Markdown.
+// Writes the rows of a text that is read so. Words of Markdown stay whole; code is written as in a fence.
 fn write_rows<O: Out>(
     alloc: Global,
     out: &mut O,
@@ -76,18 +83,26 @@ fn write_rows<O: Out>(
 {
     let width = usize::from(look.columns);
     match grammar {
-        Grammar::Markdown => {
-            let skin = with_words(look.skin, true);
-            write_markdown_on(alloc, out, &skin, text, Some(width))
-        }
+        Grammar::Markdown => write_page(alloc, out, look, text),
         Grammar::Lines => write_lines(alloc, out, &with_words(look.skin, false), text, width),
-        Grammar::Plain | Grammar::Code(_) => write_plain_on(
-            alloc,
-            out,
-            text,
-            width,
-            look.is_styled,
-        ),
+        Grammar::Plain => write_plain_on(alloc, out, text, width, look.is_styled),
+        Grammar::Code(word) => {
+            let skin = with_words(look.skin, true);
+            write_code_on(alloc, out, &skin, word, text, Some(width))
+        }
+    }
+}
+
+// Writes the page that a text is as Markdown, with its links, if they are written.
+fn write_page<O: Out>(alloc: Global, out: &mut O, look: &Look, text: &str) -> Result<(), Error>
+    ensures { WritesPage look.now text.now (O.seen out.old) result (O.seen out.new) }
+{
+    let skin = with_words(look.skin, true);
+    let columns = usize::from(look.columns);
+    if look.says_links {
+        write_markdown_with_links_on(alloc, out, &skin, text, Some(columns))
+    } else {
+        write_markdown_on(alloc, out, &skin, text, Some(columns))
     }
 }
 
@@ -113,6 +128,30 @@ fn write_lines<O: Out>(
     let printed = printable(alloc, text)?;
     let shown = steady(alloc, &printed)?;
     skin.text.write_parts_on(alloc, out, &shown, Some(width))
+}
+
+/// Writes the input, which has that name, as it comes: Markdown, each leaf of it once it is complete. The output is flushed after each block that is read.
+///
+/// # Errors
+///
+/// A fault of the input or of the output, bytes that aren't UTF-8, or out of memory. What was complete by then went out.
+pub(crate) fn stream_text<'a, I: Source, O: Out>(
+    alloc: Global,
+    look: &Look,
+    name: &'a str,
+    input: &mut I,
+    out: &mut O,
+) -> Result<(), Refusal<'a>>
+    ensures { MatchResult result
+        (λ _. IsStreamed look.now (streams (I.seen input.old) (O.seen out.old)) (streams (I.seen input.new) (O.seen out.new)))
+        (λ refusal. FailsInStream look.now name.now refusal (streams (I.seen input.old) (O.seen out.old)) (streams (I.seen input.new) (O.seen out.new))) }
+{
+    let skin = with_words(look.skin, true);
+    let columns = usize::from(look.columns);
+    match write_markdown_source_on(alloc, input, out, &skin, Some(columns)) {
+        Ok(()) => Ok(()),
+        Err(e) => Err(stream_refusal(name, e)),
+    }
 }
 
 /// Writes a text as it is, and flushes the output.

@@ -1,13 +1,24 @@
 -- What callers rely on.
-use Rattle.std.proofs.Common.{◌≡◌, List, [], ◌∷◌, Option, Some, None, Bool, true, false, refl, ap, map, option_map, is_some, unwrap_or, true≢false}
+use Rattle.std.proofs.Common.{◌≡◌, ◌&&◌, List, [], ◌∷◌, Option, Some, None, Bool, true, false, refl, ap, map, option_map, is_some, unwrap_or, true≢false}
 use Rattle.clap.proofs.OnLiterals.{clap_on_literals}
 use Rattle.termimad_options.specs.Rules.{termimad_rules}
-use Rattle.termimad_options.specs.Names.{endings}
-use Rattle.termimad_options.specs.declared.calls.Links.TheVariants.{Auto}
-use Rattle.termimad_options.specs.Laws.{NamesAskNothing, OptionsWin, PipesStayPlain, SomeCalls, SomeNames, TerminalsPage}
+use Rattle.code_names.specs.Names.{language_names}
+use Rattle.code_words.specs.Words.{file_names}
+use Rattle.termimad_options.specs.declared.calls.Links.TheVariants.{Auto, Always, Never}
+use Rattle.termimad_options.specs.Plans.{obeys}
+use Rattle.termimad_options.specs.Laws.{LinksNeedStyles, NamesAskNothing, OptionsWin, PipesStayPlain, SomeCalls, SomeNames, TerminalsPage}
 
 pub pipes_plain : PipesStayPlain
 pipes_plain call around e = (rw e refl, λ s t. rw (s, t, e) refl, rw e refl)
+
+and_false : (b : Bool) → b && false ≡ false
+and_false false = refl
+and_false true = refl
+
+pub links_need_styles : LinksNeedStyles
+links_need_styles Auto around = and_false (obeys around)
+links_need_styles Always around = refl
+links_need_styles Never around = refl
 
 pub options_win : OptionsWin
 options_win = (λ said name. refl, λ call around columns e. rw e refl, λ call around skin e other. rw (e, other) refl)
@@ -61,11 +72,12 @@ calls_read = record {
 }
 
 pub names_read : SomeNames
-unfolding endings
+unfolding file_names language_names
 names_read = record {
   rust = refl;
   make = refl;
   cmake = refl;
+  words = refl;
   text = refl;
   log = refl;
   markdown = refl;

@@ -32,7 +32,7 @@ columns_written text =
     if nat_lt 0 (length digits) && list_all (λ digit. nat_lt (digit_value digit) 10) digits && nat_lt (digits_value 10 digits) 65536
     then Some (digits_value 10 digits) else None
 
--- how a text is read: as people write Markdown, in the smaller grammar line by line, as no Markdown, or as code of a language
+-- how a text is read: as people write Markdown, in the smaller grammar line by line, as no Markdown, or as code in the language of a word
 pub data Reading : Type 0 where
   as_markdown by_lines as_plain : Reading
   as_code : Text → Reading

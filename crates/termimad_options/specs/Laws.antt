@@ -8,6 +8,7 @@ use Rattle.termimad_options.specs.Calls.{IsCallOf, Reading, as_code, as_markdown
 use Rattle.termimad_options.specs.Names.{reading_of_file}
 use Rattle.termimad_options.specs.Plans.{columns_of, obeys, says_links, skin_of, suiting, way_of}
 use Rattle.termimad_options.specs.declared.calls.Call.{Call}
+use Rattle.termimad_options.specs.declared.calls.Links.{Links}
 use Rattle.termimad_options.specs.declared.calls.Links.TheVariants.{Auto}
 use Rattle.termimad_options.specs.declared.plans.Surroundings.{Surroundings}
 use Rattle.termimad_options.specs.declared.plans.Way.TheVariants.{Pages, Writes}
@@ -25,6 +26,10 @@ OptionsWin = ((said : Reading) (name : Text) → reading_of_file (Some said) nam
     × ((call : Call) (around : Surroundings) (columns : ℕ) → call.width ≡ Some columns → columns_of call around ≡ columns)
     × ((call : Call) (around : Surroundings) (skin : Bor Text) → call.skin ≡ Some skin → bytes_eq skin.now (codes "auto") ≡ false
     → skin_of call around ≡ skin.now)
+
+-- without a style it is written nowhere where links lead, whatever is said
+abbrev pub LinksNeedStyles : Type 0
+LinksNeedStyles = (links : Links) (around : Surroundings) → says_links links around (codes "none") ≡ false
 
 -- What a call without options asks for: no file, no width, no skin and no grammar, and what the terminal suggests of links and of paging.
 pub record AsksNothing (call : Call) : Type 0 where
@@ -77,9 +82,10 @@ pub record SomeCalls : Type 0 where
 
 -- Some files' names: how these files are read.
 pub record SomeNames : Type 0 where
-  pub rust : reading_of_file None (codes "src/main.rs") ≡ as_code (codes "rust")
-  pub make : reading_of_file None (codes "Makefile") ≡ as_code (codes "make")
-  pub cmake : reading_of_file None (codes "CMakeLists.txt") ≡ as_code (codes "cmake")
+  pub rust : reading_of_file None (codes "src/main.rs") ≡ as_code (codes "src/main.rs")
+  pub make : reading_of_file None (codes "Makefile") ≡ as_code (codes "Makefile")
+  pub cmake : reading_of_file None (codes "CMakeLists.txt") ≡ as_code (codes "CMakeLists.txt")
+  pub words : reading_of_file None (codes "go on.md") ≡ as_markdown
   pub text : reading_of_file None (codes "notes.txt") ≡ as_plain
   pub log : reading_of_file None (codes "build.log") ≡ as_plain
   pub markdown : reading_of_file None (codes "README.md") ≡ as_markdown

@@ -1,7 +1,9 @@
 -- What a call does, as a line that a shell reads.
 use Rattle.std.specs.Prelude.{ℕ, ◌==◌, Bool, List, [], ◌∷◌, ◌++◌, Option, chars, codes, decimal, encode_utf8, if◌then◌else◌}
 use Rattle.std.specs.List.{flat_map}
+use Rattle.std.specs.Str.Lossy.{utf8_lossy}
 use Rattle.clap.specs.Words.{Text}
+use Rattle.code_words.specs.Words.{language_word}
 use Rattle.termimad_options.specs.Calls.{Reading, as_code, as_markdown, as_plain, by_lines}
 use Rattle.termimad_options.specs.Names.{reading_of_file}
 use Rattle.termimad_options.specs.declared.plans.Plan.{Plan}
@@ -39,12 +41,16 @@ rows_of _ = 0
 abbrev pub yes_or_no : Bool → Text
 yes_or_no is_so = if is_so then codes "yes" else codes "no"
 
+-- the word for code, between blanks: what stands behind a fence of its language is a part of it
+abbrev pub code_word : Text → Text
+code_word word = codes " 'code " ++ (inside_quotes (utf8_lossy (language_word word)) ++ codes "' ")
+
 -- the word for how a text is read, between blanks
 abbrev pub reading_word : Reading → Text
 reading_word as_markdown = codes " markdown "
 reading_word by_lines = codes " lines "
 reading_word as_plain = codes " plain "
-reading_word (as_code language) = codes " plain "
+reading_word (as_code word) = code_word word
 
 -- the text of a name, behind how it is read
 abbrev pub file_bytes : Option Reading → Text → Text

@@ -47,9 +47,9 @@ chosen around None = if obeys around && not around.is_colorless then suiting aro
 abbrev pub skin_of : Call → Surroundings → Text
 skin_of call around = chosen around (option_map (λ text. text.now) (option_or call.skin around.skin))
 
--- it is written where links lead: always, never, or where a terminal that obeys commands shows styles
+-- it is written where links lead: wherever there are styles, never, or where a terminal that obeys commands shows styles
 abbrev pub says_links : Links → Surroundings → Text → Bool
-says_links Always around skin = true
+says_links Always around skin = not (bytes_eq skin (codes "none"))
 says_links Never around skin = false
 says_links Auto around skin = obeys around && not (bytes_eq skin (codes "none"))
 

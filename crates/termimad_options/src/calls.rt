@@ -19,7 +19,7 @@ pub enum Grammar<'a> {
     Lines,
     /// As text that isn't Markdown.
     Plain,
-    /// As code of this language.
+    /// As code, in the language of this word, or of a file of this name.
     Code(&'a str),
 }
 
@@ -28,7 +28,7 @@ pub enum Grammar<'a> {
 pub enum Links {
     /// Where a terminal shows styles.
     Auto,
-    /// Everywhere.
+    /// Wherever there are styles.
     Always,
     /// Nowhere.
     Never,

@@ -1,11 +1,17 @@
 //! What callers rely on.
 
-ghost use Rattle.termimad_options.specs.Laws.{NamesAskNothing, OptionsWin, PipesStayPlain, SomeCalls, SomeNames, TerminalsPage};
+ghost use Rattle.termimad_options.specs.Laws.{LinksNeedStyles, NamesAskNothing, OptionsWin, PipesStayPlain, SomeCalls, SomeNames, TerminalsPage};
 
 /// Where standard output is no terminal, texts are written, and without styles where no skin is named.
 #[tactic(auto, using(crate::proofs::LawLemmas::pipes_plain))]
 pub fn pipes_stay_plain()
     ensures { PipesStayPlain }
+{}
+
+/// Where there are no styles, nothing is written of where links lead.
+#[tactic(auto, using(crate::proofs::LawLemmas::links_need_styles))]
+pub fn links_need_styles()
+    ensures { LinksNeedStyles }
 {}
 
 /// An option wins over a file's name, over what the terminal says, and over what is set.

@@ -2,24 +2,26 @@
 
 ghost use Rattle.std.specs.Prelude.{◌≡◌, ◌++◌, IfOk, OnOk, map, option_map, string_bytes};
 ghost use Rattle.termimad_options.specs.Calls.{reading_of};
-ghost use Rattle.termimad_options.specs.PlanLines.{file_bytes, files_bytes, inside_quotes, plan_bytes, quoted, quoted_char, reading_word, rows_of, way_word, yes_or_no};
+ghost use Rattle.termimad_options.specs.PlanLines.{code_word, file_bytes, files_bytes, inside_quotes, plan_bytes, quoted, quoted_char, reading_word, rows_of, way_word, yes_or_no};
 
 use crate::calls::Grammar;
 use crate::names::grammar_of_file;
 use crate::plans::{Plan, Way};
+use code_words::language_word;
 use std::alloc::{AllocError, Global};
 
-/// What a call does, as a line that a shell reads: variables, and then the texts, each with how it is read.
+/// What a call does, as a line that a shell reads: variables, and then the texts, each behind how it is read. Of code that is one word of the shell,
+/// `code` and what stands behind a fence of its language.
 ///
 /// # Errors
 ///
 /// Out of memory is the only error.
-pub fn plan_line(
+pub fn plan_line<'a>(
     alloc: Global,
     plan: &Plan,
     place: &str,
-    said: Option<Grammar>,
-    names: &[&str],
+    said: Option<Grammar<'a>>,
+    names: &[&'a str],
 ) -> Result<String, AllocError>
     ensures { IfOk result (λ line. string_bytes line ≡ plan_bytes plan.now place.now (option_map reading_of said.entry) (map (λ name. name.now) names.now)) }
 {
@@ -37,7 +39,7 @@ pub fn plan_line(
     line.push_str(" place=")?;
     push_quoted(&mut line, place)?;
     line.push_str("; set --")?;
-    push_files(&mut line, said, names)?;
+    push_files(alloc, &mut line, said, names)?;
     line.push('\n')?;
     Ok(line)
 }
@@ -70,33 +72,54 @@ fn yes_or_no(is_so: bool) -> &'static str
     if is_so { "yes" } else { "no" }
 }
 
-// Appends the texts of names, each behind the word for how it is read.
-fn push_files(line: &mut String, said: Option<Grammar>, names: &[&str]) -> Result<(), AllocError>
+// Appends the texts of names, each behind how it is read.
+fn push_files<'a>(
+    alloc: Global,
+    line: &mut String,
+    said: Option<Grammar<'a>>,
+    names: &[&'a str],
+) -> Result<(), AllocError>
     ensures { OnOk result (string_bytes line.new ≡ string_bytes line.old ++ files_bytes (option_map reading_of said.entry) (map (λ name. name.now) names.now)) }
 {
     for name in names {
-        push_file(line, said, name)?;
+        push_file(alloc, line, said, name)?;
     }
     Ok(())
 }
 
-// Appends a text's name behind the word for how it is read.
-fn push_file(line: &mut String, said: Option<Grammar>, name: &str) -> Result<(), AllocError>
-    ensures { OnOk result (string_bytes line.new ≡ string_bytes line.old ++ file_bytes (option_map reading_of said.entry) name.now) }
+// Appends a text's name behind how it is read.
+fn push_file<'a>(
+    alloc: Global,
+    line: &mut String,
+    said: Option<Grammar<'a>>,
+    name: &'a str,
+) -> Result<(), AllocError>
+    ensures { OnOk result (string_bytes line.new ≡ string_bytes line.old ++ file_bytes (option_map reading_of said.entry) name.entry.now) }
 {
-    line.push_str(reading_word(grammar_of_file(said, name)))?;
+    push_reading(alloc, line, grammar_of_file(said, name))?;
     push_quoted(line, name)
 }
 
-// The word for how a text is read, between blanks.
-fn reading_word(grammar: Grammar) -> &'static str
-    ensures { result.now ≡ reading_word (reading_of grammar.entry) }
+// Appends how a text is read, between blanks.
+fn push_reading(alloc: Global, line: &mut String, grammar: Grammar) -> Result<(), AllocError>
+    ensures { OnOk result (string_bytes line.new ≡ string_bytes line.old ++ reading_word (reading_of grammar.entry)) }
 {
     match grammar {
-        Grammar::Markdown => " markdown ",
-        Grammar::Lines => " lines ",
-        Grammar::Plain | Grammar::Code(_) => " plain ",
+        Grammar::Markdown => line.push_str(" markdown "),
+        Grammar::Lines => line.push_str(" lines "),
+        Grammar::Plain => line.push_str(" plain "),
+        Grammar::Code(word) => push_code(alloc, line, word),
     }
+}
+
+// Appends that a text is read as code, with what stands behind a fence of its language.
+fn push_code(alloc: Global, line: &mut String, word: &str) -> Result<(), AllocError>
+    ensures { OnOk result (string_bytes line.new ≡ string_bytes line.old ++ code_word word.now) }
+{
+    let info = String::from_utf8_lossy(alloc, language_word(word))?;
+    line.push_str(" 'code ")?;
+    push_inside(line, &info)?;
+    line.push_str("' ")
 }
 
 // Appends a text as one word of a shell: in single quotes, with those of its own outside of them.

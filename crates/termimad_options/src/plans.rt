@@ -133,12 +133,12 @@ fn suiting(around: &Surroundings) -> &'static str
     }
 }
 
-// Whether it is written where links lead.
+// Whether it is written where links lead; it isn't where there is no style.
 fn says_links(links: Links, around: &Surroundings, skin: &str) -> bool
     ensures { result ≡ says_links links around.now skin.now }
 {
     match links {
-        Links::Always => true,
+        Links::Always => skin != "none",
         Links::Never => false,
         Links::Auto => obeys(around) && skin != "none",
     }

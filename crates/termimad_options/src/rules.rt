@@ -26,13 +26,13 @@ pub fn options<'a>(alloc: Global) -> Result<Command<'a>, AllocError>
         alloc,
         "code",
         "LANGUAGE",
-        "Code of this language; isn't there yet",
+        "Shows code of this language, or as a file of this name",
     );
     let links = valued(
         alloc,
         "links",
         "WHEN",
-        "Where links lead: auto or never; always isn't there yet",
+        "Links that a terminal can follow: auto, always or never",
     );
     let lines = flag(
         alloc,
@@ -44,7 +44,7 @@ pub fn options<'a>(alloc: Global) -> Result<Command<'a>, AllocError>
         "plain",
         "Shows text that isn't Markdown, with its colors",
     );
-    let stream = flag(alloc, "stream", "Each part as it comes; isn't there yet");
+    let stream = flag(alloc, "stream", "Writes Markdown from a pipe as it comes");
     let no_pager = flag(alloc, "no-pager", "Writes, and doesn't page");
     bare(alloc)
         .arg(files(alloc))?

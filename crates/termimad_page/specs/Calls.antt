@@ -5,7 +5,7 @@ use Rattle.mad_page.specs.Pages.{files_named}
 use Rattle.mad_page.specs.declared.page.Files.{Files}
 use Rattle.termimad_page_run.specs.declared.program.Grammar.{Grammar}
 use Rattle.termimad_page_run.specs.declared.program.Grammar.TheVariants.{Lines, Markdown}
-use Rattle.termimad_run.specs.Numbers.{IsNumber}
+use Rattle.termimad_words.specs.Numbers.{IsNumber}
 use Rattle.termimad_page.specs.declared.call.Place.{Place}
 use Rattle.termimad_page.specs.declared.call.Place.TheVariants.{OnScreen, Whole}
 

@@ -9,9 +9,9 @@ use Rattle.mad_term.specs.declared.errors.Error.{Error}
 use Rattle.mad_term.specs.declared.errors.Error.TheVariants.{IO, InsufficientWidth, Memory as NoMemory}
 use Rattle.mad_pager.specs.declared.session.End.{End}
 use Rattle.mad_pager.specs.declared.session.End.TheVariants.{Quits, NextFile, PreviousFile}
-use Rattle.termimad_run.specs.Failures.{SaysOnce, status_of as failure_status}
-use Rattle.termimad_run.specs.declared.failure.Failure.{Failure}
-use Rattle.termimad_run.specs.declared.failure.Failure.TheVariants.{Io, Usage, NotUtf8, Skin, Memory}
+use Rattle.termimad_words.specs.Failures.{SaysOnce, status_of as failure_status}
+use Rattle.termimad_words.specs.declared.failure.Failure.{Failure}
+use Rattle.termimad_words.specs.declared.failure.Failure.TheVariants.{Io, Usage, NotUtf8, Skin, Memory}
 use Rattle.termimad_page.specs.declared.failing.Refusal.{Refusal}
 use Rattle.termimad_page.specs.declared.failing.Refusal.TheVariants.{Failed, Unread}
 

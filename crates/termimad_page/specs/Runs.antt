@@ -17,8 +17,8 @@ use Rattle.termimad_page_run.specs.Runs.{IsBrokenRun, IsPaged, shown_text}
 use Rattle.termimad_page_run.specs.declared.program.Grammar.{Grammar}
 use Rattle.termimad_page_run.specs.declared.program.Grammar.TheVariants.{Lines, Markdown}
 use Rattle.termimad_page_run.specs.declared.program.Sheet.{Sheet}
-use Rattle.termimad_run.specs.declared.failure.Failure.{Failure}
-use Rattle.termimad_run.specs.declared.failure.Failure.TheVariants.{Io, Usage, NotUtf8, Memory}
+use Rattle.termimad_words.specs.declared.failure.Failure.{Failure}
+use Rattle.termimad_words.specs.declared.failure.Failure.TheVariants.{Io, Usage, NotUtf8, Memory}
 use Rattle.termimad_page.specs.Calls.{Asks, IsNoCall, Where, as_whole, on_screen}
 use Rattle.termimad_page.specs.Ends.{Says, refusal_of, status_of, status_of_end}
 use Rattle.termimad_page.specs.Skins.{RefusesSkinFor, skin_for}

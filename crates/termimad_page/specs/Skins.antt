@@ -8,8 +8,8 @@ use Rattle.mad_page_skin.specs.declared.page_skin.PageSkin.{PageSkin}
 use Rattle.termimad_page_run.specs.PlainSkins.{plain_skin}
 use Rattle.termimad_page_run.specs.declared.program.Grammar.{Grammar}
 use Rattle.termimad_page_run.specs.declared.program.Grammar.TheVariants.{Lines, Markdown}
-use Rattle.termimad_run.specs.GivenSkins.{page_skin_given, skin_given, RefusesPageSkin, RefusesSkin}
-use Rattle.termimad_run.specs.declared.failure.Failure.{Failure}
+use Rattle.termimad_words.specs.GivenSkins.{page_skin_given, skin_given, RefusesPageSkin, RefusesSkin}
+use Rattle.termimad_words.specs.declared.failure.Failure.{Failure}
 
 -- ---- of lines
 

@@ -5,7 +5,7 @@ use Rattle.mad_term.specs.Trace.{Trace}
 use Rattle.termimad_given.specs.Given.{Args, GivesWords, LacksWords, files}
 use Rattle.termimad_given.specs.declared.arguments.NoWords.{NoWords}
 use Rattle.termimad_given.specs.declared.arguments.NoWords.TheVariants.{Undecoded, Memory as NoMemory}
-use Rattle.termimad_run.specs.declared.failure.Failure.TheVariants.{Usage, Memory}
+use Rattle.termimad_words.specs.declared.failure.Failure.TheVariants.{Usage, Memory}
 use Rattle.termimad_page.specs.Ends.{Says, status_of}
 use Rattle.termimad_page.specs.Runs.{Devices, HasRun, devices}
 use Rattle.termimad_page.specs.declared.failing.Refusal.{Refusal}

@@ -5,7 +5,7 @@ ghost use Rattle.mad_page.specs.declared.page.Files.{Files as SomeFiles};
 ghost use Rattle.termimad_page.specs.Calls.{Asks, AsksPlace, AsksScreen, AsksWhole, IsNoCall, SaysMore, Where, grammar_said, where_of, words_behind};
 
 use termimad_page_run::{Files, Grammar};
-use termimad_run::parse_number;
+use termimad_words::parse_number;
 
 // The columns at which a whole text is written, where no number says others.
 const WHOLE_COLUMNS: u16 = 80;

@@ -1,13 +1,13 @@
 //! How a run ends: its status, and what is said where it failed.
 
 ghost use Rattle.std.specs.Prelude.{◌≡◌};
-ghost use Rattle.termimad_run.specs.Failures.{SaysOnce};
+ghost use Rattle.termimad_words.specs.Failures.{SaysOnce};
 ghost use Rattle.termimad_page.specs.Ends.{Says, failure_line, refusal_of, refusal_reading, status_of, status_of_end};
 
 use mad_term::{Error, Out, put_all};
 use std::io::{self, ErrorKind};
 use termimad_page_run::End;
-use termimad_run::Failure;
+use termimad_words::Failure;
 
 // The status of a program that writes where nobody reads: 128 and the number of the signal that ends others then.
 const UNREAD: u8 = 141;

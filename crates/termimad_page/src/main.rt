@@ -21,7 +21,7 @@ use std::io::BufWriter;
 use std::process::ExitCode;
 use std::{env, io};
 use termimad_given::{Folder, NoWords, words_behind_name};
-use termimad_run::Failure;
+use termimad_words::Failure;
 
 fn main(rt: HostRuntime) -> ExitCode {
     let mut err = Stream::new(rt.stderr());

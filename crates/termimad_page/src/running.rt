@@ -17,7 +17,7 @@ use markdown_lines::texts::behind_mark;
 use std::alloc::Global;
 use termimad_given::Texts;
 use termimad_page_run::{End, Grammar, Sheet, run as page};
-use termimad_run::Failure;
+use termimad_words::Failure;
 
 /// Does what the words after the program's name ask for, and answers the status: keys come from the input, and a text is paged on the screen, or
 /// written whole on the output, which is then flushed.

@@ -7,7 +7,7 @@ use mad_layout::MadSkin;
 use mad_page_skin::PageSkin;
 use std::alloc::Global;
 use termimad_page_run::{Grammar, plain_skin};
-use termimad_run::{Failure, page_skin_of_word, skin_of};
+use termimad_words::{Failure, page_skin_of_word, skin_of};
 
 // The word that a call without one has for the skin of Markdown.
 const DEFAULT: &str = "default";

@@ -4,7 +4,7 @@ use Rattle.mad_term.specs.Stream.{untold}
 use Rattle.mad_term.specs.Trace.{Trace}
 use Rattle.termimad_command.specs.Refusals.{Says, status_of}
 use Rattle.termimad_command.specs.Runs.{HasRun}
-use Rattle.termimad_command.specs.Texts.{Streams, streams}
+use Rattle.termimad_command.specs.Written.{Streams, streams}
 use Rattle.termimad_command.specs.declared.refusals.Refusal.{Refusal}
 use Rattle.termimad_command.specs.declared.refusals.Refusal.TheVariants.{Undecoded, Memory}
 use Rattle.termimad_given.specs.Given.{Args, GivesWords, LacksWords, files}

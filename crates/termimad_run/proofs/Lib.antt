@@ -1,3 +1,4 @@
+pub mod AnswerLemmas
 pub mod Notices
 pub mod RunSteps
 pub mod SkinWords

@@ -2,7 +2,7 @@
 use Rattle.std.proofs.Common.{◌≡◌, ℕ, ◌+◌, ◌<◌, List, [], ◌∷◌, ◌++◌, length, map, drop, get_or, ap, sym, ◌∙◌, append_assoc}
 use Rattle.std.proofs.lemmas.List.{drop_more}
 use Rattle.std.specs.Prelude.{codes}
-use Rattle.termimad_run.specs.Failures.{key_lines}
+use Rattle.termimad_run.specs.UnknownKeys.{key_lines}
 
 -- one line more
 pub line_said : {K : Type 0} (bytes : K → List ℕ) (keys : List K) (i : ℕ) (d : K) (said next key : List ℕ) → i < length keys → key ≡ bytes (get_or keys i d)

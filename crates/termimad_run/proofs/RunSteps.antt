@@ -13,12 +13,12 @@ use Rattle.mad_term.proofs.Traces.{took_flushed}
 use Rattle.mad_layout.specs.Headline.{AreShownAcross}
 use Rattle.mad_layout.specs.RowSkins.{row_skin}
 use Rattle.mad_layout.specs.Shown.{AreShownIn}
-use Rattle.termimad_run.specs.declared.failure.Failure.{Failure}
-use Rattle.termimad_run.specs.declared.failure.Failure.TheVariants.{Io, Usage, Skin, Memory}
+use Rattle.termimad_words.specs.declared.failure.Failure.{Failure}
+use Rattle.termimad_words.specs.declared.failure.Failure.TheVariants.{Io, Usage, Skin, Memory}
 use Rattle.termimad_run.specs.Calls.{Asks, IsAllowed, IsWhole, RefusesWords}
-use Rattle.termimad_run.specs.Failures.{failure_of, streamed_failure}
+use Rattle.termimad_words.specs.Failures.{failure_of}
 use Rattle.termimad_run.specs.Reading.{ReadsWhole, ReadingFails}
-use Rattle.termimad_run.specs.ProgramRuns.{ComesAs, Devices, Starts, Started, FailsToStart, HasRead, HasWritten, WritesCall, ShowsCall, RunsWhole, StreamsInput, RunsTo}
+use Rattle.termimad_run.specs.ProgramRuns.{ComesAs, Devices, Starts, Started, FailsToStart, HasRead, HasWritten, WritesCall, ShowsCall, RunsWhole, RunsTo}
 
 -- the area of a command that words ask for is wide enough, and within the limits of a screen
 pub allowed : (words : List (List ℕ)) (command : Command) (word : Option (List ℕ)) → Asks words command word → IsAllowed command
@@ -116,12 +116,6 @@ still_shown skin (AsItComes width) text old written new h is = tt
 still_shown skin (MarkdownAsItComes width) text old written new h is = tt
 still_shown skin (Live width height) text old written new h is = tt
 still_shown skin Inline text old written new h is = tt
-
--- the exit of a text that is written as it comes
-pub stream_exit : {T : Type 0} (words : List (List ℕ)) (r : Result T Failure) (e : SourceError) (old new : Devices) → IsErrAnd r (λ f. f ≡ streamed_failure e) → StreamsInput {T = Unit {0}} words old (Err e) new → RunsTo words old r new
-stream_exit {T} words r e old new is h =
-    let p = err_from_is_err_and r is in
-    subst (λ (s : Result T Failure). RunsTo words old s new) (sym (p.1 ∙ ap Err p.2)) (inr (e, refl, h))
 
 -- a command that is that one
 pub comes_as : {T : Type 0} (skin : PageSkin) (command same : Command) (input out : Trace) (r : Result T SourceError) (input_now out_now : Trace) → command ≡ same → ComesAs skin same input out r input_now out_now → ComesAs skin command input out r input_now out_now

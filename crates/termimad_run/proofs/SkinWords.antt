@@ -4,14 +4,16 @@ use Rattle.mad_layout.specs.declared.MadSkin.{MadSkin}
 use Rattle.mad_page_skin.specs.declared.page_skin.PageSkin.{PageSkin}
 use Rattle.termimad_run.specs.declared.call.Command.{Command}
 use Rattle.termimad_run.specs.declared.call.Command.TheVariants.{InArea, AtWidth, AsMarkdown, AsCode, AsItComes, MarkdownAsItComes, Live, Inline}
-use Rattle.termimad_run.specs.declared.failure.Failure.{Failure}
-use Rattle.termimad_run.specs.declared.failure.Failure.TheVariants.{Io, Usage, NotUtf8, Skin, Memory}
+use Rattle.termimad_words.specs.declared.failure.Failure.{Failure}
+use Rattle.termimad_words.specs.declared.failure.Failure.TheVariants.{Io, Usage, NotUtf8, Skin, Memory}
 use Rattle.mad_term.specs.Trace.{Trace}
-use Rattle.termimad_run.specs.GivenSkins.{as_page, made_or_json, made_or_json_page, page_skin_named, skin_named, skin_shown, IsJsonShown}
+use Rattle.termimad_run.specs.ShownSkins.{as_page, skin_shown, IsJsonShown}
+use Rattle.termimad_words.specs.GivenSkins.{made_or_json, made_or_json_page, page_skin_named, skin_named}
 use Rattle.termimad_run.specs.Calls.{IsCall, IsSkinWord, Asks, AsksJson, AsksRefusedSkin, shows_page}
 use Rattle.mad_stream.specs.declared.SourceError.{SourceError}
 use Rattle.mad_stream.specs.declared.SourceError.TheVariants as source_error
-use Rattle.termimad_run.specs.Failures.{status_of, streamed_failure}
+use Rattle.termimad_run.specs.StreamFailures.{streamed_failure}
+use Rattle.termimad_words.specs.Failures.{status_of}
 use Rattle.termimad_run.specs.ProgramRuns.{Devices, Started, RunsWhole, RunsTo}
 
 one_word : (words : List (List ℕ)) (a b : Option (List ℕ)) → IsSkinWord words a → IsSkinWord words b → a ≡ b

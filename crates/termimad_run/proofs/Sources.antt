@@ -4,8 +4,8 @@ use Rattle.std.specs.Result.{IsErrAnd}
 use Rattle.std.proofs.lemmas.Result.{err_from_is_err_and}
 use Rattle.mad_term.specs.Trace.{Trace, ahead_all}
 use Rattle.termimad_run.specs.Reading.{ReadingFails}
-use Rattle.termimad_run.specs.declared.failure.Failure.{Failure}
-use Rattle.termimad_run.specs.declared.failure.Failure.TheVariants.{Memory}
+use Rattle.termimad_words.specs.declared.failure.Failure.{Failure}
+use Rattle.termimad_words.specs.declared.failure.Failure.TheVariants.{Memory}
 
 none_ahead : (o : Option (List ℕ)) → option_map (λ rest. [] ++ rest) o ≡ o
 none_ahead None = refl

@@ -7,10 +7,10 @@ use Rattle.termimad_run.specs.declared.call.Command.{Command}
 use Rattle.termimad_run.specs.declared.call.Command.TheVariants.{InArea, AtWidth, AsMarkdown, AsCode, AsItComes, MarkdownAsItComes, Live, Inline}
 use Rattle.termimad_run.specs.declared.call.Pieces.{Pieces}
 use Rattle.termimad_run.specs.declared.call.Pieces.TheVariants.{Stream as StreamPieces, Markdown as MarkdownPieces, Live as LivePieces}
-use Rattle.termimad_run.specs.declared.failure.Failure.{Failure}
-use Rattle.termimad_run.specs.declared.failure.Failure.TheVariants.{Usage, Skin, Memory}
-use Rattle.termimad_run.specs.GivenSkins.{skin_shown, IsJsonShown}
-use Rattle.termimad_run.specs.Numbers.{IsNumber}
+use Rattle.termimad_words.specs.declared.failure.Failure.{Failure}
+use Rattle.termimad_words.specs.declared.failure.Failure.TheVariants.{Usage, Skin, Memory}
+use Rattle.termimad_run.specs.ShownSkins.{skin_shown, IsJsonShown}
+use Rattle.termimad_words.specs.Numbers.{IsNumber}
 
 -- The words L, T, W and H are the numbers of this area: at least four columns, and its right and bottom at most 65535.
 pub record IsAreaOf (left top width height : List ℕ) (area : Area) : Type 0 where

@@ -1,7 +1,8 @@
+pub mod Answering
 pub mod Calls
-pub mod Failures
-pub mod GivenSkins
 pub mod LineEnds
-pub mod Numbers
-pub mod Reading
 pub mod ProgramRuns
+pub mod Reading
+pub mod ShownSkins
+pub mod StreamFailures
+pub mod UnknownKeys

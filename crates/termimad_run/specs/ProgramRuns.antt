@@ -21,10 +21,12 @@ use Rattle.mad_page_skin.specs.declared.page_skin.PageSkin.{PageSkin}
 use Rattle.mad_stream.specs.declared.SourceError.{SourceError}
 use Rattle.termimad_run.specs.declared.call.Command.{Command}
 use Rattle.termimad_run.specs.declared.call.Command.TheVariants.{InArea, AtWidth, AsMarkdown, AsCode, AsItComes, MarkdownAsItComes, Live, Inline}
-use Rattle.termimad_run.specs.declared.failure.Failure.{Failure}
-use Rattle.termimad_run.specs.declared.failure.Failure.TheVariants.{Io, Usage, NotUtf8, Skin, Memory}
+use Rattle.termimad_words.specs.declared.failure.Failure.{Failure}
+use Rattle.termimad_words.specs.declared.failure.Failure.TheVariants.{Io, Usage, NotUtf8, Skin, Memory}
 use Rattle.termimad_run.specs.Calls.{IsCall, IsWhole, IsNoCall, AsksRefusedSkin, AsksJson, RefusesWords}
-use Rattle.termimad_run.specs.Failures.{failure_of, streamed_failure, status_of, failure_line, SaysOnce, SaysKeys}
+use Rattle.termimad_run.specs.StreamFailures.{streamed_failure}
+use Rattle.termimad_run.specs.UnknownKeys.{SaysKeys}
+use Rattle.termimad_words.specs.Failures.{failure_of, status_of, failure_line, SaysOnce}
 use Rattle.termimad_run.specs.Reading.{ReadsWhole, ReadingFails}
 use Rattle.termimad_run.specs.LineEnds.{IsWithoutLineEnd}
 

@@ -1,8 +1,8 @@
 -- Reading a source to its end.
 use Rattle.std.specs.Prelude.{◌≡◌, ℕ, List}
 use Rattle.mad_term.specs.Trace.{Trace, failed, ahead_all, IsAtItsEnd}
-use Rattle.termimad_run.specs.declared.failure.Failure.{Failure}
-use Rattle.termimad_run.specs.declared.failure.Failure.TheVariants.{Io, Memory}
+use Rattle.termimad_words.specs.declared.failure.Failure.{Failure}
+use Rattle.termimad_words.specs.declared.failure.Failure.TheVariants.{Io, Memory}
 
 -- These bytes were read, and the source is at its end: where it tells its bytes, they are all that it had.
 pub record ReadsWhole (old : Trace) (bytes : List ℕ) (new : Trace) : Type 0 where

@@ -4,12 +4,11 @@ ghost use Rattle.std.specs.Prelude.{◌≡◌, ℕ, List, Option, MatchOption, M
 ghost use Rattle.mad_measure.specs.declared.Area.{Area as SomeArea};
 ghost use Rattle.termimad_run.specs.Calls.{Asks, IsWhole, command_of_pieces, shows_page, IsNoCall, IsAreaOf, IsSkinWord, AsksArea, AsksCode, AsksWidth, AsksSize, IsCall, RefusesWords};
 
-use crate::failure::Failure;
-use crate::number::parse_number;
 use crate::skin::skin_shown;
 use mad_measure::Area;
 use mad_page_skin::PageSkin;
 use std::alloc::Global;
+use termimad_words::{Failure, parse_number};
 
 // The least width of an area, in columns. Its text is laid out one column narrower, and at less than three nothing is wrapped.
 const LEAST_AREA_WIDTH: u16 = 4;

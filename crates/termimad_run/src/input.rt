@@ -3,9 +3,9 @@
 ghost use Rattle.std.specs.Prelude.{MatchResult};
 ghost use Rattle.termimad_run.specs.Reading.{ReadsWhole, ReadingFails};
 
-use crate::failure::Failure;
 use mad_term::Source;
 use std::alloc::Global;
+use termimad_words::Failure;
 
 // How many bytes one fill is asked for.
 const BLOCK: usize = 1 << 14;

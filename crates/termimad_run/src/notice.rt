@@ -1,7 +1,7 @@
 //! What is said of a skin that is read all the same.
 
 ghost use Rattle.std.specs.Prelude.{◌≡◌, ◌≢◌, [], IfOk, MatchResult, map, string_bytes};
-ghost use Rattle.termimad_run.specs.Failures.{key_lines, SaysKeys};
+ghost use Rattle.termimad_run.specs.UnknownKeys.{key_lines, SaysKeys};
 
 use mad_term::{Out, put_all};
 use std::alloc::{AllocError, Global};

@@ -5,12 +5,13 @@ ghost use Rattle.termimad_run.specs.Calls.{IsNoCall, AsksRefusedSkin};
 ghost use Rattle.termimad_run.specs.ProgramRuns.{Starts, FailsToStart, RunsTo, HasRun};
 
 use crate::call::{Call, parse_call, pieces_of};
-use crate::failure::{Failure, refuse};
 use crate::input::read_all;
 use crate::notice::say_unknown;
+use crate::stream_failure::streamed_failure;
 use crate::writing::{write_as_it_comes, write_call};
 use mad_term::{Out, Source};
 use std::alloc::Global;
+use termimad_words::{Failure, refuse};
 
 /// Runs the program on its arguments, without its own name, and answers its status.
 ///
@@ -51,8 +52,10 @@ fn execute<I: Source, O: Out, E: Out>(
 {
     let call = start(alloc, args, err)?;
     if let Some(pieces) = pieces_of(&call.command) {
-        write_as_it_comes(alloc, input, out, &call.skin, pieces)?;
-        return Ok(());
+        match write_as_it_comes(alloc, input, out, &call.skin, pieces) {
+            Ok(()) => return Ok(()),
+            Err(e) => return Err(streamed_failure(e)),
+        }
     }
     let bytes = read_all(alloc, input)?;
     let Ok(text) = simdutf8::from_utf8_baseline(bytes.as_slice()) else {

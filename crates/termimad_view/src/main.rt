@@ -1,4 +1,4 @@
-//! The program `termimad-view`: connects the standard streams to [`run`](termimad_run::run).
+//! The program `termimad-view`: connects the standard streams to [`run_or_answer`](termimad_run::run_or_answer).
 #![tactic(auto)]
 
 ghost use Rattle.std.specs.Prelude.{◌≡◌, MatchResult};
@@ -9,7 +9,8 @@ use std::io::BufWriter;
 use std::process::ExitCode;
 use std::{env, io};
 use termimad_given::{NoWords, words_behind_name};
-use termimad_run::{Failure, refuse, run};
+use termimad_run::run_or_answer;
+use termimad_words::{Failure, refuse};
 
 fn main(rt: HostRuntime) -> ExitCode {
     let mut err = Stream::new(rt.stderr());
@@ -44,7 +45,8 @@ fn run_given<E: Out>(
     };
     let mut input = Stream::new(rt.reader());
     let mut out = Stream::new(writer);
-    Ok(run(rt.alloc(), args.as_slice(), &mut input, &mut out, err))
+    let words = args.as_slice();
+    Ok(run_or_answer(rt.alloc(), words, &mut input, &mut out, err))
 }
 
 // Words that aren't UTF-8 are no call.

@@ -1,18 +1,15 @@
 //! Devices that fail, on which each call that writes is tried.
 
-use crate::asked::{Asked, numbers_of};
-use crate::refusal::Refusal;
-use crate::skins::skin_of;
-use crate::{mad_views, markdown_views, runs, screens, texts, untrusted};
+use crate::{mad_views, markdown_views, screens, texts, untrusted};
 use std::alloc::Global;
 use termimad::{CutOut, Error};
 use test_rows::devices::Writing;
+use test_skins::{Asked, Refusal, numbers_of, skin_of};
 
 /// Whether devices that fail get what they should of what a call writes.
 pub fn tried(alloc: Global, call: &str, text: &str) -> Result<String, Refusal> {
     let (name, words) = call.split_once(' ').unwrap_or((call, ""));
     match name {
-        "run" => Ok(runs::tried(alloc, words, text)?),
         "two_views" | "two_views_written" => mad_views::two_tried(alloc, words, text),
         "untrusted" | "printable" => {
             let text = untrusted::text_of(alloc, name == "printable", text)?;
@@ -87,6 +84,5 @@ fn writes(name: &str) -> bool {
             | "value"
             | "reads_back"
             | "devices"
-            | "run_in_twenty_bytes"
     ) && !name.starts_with("ends_of_")
 }

@@ -1,12 +1,11 @@
 //! Lines by themselves, and in wider places.
 
-use crate::asked::Asked;
-use crate::refusal::Refusal;
 use std::alloc::AllocError;
 use termimad::{
     Alignment, Composite, CompositeKind, CompositeStyle, CutOut, DisplayableLine, Error,
     FmtComposite, FmtLine, Spacing, inline, put_all,
 };
+use test_skins::{Asked, Refusal};
 
 /// What is displayed of each line of a text by itself.
 pub fn displayed(asked: &Asked) -> Result<String, Refusal> {

@@ -5,13 +5,12 @@ ghost use Rattle.std.specs.List.{AllByRecursion};
 ghost use Rattle.termimad.specs.Areas.{IsWithinLimits};
 ghost use Rattle.termimad.specs.MadViews.{area_of};
 
-use crate::asked::{Asked, area_from, numbers_of};
-use crate::refusal::Refusal;
 use crate::screens::picture;
 use crate::texts::taken;
 use std::alloc::{AllocError, Global};
 use termimad::{Area, CutOut, Error, MadSkin, MadView, draw_views};
 use test_rows::devices::Writing;
+use test_skins::{Asked, Refusal, area_from, numbers_of};
 
 // More than any row here writes.
 const ROOM: usize = 2000;

@@ -1,33 +1,28 @@
 //! Rows of the whole library: texts and lines as they are written, pictures of what a plain terminal shows, and skins as JSON texts.
 //!
-//! A call is `NAME NUMBERS SKIN`. An area's numbers are its left, top, width and height. The skin is the rest of the line: `default`,
-//! `dark`, `light`, `ascii` or JSON text, or no style where there is no rest. JSON text changes the default skin.
+//! A call is `NAME NUMBERS SKIN`, as `test_skins` says.
 //!
-//! 1. `asked`: what a call asks for; `skins`: skins and their values; `refusal`: why a call has no answer.
+//! 1. `skins`: what JSON texts change, and the values of skins.
 //! 2. `screens`: pictures of areas and views; `mad_views` and `markdown_views`: Markdown views; `moves`: what views answer to scrolls and keys; `texts` and
-//!    `lines`: what is written of texts and of single lines; `runs`: runs of the program;
+//!    `lines`: what is written of texts and of single lines;
 //!    `untrusted`: texts that others wrote; `devices`: devices that fail.
 #![tactic(auto)]
 
-mod asked;
 mod devices;
 mod lines;
 mod mad_views;
 mod markdown_views;
 mod moves;
-mod refusal;
-mod runs;
 mod screens;
 mod skins;
 mod texts;
 mod untrusted;
 
-use asked::{Asked, numbers_of};
-use refusal::Refusal;
 use std::alloc::{AllocError, Global};
 use std::io;
 use termimad::SkinError;
 use test_rows::Calls;
+use test_skins::{Asked, Refusal, numbers_of};
 
 fn main(rt: HostRuntime) -> io::Result<()> {
     test_rows::run(&rt, &LibraryCalls)
@@ -54,7 +49,6 @@ fn answer_of(alloc: Global, call: &str, text: &str) -> Result<String, Refusal> {
         "numbered" => skins::numbered(alloc, words.parse().unwrap_or(0)),
         "large" => large_answer(alloc, words, text),
         "refused" => refused_answer(alloc, words, text),
-        "run" => Ok(runs::run(alloc, runs::ROOM, words, text)?),
         "words_on_a_screen" => screens::words(alloc),
         "thumb" => moves::thumb(alloc, words),
         "moves" => moves::of_text_view(alloc, words, text),
@@ -65,7 +59,6 @@ fn answer_of(alloc: Global, call: &str, text: &str) -> Result<String, Refusal> {
         "untrusted" => untrusted::answer(alloc, words, text, false),
         "printable" => untrusted::answer(alloc, words, text, true),
         "devices" => devices::tried(alloc, words, text),
-        "run_in_twenty_bytes" => Ok(runs::run(alloc, 20, words, text)?),
         _ => answer_in_skin(alloc, name, words, text),
     }
 }
@@ -88,7 +81,7 @@ fn refused_answer(alloc: Global, call: &str, text: &str) -> Result<String, Refus
 
 fn answer_in_skin(alloc: Global, name: &str, words: &str, text: &str) -> Result<String, Refusal> {
     let (numbers, word) = numbers_of(words);
-    let skin = skins::skin_of(alloc, word)?;
+    let skin = test_skins::skin_of(alloc, word)?;
     let asked = Asked {
         alloc,
         skin,

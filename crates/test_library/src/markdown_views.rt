@@ -1,11 +1,10 @@
 //! Views of Markdown as people write it: pictures, and what they answer to scrolls, keys and other areas.
 
-use crate::asked::Asked;
 use crate::moves::{key_of, push_step, push_thumb};
-use crate::refusal::Refusal;
 use crate::screens::picture;
 use std::alloc::AllocError;
 use termimad::{Area, CutOut, DressedMarkdown, Error, Markdown, MarkdownView, PageSkin};
+use test_skins::{Asked, Refusal};
 
 // More than any row here writes.
 const ROOM: usize = 4000;

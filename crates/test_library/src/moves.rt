@@ -4,14 +4,12 @@
 //! `lines=COUNT`, `pages=NUM/DEN` and `resize=WIDTHxHEIGHT`. `scroll=SCROLL` sets the field. All other steps are keys, as `PageDown` or
 //! `Shift-Down`.
 
-use crate::asked::{Asked, numbers_of};
 use crate::markdown_views;
-use crate::refusal::Refusal;
-use crate::skins::skin_of;
 use std::alloc::{AllocError, Global};
 use termimad::{
     Area, KeyCode, KeyCombination, KeyEvent, KeyModifiers, MadView, TextView, compute_scrollbar,
 };
+use test_skins::{Asked, Refusal, numbers_of, skin_of};
 
 /// What a view answers to each step, if that has an answer; then its scroll, and the rows of its thumb.
 pub fn of_text_view(alloc: Global, words: &str, text: &str) -> Result<String, Refusal> {

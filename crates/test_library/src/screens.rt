@@ -3,8 +3,6 @@
 
 ghost use Rattle.termimad.specs.Areas.{IsWithinLimits};
 
-use crate::asked::Asked;
-use crate::refusal::Refusal;
 use std::alloc::{AllocError, Global};
 use termimad::layout::laws::words_on_a_screen;
 use termimad::screen::{Pen, Screen};
@@ -12,6 +10,7 @@ use termimad::{
     Area, ContentStyle, CutOut, Error, FmtText, ParseOptions, StyledContent, TextView,
     parse_text_with,
 };
+use test_skins::{Asked, Refusal};
 
 // More than any row here writes.
 const ROOM: usize = 20_000;

@@ -1,13 +1,12 @@
 //! What is written of a text.
 
-use crate::asked::Asked;
 use crate::lines;
-use crate::refusal::Refusal;
 use std::alloc::{AllocError, Global};
 use termimad::{
     CutOut, Error, FmtText, PageSkin, TextView, print_inline, print_text, term_text, text,
     write_markdown_on,
 };
+use test_skins::{Asked, Refusal};
 
 // More than any row writes.
 const ROOM: usize = 2_000_000;

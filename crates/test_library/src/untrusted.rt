@@ -4,9 +4,9 @@
 //! `⏎` U+240D, since the characters themselves are signs of all rows.
 
 use crate::answer_in_skin;
-use crate::refusal::Refusal;
 use std::alloc::{AllocError, Global};
 use termimad::printable;
+use test_skins::Refusal;
 
 fn meant(sign: char) -> char {
     match sign {

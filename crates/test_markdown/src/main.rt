@@ -6,9 +6,10 @@
 //! 2. [`lines`]: `lines`, what each line of a text does.
 //! 3. [`inlines`]: `inlines`, the inlines of a text.
 //! 4. [`pieces`]: `pieces`, the inlines of a text's leaves.
-//! 5. [`shown`]: `sections`, the sections that are shown of a text, and `links`, its links.
-//! 6. [`pages`]: `page W`, the rows of a text at a width; `page none`, without one. `boxes W`, the same where code has a background,
-//!    `ascii W`, where bullets are ASCII, and `plain W`, the page without styles.
+//! 5. [`shown`]: `sections`, the sections that are shown of a text; `links`, its links; `marks`, those of the characters that belong to links.
+//! 6. [`events`]: `events`, what begins and ends of a text's blocks; `walk`, the inlines of its paragraphs and headings as events.
+//! 7. [`pages`]: `page W`, the rows of a text at a width; `page none`, without one. `boxes W`, the same where code has a background,
+//!    `ascii W`, where bullets are ASCII, and `plain W`, the page without styles. `linked W`: that page with its links.
 //!
 //! In a text `▪` is a byte order mark.
 //!
@@ -17,6 +18,7 @@
 #![tactic(auto)]
 
 mod blocks;
+mod events;
 mod inlines;
 mod lines;
 mod pages;
@@ -36,9 +38,12 @@ impl Calls for MarkdownCalls {
         match call {
             "lines" => lines::picture_of(alloc, text),
             "blocks" => blocks::picture_of(alloc, text),
+            "events" => events::draw_events(alloc, text),
+            "walk" => events::draw_walk(alloc, text),
             "pieces" => pieces::draw_leaves(alloc, text),
             "links" => shown::draw_links(alloc, text),
             "sections" => shown::draw_sections(alloc, text),
+            "marks" => shown::draw_marks(alloc, text),
             _ => answer_at(alloc, call, text),
         }
     }
@@ -51,6 +56,7 @@ fn answer_at(alloc: Global, call: &str, text: &str) -> Result<String, AllocError
         Some(("plain", width)) => pages::draw_plain(alloc, width, text),
         Some(("boxes", width)) => pages::draw_boxes(alloc, width, text),
         Some(("ascii", width)) => pages::draw_ascii(alloc, width, text),
+        Some(("linked", width)) => pages::draw_linked(alloc, width, text),
         _ => inlines::draw_inlines(alloc, call, text),
     }
 }

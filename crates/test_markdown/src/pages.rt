@@ -5,6 +5,7 @@ use mad_layout::MadSkin;
 use mad_page_skin::PageSkin;
 use mad_term::Color;
 use markdown_layout::write_markdown_on;
+use markdown_linked_pages::write_markdown_with_links_on;
 use std::alloc::{AllocError, Global};
 
 // The rows of a text in a skin of the smaller grammar.
@@ -62,4 +63,15 @@ pub(crate) fn draw_boxes(alloc: Global, width: &str, text: &str) -> Result<Strin
         }
     }
     Ok(shown)
+}
+
+/// The rows of a text with its links, in the skin of a page without styles.
+pub(crate) fn draw_linked(alloc: Global, width: &str, text: &str) -> Result<String, AllocError> {
+    let width = width.parse::<usize>().ok();
+    let mut out = Gathered::new(alloc);
+    if write_markdown_with_links_on(alloc, &mut out, &PageSkin::plain(), text, width).is_err() {
+        return Err(AllocError);
+    }
+    let rows = str::from_utf8(&out.bytes).unwrap_or("no text");
+    String::from_str(alloc, rows)
 }

@@ -172,3 +172,26 @@ pub(crate) fn draw_links(alloc: Global, text: &str) -> Result<String, AllocError
     }
     Ok(picture)
 }
+
+/// The marks of links: of each section that has some, its number, and for each run of characters how many there are and their mark.
+pub(crate) fn draw_marks(alloc: Global, text: &str) -> Result<String, AllocError> {
+    let markdown = Markdown::read(alloc, text)?;
+    let page = markdown.page(alloc)?;
+    let mut picture = String::new(alloc);
+    for section in 0..page.sections.len() {
+        let mut before = 0;
+        for run in &markdown.link_marks(alloc, section)? {
+            if before == 0 {
+                write!(picture, "{section}")?;
+            }
+            let count = run.end.saturating_sub(before);
+            let mark = run.value;
+            write!(picture, " {count}x{mark}")?;
+            before = run.end;
+        }
+        if before > 0 {
+            picture.push('\n')?;
+        }
+    }
+    Ok(picture)
+}

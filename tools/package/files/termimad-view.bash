@@ -2,10 +2,11 @@
 _termimad_view() {
     local word=${COMP_WORDS[COMP_CWORD]} numbers skins
     if [ "$COMP_CWORD" -eq 1 ]; then
-        mapfile -t COMPREPLY < <(compgen -W "markdown markdown-stream code text stream live inline area" -- "$word")
+        mapfile -t COMPREPLY < <(compgen -W "markdown markdown-stream code text stream live inline area --help --version" -- "$word")
         return
     fi
     case ${COMP_WORDS[1]} in
+    -*) return ;;
     inline) numbers=0 ;;
     area) numbers=4 ;;
     live | code) numbers=2 ;;

@@ -3,7 +3,7 @@ _termimad() {
     local word=${COMP_WORDS[COMP_CWORD]}
     case ${COMP_WORDS[COMP_CWORD - 1]} in
     --skin) mapfile -t COMPREPLY < <(compgen -W "auto dark light sixteen none" -- "$word"; compgen -f -X "!*.json" -- "$word") ;;
-    --links) mapfile -t COMPREPLY < <(compgen -W "auto never" -- "$word") ;;
+    --links) mapfile -t COMPREPLY < <(compgen -W "auto always never" -- "$word") ;;
     -w | --width | --code) COMPREPLY=() ;;
     *)
         case $word in

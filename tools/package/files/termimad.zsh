@@ -6,11 +6,11 @@ _termimad_skins() {
 _arguments -s \
     '(-w --width)'{-w+,--width=}'[write in so many columns]:columns:' \
     '--skin=[show it in this skin]:skin: _termimad_skins' \
-    '--code=[code of this language; not there yet]:language:' \
-    '--links=[where links lead]:when:(auto never)' \
+    '--code=[show code of this language]:language:' \
+    '--links=[write links that a terminal can follow]:when:(auto always never)' \
     '--lines[show each line by itself, in the smaller grammar]' \
     "--plain[show text that isn't Markdown, with its colors]" \
-    '--stream[each part as it comes; not there yet]' \
+    '--stream[write Markdown from a pipe as it comes]' \
     '--no-pager[write, and do not page]' \
     '-F[do not page what fits on one screen]' \
     '(- *)'{-h,--help}'[say the options]' \

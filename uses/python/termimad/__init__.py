@@ -25,7 +25,7 @@
 
     Markdown, markdown     Markdown as people write it: as an object, and as a call
     Link, Heading          what `Markdown(..).links` and `Markdown(..).headings` have
-    code                   a text of code as a page
+    Code, code             a text of code, in the colors of its language
     table                  a table of lists, of dicts or of a CSV file
     Lines, text, area      a text of the small grammar: at a width, in an area of the screen
     inline, fit, rows      a line, a line that is cut, how many rows a text takes
@@ -51,10 +51,10 @@ import os
 from typing import Iterable, Iterator, List, Mapping, Optional, Sequence, Union
 
 from ._calls import NotUtf8, OutOfMemory, Refused, Skin, Words, WrongNumber, WrongSkin, raw, result, row_count, rows_of_parts, skin_word, table_of_cells
-from ._pages import Heading, Lines, Link, Markdown, background, code, columns_of, terminal_width
+from ._pages import Code, Heading, Lines, Link, Markdown, background, code, columns_of, terminal_width
 
 __version__ = "0.3.0"
-__all__ = ["Align", "Heading", "Lines", "Link", "Markdown", "NotUtf8", "OutOfMemory", "Refused", "Skin", "Words", "WrongNumber", "WrongSkin", "area", "background", "code", "fit",
+__all__ = ["Align", "Code", "Heading", "Lines", "Link", "Markdown", "NotUtf8", "OutOfMemory", "Refused", "Skin", "Words", "WrongNumber", "WrongSkin", "area", "background", "code", "fit",
     "inline", "markdown", "printable", "rows", "table", "terminal_width", "text", "text_of_pieces"]
 
 Record = Union[Sequence[object], Mapping[str, object]]

@@ -76,6 +76,7 @@ _PARAMETERS = {
     "termimad_area": _BYTES * 2 + [ctypes.c_size_t] * 4 + _BYTES,
     "termimad_text": _BYTES * 2 + [ctypes.c_size_t] + _BYTES,
     "termimad_markdown": _BYTES * 2 + [ctypes.c_size_t] + _BYTES,
+    "termimad_code": _BYTES * 3 + [ctypes.c_size_t] + _BYTES,
     "termimad_links": _BYTES * 2,
     "termimad_headings": _BYTES * 2,
     "termimad_parts": _BYTES * 2 + [ctypes.c_size_t] * 3 + _BYTES,

@@ -7,7 +7,7 @@ import select
 import shutil
 import sys
 import time
-from typing import Any, Iterator, List, NamedTuple, Optional, TextIO
+from typing import Any, Dict, Iterator, List, NamedTuple, Optional, TextIO
 
 from ._calls import Skin, Words, lines_of, raw, result, skin_word
 
@@ -163,7 +163,11 @@ class _Shown:
         return skin_for("auto", console.is_terminal and not console.no_color)
 
     def _written(self, width: Optional[int], skin: Skin) -> str:
-        return result(self._call, {"source": self.source, "skin": skin_word(skin)}, {"width": columns_of(width)})
+        return result(self._call, self._texts(skin), {"width": columns_of(width)})
+
+    def _texts(self, skin: Skin) -> Dict[str, Words]:
+        """What the call takes of texts."""
+        return {"source": self.source, "skin": skin_word(skin)}
 
 
 class Markdown(_Shown):
@@ -224,15 +228,35 @@ class Lines(_Shown):
         return super()._written(width, "" if skin == "none" else skin)
 
 
-def code(text: Words, language: str = "") -> Markdown:
-    """A text of code, or that of a file, as a page of one block. `language` is its first word, such as `rust`.
+class Code(_Shown):
+    """A text of code, or that of a file, in the language of a word, or of a file of that name.
+
+    >>> page = Code("let a = `b`;", "rust")
+    >>> print(page)
+      let a = `b`;
+    >>> page
+    Code('let a = `b`;', 'rust')
+
+    Without a language it is that of the file's name, if the source is a path.
+    """
+
+    _call = "termimad_code"
+
+    def __init__(self, source: Words, language: str = "") -> None:
+        super().__init__(source)
+        self.language = language or (os.path.basename(os.fsdecode(source)) if isinstance(source, os.PathLike) else "")
+
+    def __repr__(self) -> str:
+        return f"{super().__repr__()[:-1]}, {self.language!r})"
+
+    def _texts(self, skin: Skin) -> Dict[str, Words]:
+        return {"source": self.source, "language": self.language, "skin": skin_word(skin)}
+
+
+def code(text: Words, language: str = "") -> Code:
+    """A text of code, or that of a file, as a page. `language` is the word of a language, such as `rust`, or a file's name, such as `main.rs`.
 
     >>> code("let a = `b`;", "rust").rows(width=20)
     ['  let a = `b`;']
     """
-    body = raw(text)
-    longest = max((len(run) for run in re.findall(rb"`+", body)), default=0)
-    fence = b"`" * max(longest + 1, 3)
-    word = re.split(r"[\s`]", language.strip(), maxsplit=1)[0].encode("utf-8", "replace")
-    end = b"" if body.endswith(b"\n") or not body else b"\n"
-    return Markdown(fence + word + b"\n" + body + end + fence + b"\n")
+    return Code(text, language)

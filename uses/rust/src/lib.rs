@@ -1,7 +1,7 @@
 //! Markdown for terminals: a safe wrapper over `libtermimad.a`.
 //!
-//! A skin is `""` for no style, `default`, `dark` or `light`, or JSON text as `{"bold":"red"}`, which changes the default skin. For [`markdown`] it is
-//! that of a page: `none`, `sixteen` and the key `page` too.
+//! A skin is `""` for no style, `default`, `dark` or `light`, or JSON text as `{"bold":"red"}`, which changes the default skin. For [`markdown`] and
+//! [`code`] it is that of a page: `none`, `sixteen` and the key `page` too.
 
 use std::{fmt, io};
 
@@ -49,6 +49,17 @@ extern "C" {
     fn termimad_markdown(
         text: *const u8,
         text_length: usize,
+        skin: *const u8,
+        skin_length: usize,
+        width: usize,
+        buffer: *mut u8,
+        capacity: usize,
+    ) -> Answer;
+    fn termimad_code(
+        text: *const u8,
+        text_length: usize,
+        language: *const u8,
+        language_length: usize,
         skin: *const u8,
         skin_length: usize,
         width: usize,
@@ -253,27 +264,27 @@ impl fmt::Display for Page<'_> {
     }
 }
 
-/// A text of code as a page of one block of that language: the first word of `language`, such as `rust`.
+/// A text of code, laid out at a width, in columns: what a fence around it shows. `language` is the word of a language, such as `rust`, or the name of a
+/// file, such as `main.rs`.
 ///
 /// ```
 /// let rows = termimad_proved::code("let a = 1;", "rust", 40, "none");
 /// assert_eq!(rows.as_deref(), Ok("  let a = 1;\n"));
 /// ```
 pub fn code(text: &str, language: &str, width: usize, skin: &str) -> Result<String, Refused> {
-    let fence = "`".repeat(longest_run(text) + 3);
-    let is_end = |c: char| c.is_whitespace() || c == '`';
-    let word = language.trim().split(is_end).next().unwrap_or("");
-    let mut page = format!("{fence}{word}\n{text}");
-    if !text.is_empty() && !text.ends_with('\n') {
-        page.push('\n');
-    }
-    page += &fence;
-    markdown(&page, width, skin)
-}
-
-// The backquotes of the longest run of them.
-fn longest_run(text: &str) -> usize {
-    text.split(|c| c != '`').map(str::len).max().unwrap_or(0)
+    filled(|buffer| unsafe {
+        termimad_code(
+            text.as_ptr(),
+            text.len(),
+            language.as_ptr(),
+            language.len(),
+            skin.as_ptr(),
+            skin.len(),
+            width,
+            buffer.as_mut_ptr(),
+            buffer.len(),
+        )
+    })
 }
 
 /// The rows of a text that a reader gives, as soon as they are complete: in all, what [`text`] makes of the whole.

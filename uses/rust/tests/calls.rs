@@ -67,6 +67,15 @@ fn code_is_one_block() {
 }
 
 #[test]
+fn code_has_the_colors_of_its_language() {
+    let colored = code("let a = 1;", "rust", 40, "dark");
+    assert_ne!(code("let a = 1;", "nothing", 40, "dark"), colored);
+    assert_eq!(code("let a = 1;", "main.rs", 40, "dark"), colored);
+    let fenced = markdown("```rust\nlet a = 1;\n```", 40, "dark");
+    assert_eq!(fenced, colored);
+}
+
+#[test]
 fn links_and_headings_are_told() {
     let text = "# Disks\n\n## Disks\n\nsee [there](#disks-1) and ![this](a.png)";
     let names: Vec<String> = headings(text)

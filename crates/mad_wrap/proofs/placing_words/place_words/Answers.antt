@@ -11,7 +11,7 @@ use Rattle.mad_wrap.proofs.placing_words.place_words.Goals.{else-may_go_on-via-t
 use Rattle.mad_wrap.proofs.placing_words.place_words.Goals.{then-not-is_empty+in_ok-put_begun, else-not-is_empty}
 
 pub loop-token-init : goal.loop-token-init
-loop-token-init c = record { so_far = words_begin c.args.room c.args.compounds.now _ _ c.new-lines.ensures c.new-word.ensures.items }
+loop-token-init c = record { so_far = words_begin c.args.room c.args.compounds.now _ _ c.in_ok-lines.ensures c.new-word.ensures.items }
 
 pub loop-token-preserved-then-token-limit : goal.loop-token-preserved-then-token-limit
 loop-token-preserved-then-token-limit c = record {

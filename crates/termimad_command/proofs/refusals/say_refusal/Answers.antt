@@ -1,5 +1,5 @@
 use Rattle.termimad_command.proofs.SayLemmas.{mistake_said, refusal_said}
-use Rattle.termimad_command.specs.declared.refusals.Refusal.TheVariants.{Lacking, Skin, Memory}
+use Rattle.termimad_command.specs.declared.refusals.Refusal.TheVariants.{Lacking, Skin, NotUtf8, Memory}
 use Rattle.termimad_command.proofs.refusals.say_refusal.Goals as goal
 
 pub returns-in-Mistaken : goal.returns-in-Mistaken
@@ -13,3 +13,6 @@ returns-in-Skin g c = refusal_said _ Skin _ _ c.in-Skin.is c.say-in-Skin.ensures
 
 pub returns-in-Memory : goal.returns-in-Memory
 returns-in-Memory g c = refusal_said _ Memory _ _ c.in-Memory.is c.say-in-Memory.ensures
+
+pub returns-in-NotUtf8 : goal.returns-in-NotUtf8
+returns-in-NotUtf8 g c = refusal_said _ NotUtf8 _ _ c.in-NotUtf8.is c.say-in-NotUtf8.ensures

@@ -1,13 +1,14 @@
-use Rattle.std.proofs.lemmas.Result.{err_from_is_err_and}
-use Rattle.termimad_command.proofs.ShowLemmas.{read_and_written, unread_unshown}
+use Rattle.std.proofs.Common.{◌∙◌, sym, option_map}
+use Rattle.termimad_options.specs.Calls.{reading_of}
+use Rattle.termimad_command.proofs.ShowLemmas.{shown_as_it_comes, shown_whole}
 use Rattle.termimad_command.proofs.showing.show_text.Goals as goal
 
-pub returns-in_err-bytes : goal.returns-in_err-bytes
-returns-in_err-bytes g c =
-    let p = err_from_is_err_and c.from_residual.result c.from_residual.ensures.1 in
-    rw (p.1, p.2) (unread_unshown _ _ _ _ _ _ _ _ c.in_err-bytes.ensures)
+pub returns-then-comes : goal.returns-then-comes
+returns-then-comes g c =
+    shown_as_it_comes (g.T.Texts.holds c.args.texts.now) c.args.look.now (option_map reading_of c.args.said) c.args.name.now _ _ c.stream_text.result
+    (sym c.comes.ensures ∙ c.if-comes.true) c.stream_text.ensures
 
 pub returns : goal.returns
 returns g c =
-    read_and_written _ _ _ _ c.in_ok-bytes.bytes.items _ _ _ _ _ _ c.write_bytes.result
-    c.in_ok-bytes.ensures c.as_slice.ensures.value c.grammar_of_file-grammar.ensures c.write_bytes.ensures
+    shown_whole (g.T.Texts.holds c.args.texts.now) c.args.look.now (option_map reading_of c.args.said) c.args.name.now _ _ c.show_whole.result
+    (sym c.comes.ensures ∙ c.if-comes.false) c.show_whole.ensures

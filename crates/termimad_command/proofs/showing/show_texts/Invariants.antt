@@ -1,7 +1,7 @@
 use Rattle.std.proofs.Common.{drop, map, option_map}
 use Rattle.termimad_options.specs.Calls.{reading_of}
 use Rattle.termimad_command.proofs.ShowLemmas.{AreToCome}
-use Rattle.termimad_command.specs.Texts.{streams}
+use Rattle.termimad_command.specs.Written.{streams}
 use Rattle.termimad_command.proofs.showing.show_texts.Given as goal
 
 -- what is done of the names that are left is done of all of them

@@ -1,5 +1,5 @@
 use Rattle.std.proofs.Common.{◌≡◌, ◌++◌, map, drop, string_bytes}
-use Rattle.termimad_run.specs.Failures.{key_lines}
+use Rattle.termimad_run.specs.UnknownKeys.{key_lines}
 use Rattle.termimad_run.proofs.notice.lines_of.Given as goal
 
 -- what was written, and the lines of the keys that are left

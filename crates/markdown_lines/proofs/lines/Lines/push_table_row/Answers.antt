@@ -1,10 +1,11 @@
-use Rattle.std.proofs.Common.{◌∙◌, ap, arith, map, string_bytes}
+use Rattle.std.proofs.Common.{◌+◌, ◌∙◌, ap, arith, length, map, string_bytes}
 use Rattle.markdown_lines.specs.Lines.{cell_said}
 use Rattle.markdown_lines.specs.LinksOf.{defined_of}
 use Rattle.markdown_lines.specs.Said.{said}
 use Rattle.markdown_lines.specs.Shown.{shown}
 use Rattle.markdown_lines.specs.Tables.{cells}
 use Rattle.markdown_lines.proofs.LinkLemmas.{addresses_next, addresses_done}
+use Rattle.markdown_lines.proofs.NumberLemmas.{numbers_next, numbers_done}
 use Rattle.markdown_lines.proofs.TableLemmas.{cells_next, ranges_next, lines_kept, row_done}
 use Rattle.markdown_lines.proofs.lines.Lines.push_table_row.Goals as goal
 
@@ -22,6 +23,8 @@ loop-more-preserved c =
           held.within adds.runs adds.range c.in_ok-push.ensures.items c.in_ok-runs.ensures.runs c.after_cell-rest.ensures ∙ held.so_far;
       leads = addresses_next (defined_of c.args.definitions.now) (map string_bytes c.loop-more.addresses.items) (map string_bytes c.read_first_cell.new.addresses.items) c.loop-more.rest.now c.after_cell-rest.result.now c.loop-more.more (omega arith)
           c.in_ok-runs.ensures.addresses c.after_cell-rest.ensures ∙ held.leads;
+      numbers = numbers_next string_bytes (defined_of c.args.definitions.now) c.args.bold c.args.before c.loop-more.addresses.items c.read_first_cell.new.addresses.items c.loop-more.numbers.items c.read_first_cell.new.numbers.items c.loop-more.rest.now c.after_cell-rest.result.now c.loop-more.more (omega arith)
+          c.in_ok-runs.ensures.addresses c.in_ok-runs.ensures.numbers c.after_cell-rest.ensures ∙ held.numbers;
     }
 
 pub returns-clause-row : goal.returns-clause-row
@@ -31,3 +34,6 @@ returns-clause-row c =
 
 pub returns-clause-addresses : goal.returns-clause-addresses
 returns-clause-addresses c = addresses_done (defined_of c.args.definitions.now) (map string_bytes c.loop-more.addresses.items) _ c.loop-more.rest.now c.loop-more.more (omega arith) c.loop-more.invariant.leads
+
+pub returns-clause-numbers : goal.returns-clause-numbers
+returns-clause-numbers c = numbers_done (defined_of c.args.definitions.now) c.args.bold (length c.loop-more.addresses.items + c.args.before) c.loop-more.numbers.items _ c.loop-more.rest.now c.loop-more.more (omega arith) c.loop-more.invariant.numbers

@@ -6,7 +6,7 @@ use Rattle.markdown_lines.proofs.runs.Runs.push_from.Given as goal
 
 abbrev pub invariant-loop-rest : goal.invariant-loop-rest
 invariant-loop-rest l = record {
-  same : said l.self ++ runs_from l.flags (string_bytes l.text) l.rest ≡ said l.fn.self ++ runs_from l.fn.first.flags (encode_utf8 l.fn.first.c) l.others;
+  same : said l.self ++ runs_from l.begun (string_bytes l.text) l.rest ≡ said l.fn.self ++ runs_from l.fn.first (encode_utf8 l.fn.first.c) l.others;
   grows : length (said l.fn.self) ≤ length (said l.self);
 }
 

@@ -1,0 +1,3 @@
+pub mod Marks
+pub mod Hearing
+pub mod Laws

@@ -1,0 +1,4 @@
+pub mod LineLemmas
+pub mod NestLemmas
+pub mod PlaceLemmas
+pub mod WalkLemmas

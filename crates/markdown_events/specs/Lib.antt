@@ -1,0 +1,4 @@
+pub mod Contents
+pub mod Laws
+pub mod Places
+pub mod Walks

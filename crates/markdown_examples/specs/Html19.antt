@@ -1,0 +1,30 @@
+-- Examples 451 to 475: each text with its html.
+use Rattle.std.specs.Prelude.{codes}
+use Rattle.markdown_as_html.specs.Prints.{IsPrinted}
+
+pub record ArePrinted19 : Type 0 where
+  pub e451 : IsPrinted (codes "[a](((((b)))))") (codes "<p><a href=\"((((b))))\">a</a></p>\n")
+  pub e452 : IsPrinted (codes "1234567890. a") (codes "<p>1234567890. a</p>\n")
+  pub e453 : IsPrinted (codes "a `  ` b") (codes "<p>a <code>  </code> b</p>\n")
+  pub e454 : IsPrinted (codes "*foo**bar*") (codes "<p><em>foo**bar</em></p>\n")
+  pub e455 : IsPrinted (codes "foo***bar***baz") (codes "<p>foo<em><strong>bar</strong></em>baz</p>\n")
+  pub e456 : IsPrinted (codes "a [b [c](d) e](f)") (codes "<p>a [b <a href=\"d\">c</a> e](f)</p>\n")
+  pub e457 : IsPrinted (codes "[ẞ]\n\n[SS]: /url") (codes "<p><a href=\"/url\">ẞ</a></p>\n")
+  pub e458 : IsPrinted (codes "<m:abc> <ma:abc>") (codes "<p>&lt;m:abc&gt; <a href=\"ma:abc\">ma:abc</a></p>\n")
+  pub e459 : IsPrinted (codes "a ~~~b~~~ c") (codes "<p>a ~~~b~~~ c</p>\n")
+  pub e460 : IsPrinted (codes "a ~b~~ c") (codes "<p>a ~b~~ c</p>\n")
+  pub e461 : IsPrinted (codes "[a]\n\n[a]: b\n[a]: c") (codes "<p><a href=\"b\">a</a></p>\n")
+  pub e462 : IsPrinted (codes "-     a") (codes "<ul>\n<li>\n<pre><code>a\n</code></pre>\n</li>\n</ul>\n")
+  pub e463 : IsPrinted (codes "http://a.b. c") (codes "<p><a href=\"http://a.b\">http://a.b</a>. c</p>\n")
+  pub e464 : IsPrinted (codes "&amp a &copy") (codes "<p>&amp;amp a &amp;copy</p>\n")
+  pub e465 : IsPrinted (codes "&#0; &#xD801; &#x110000;") (codes "<p>� � �</p>\n")
+  pub e466 : IsPrinted (codes "```\na\n    ```\n```\nb") (codes "<pre><code>a\n    ```\n</code></pre>\n<p>b</p>\n")
+  pub e467 : IsPrinted (codes "~~~ a`b\nc\n~~~") (codes "<pre><code class=\"language-a`b\">c\n</code></pre>\n")
+  pub e468 : IsPrinted (codes "*\u{a0}a*") (codes "<p>*\u{a0}a*</p>\n")
+  pub e469 : IsPrinted (codes "[a](<b\nc>)") (codes "<p>[a](<b\nc>)</p>\n")
+  pub e470 : IsPrinted (codes "<a@bbbbbbbbbbbbbbbbbbbbbbbbbbbbbbbbbbbbbbbbbbbbbbbbbbbbbbbbbbbbbbbb.c> <a@bbbbbbbbbbbbbbbbbbbbbbbbbbbbbbbbbbbbbbbbbbbbbbbbbbbbbbbbbbbbbbb.c>") (codes "<p>&lt;<a href=\"mailto:a@bbbbbbbbbbbbbbbbbbbbbbbbbbbbbbbbbbbbbbbbbbbbbbbbbbbbbbbbbbbbbbbb.c\">a@bbbbbbbbbbbbbbbbbbbbbbbbbbbbbbbbbbbbbbbbbbbbbbbbbbbbbbbbbbbbbbbb.c</a>&gt; <a href=\"mailto:a@bbbbbbbbbbbbbbbbbbbbbbbbbbbbbbbbbbbbbbbbbbbbbbbbbbbbbbbbbbbbbbb.c\">a@bbbbbbbbbbbbbbbbbbbbbbbbbbbbbbbbbbbbbbbbbbbbbbbbbbbbbbbbbbbbbbb.c</a></p>\n")
+  pub e471 : IsPrinted (codes "&#00000065; &#0000065; &#x0000041; &#x000041;") (codes "<p>&amp;#00000065; A &amp;#x0000041; A</p>\n")
+  pub e472 : IsPrinted (codes "<textarea>\n\n*a*</textarea>\n*b*") (codes "<textarea>\n\n*a*</textarea>\n<p><em>b</em></p>\n")
+  pub e473 : IsPrinted (codes "a\n<DIV>\n*b*") (codes "<p>a</p>\n<DIV>\n*b*\n")
+  pub e474 : IsPrinted (codes "a\n2. b\n1. c") (codes "<p>a\n2. b</p>\n<ol>\n<li>c</li>\n</ol>\n")
+  pub e475 : IsPrinted (codes "- x\n  - a\n\n  + b") (codes "<ul>\n<li>\n<p>x</p>\n<ul>\n<li>a</li>\n</ul>\n<ul>\n<li>b</li>\n</ul>\n</li>\n</ul>\n")

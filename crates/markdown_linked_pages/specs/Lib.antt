@@ -1,0 +1,5 @@
+pub mod LinkedPageLaws
+pub mod LinkedPageRows
+pub mod LinkedPages
+pub mod LinkedRowLaws
+pub mod MarkLaws

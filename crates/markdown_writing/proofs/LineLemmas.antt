@@ -1,0 +1,102 @@
+-- The lines of a page that was written.
+use Rattle.std.proofs.Common.{◌≡◌, ℕ, zero, suc, Bool, true, false, not, ◌||◌, ◌&&◌, ◌==◌, List, [], ◌∷◌, ◌++◌, replicate, flat_map, refl, ap, ◌∙◌, append_assoc}
+use Rattle.std.proofs.lemmas.Bool.{and_parts}
+use Rattle.std.specs.Char.{is_ascii_punctuation}
+use Rattle.std.specs.List.{AllByRecursion, list_all, onto_first}
+use Rattle.markdown_blocks.specs.Lines.{text_lines}
+use Rattle.markdown_writing.specs.Pages.{Written, heading, paragraph, code, thematic_break, block_lines, block_text, ended, fence, longest, markdown_from}
+use Rattle.markdown_writing.specs.Reading.{IsWritable}
+use Rattle.markdown_writing.specs.Words.{escaped, escaped_byte, escaped_if, is_mark}
+use Rattle.markdown_writing.specs.Writable.{is_line, is_tab_or_end}
+use Rattle.markdown_writing.proofs.WordLemmas.{by_escape}
+
+-- ---- bytes of lines
+
+and_true : (p q : Bool) → p ≡ true → q ≡ true → (p && q) ≡ true
+and_true true q f g = g
+and_true false q f g = f
+
+-- what holds of each of two lists holds of both together
+both_lines : (xs ys : List ℕ) → is_line xs ≡ true → is_line ys ≡ true → is_line (xs ++ ys) ≡ true
+both_lines [] ys h k = k
+both_lines (x ∷ xs) ys h k = let parts = and_parts (not (is_tab_or_end x)) (is_line xs) h in and_true _ _ parts.0 (both_lines xs ys parts.1 k)
+
+signs_line : (n b : ℕ) → not (is_tab_or_end b) ≡ true → is_line (replicate n b) ≡ true
+signs_line zero b h = refl
+signs_line (suc n) b h = and_true _ _ h (signs_line n b h)
+
+escape_line : (t : Bool) (b : ℕ) → not (is_tab_or_end b) ≡ true → is_line (escaped_if t b) ≡ true
+escape_line t b h = by_escape (λ (bs : List ℕ). is_line bs ≡ true) t b (λ e. and_true _ true h refl) (λ e. and_true _ true h refl)
+
+rest_line : (words : List ℕ) → is_line words ≡ true → is_line (flat_map escaped_byte words) ≡ true
+rest_line [] h = refl
+rest_line (b ∷ bs) h = let parts = and_parts (not (is_tab_or_end b)) (is_line bs) h in both_lines (escaped_byte b) (flat_map escaped_byte bs) (escape_line (is_mark b) b parts.0) (rest_line bs parts.1)
+
+-- escaped words are a line
+words_line : (words : List ℕ) → is_line words ≡ true → is_line (escaped words) ≡ true
+words_line [] h = refl
+words_line (b ∷ bs) h =
+    let parts = and_parts (not (is_tab_or_end b)) (is_line bs) h in
+    both_lines (escaped_if (is_ascii_punctuation b) b) (flat_map escaped_byte bs) (escape_line (is_ascii_punctuation b) b parts.0) (rest_line bs parts.1)
+
+fence_line : (most : ℕ) → is_line (fence most) ≡ true
+fence_line most = signs_line most 96 refl
+
+all_lines : (xs : List (List ℕ)) (ys : List (List ℕ)) → list_all is_line xs ≡ true → list_all is_line ys ≡ true → list_all is_line (xs ++ ys) ≡ true
+all_lines [] ys h k = k
+all_lines (x ∷ xs) ys h k = let parts = and_parts (is_line x) (list_all is_line xs) h in and_true _ _ parts.0 (all_lines xs ys parts.1 k)
+
+block_is_lines : (block : Written) → IsWritable block → list_all is_line (block_lines block) ≡ true
+block_is_lines (heading level words) h = and_true _ true (both_lines (replicate level 35) (32 ∷ escaped words) (signs_line level 35 refl) (words_line words h.2.line)) refl
+block_is_lines (paragraph words) h = and_true _ true (words_line words h.line) refl
+block_is_lines (code language lines) h =
+    and_true _ _ (both_lines (fence (longest lines)) language (fence_line (longest lines)) h.1) (all_lines lines (fence (longest lines) ∷ []) h.2 (and_true _ true (fence_line (longest lines)) refl))
+block_is_lines thematic_break h = refl
+
+-- ---- a text that is these lines
+
+no_end : (b : ℕ) → not (is_tab_or_end b) ≡ true → ((b == 10) ≡ false) × ((b == 13) ≡ false)
+no_end b h = neither (b == 9) (b == 10) (b == 13) h
+  where
+    neither : (p q r : Bool) → not (p || q || r) ≡ true → (q ≡ false) × (r ≡ false)
+    neither true q r k = let no : false ≡ true = k in absurd (cc)
+    neither false true r k = let no : false ≡ true = k in absurd (cc)
+    neither false false true k = let no : false ≡ true = k in absurd (cc)
+    neither false false false k = (refl, refl)
+
+line_cut : (line rest : List ℕ) → is_line line ≡ true → text_lines (line ++ 10 ∷ rest) ≡ line ∷ text_lines rest
+unfolding text_lines
+line_cut [] rest h = refl
+line_cut (b ∷ bs) rest h =
+    let parts = and_parts (not (is_tab_or_end b)) (is_line bs) h in
+    let none = no_end b parts.0 in
+    rw none.1 (rw none.0 (ap (onto_first b) (line_cut bs rest parts.1)))
+
+lines_cut : (lines : List (List ℕ)) (rest : List ℕ) → list_all is_line lines ≡ true → text_lines (flat_map ended lines ++ rest) ≡ lines ++ text_lines rest
+lines_cut [] rest h = refl
+lines_cut (line ∷ lines) rest h =
+    let parts = and_parts (is_line line) (list_all is_line lines) h in
+    ap text_lines (append_assoc (ended line) (flat_map ended lines) rest ∙ append_assoc line (10 ∷ []) (flat_map ended lines ++ rest))
+    ∙ line_cut line (flat_map ended lines ++ rest) parts.0
+    ∙ ap (λ (ls : List (List ℕ)). line ∷ ls) (lines_cut lines rest parts.1)
+
+-- an empty line, where blocks stand before
+abbrev pub gap_lines : Bool → List (List ℕ)
+gap_lines true = [] ∷ []
+gap_lines false = []
+
+-- the lines of blocks, with an empty line before each but the first of the page
+abbrev pub page_lines : Bool → List Written → List (List ℕ)
+page_lines some [] = []
+page_lines some (block ∷ blocks) = gap_lines some ++ (block_lines block ++ page_lines true blocks)
+
+block_cut : (block : Written) (blocks : List Written) → IsWritable block → text_lines (markdown_from true blocks) ≡ page_lines true blocks
+    → text_lines (block_text block ++ markdown_from true blocks) ≡ block_lines block ++ page_lines true blocks
+block_cut block blocks h later = lines_cut (block_lines block) (markdown_from true blocks) (block_is_lines block h) ∙ ap (λ (ls : List (List ℕ)). block_lines block ++ ls) later
+
+-- a text of blocks is their lines
+pub page_cut : (some : Bool) (page : List Written) → AllByRecursion IsWritable page → text_lines (markdown_from some page) ≡ page_lines some page
+unfolding text_lines
+page_cut some [] h = refl
+page_cut true (block ∷ blocks) h = ap (λ (ls : List (List ℕ)). [] ∷ ls) (block_cut block blocks h.0 (page_cut true blocks h.1))
+page_cut false (block ∷ blocks) h = block_cut block blocks h.0 (page_cut true blocks h.1)

@@ -1,0 +1,4 @@
+pub mod Words
+pub mod Pages
+pub mod Writable
+pub mod Reading

@@ -1,0 +1,16 @@
+//! Pages as Markdown, which is read as these pages again. In the order of the work:
+//!
+//! 1. [`blocks`]: what a page is made of.
+//! 2. [`words`]: words, in which a backslash stands before each sign that could be a mark.
+//! 3. [`writing`]: blocks one below the other.
+//! 4. [`laws`]: what is read of them.
+#![tactic(auto)]
+
+pub mod blocks;
+pub mod laws;
+pub mod words;
+pub mod writing;
+
+pub use blocks::PageBlock;
+pub use words::escaped;
+pub use writing::markdown_of;

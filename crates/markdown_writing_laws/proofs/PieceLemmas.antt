@@ -1,0 +1,391 @@
+-- Escaped words are cut into pieces that say them.
+use Rattle.std.proofs.Common.{◌≡◌, ℕ, zero, suc, ◌+◌, ◌-◌, ◌<◌, ◌≤◌, Bool, true, false, cond, not, ◌||◌, ◌&&◌, ◌==◌, nat_lt, nat_le, min, List, [], ◌∷◌, ◌++◌, length, take, drop, slice_index, Option, Some, None, is_some, refl, sym, ap, subst, ◌∙◌, append_assoc, append-nil, length-append, length-drop, arith, codes}
+use Rattle.std.proofs.Math.Seq.{drop-append_seam, take-append_seam}
+use Rattle.std.proofs.lemmas.Bool.{and_parts, eqb-true}
+use Rattle.std.proofs.lemmas.Bool.Decides.{nat_tests}
+use Rattle.std.proofs.lemmas.List.{get_or-drop}
+use Rattle.std.specs.Char.{is_ascii_punctuation, to_ascii_lowercase}
+use Rattle.std.specs.List.{flat_map, list_all, prefix_len}
+use Rattle.markdown_marks.specs.Bytes.{first, is_blank_byte}
+use Rattle.markdown_html.specs.Names.{same_letters}
+use Rattle.markdown_addresses.specs.declared.bare.Bare.{Bare}
+use Rattle.markdown_addresses.specs.Bare.{bare_after, is_mail_byte, mail_by, mail_domain, mail_of, may_precede_mail, may_precede_web, or_bare, web_of}
+use Rattle.markdown_brackets.specs.Brackets.{Reading, nothing_read}
+use Rattle.markdown_spans.specs.declared.entities.Escape.{Escape}
+use Rattle.markdown_spans.specs.declared.entities.Escape.TheVariants.{Break, Itself, Sign as SignEscape}
+use Rattle.markdown_spans.specs.Entities.{escape_of}
+use Rattle.markdown_pieces.specs.declared.pieces.Kind.TheVariants.{Plain, Shown}
+use Rattle.markdown_pieces.specs.declared.pieces.Piece.{Piece}
+use Rattle.markdown_pieces.specs.Cut.{Pieces, Step, capped_step, cut_from, cut_text, onto, other_step, read_with, step, step_of}
+use Rattle.markdown_pieces.specs.Pieces.{bare_if, break_piece, byte_before, ends_line, escape_by, is_plain, no_mark_piece, piece, piece_at, piece_by, plain_by, plain_from, plain_piece, stays}
+use Rattle.markdown_writing.specs.Words.{escaped, escaped_byte, escaped_if, is_mark}
+use Rattle.markdown_writing.specs.Writable.{is_line, is_tab_or_end}
+use Rattle.markdown_writing.proofs.WordLemmas.{by_escape, by_test, is_false, no_other}
+use Rattle.markdown_writing_laws.specs.Said.{AreWords, WordsAreSaid}
+
+-- words without the first, as they are written
+abbrev pub rest_of : List ℕ → List ℕ
+rest_of words = flat_map escaped_byte words
+
+plain_rest : (b : ℕ) (bs : List ℕ) → is_mark b ≡ false → rest_of (b ∷ bs) ≡ b ∷ rest_of bs
+plain_rest b bs e = ap (λ (t : Bool). escaped_if t b ++ rest_of bs) e
+
+sign_rest : (b : ℕ) (bs : List ℕ) → is_mark b ≡ true → rest_of (b ∷ bs) ≡ 92 ∷ b ∷ rest_of bs
+sign_rest b bs e = ap (λ (t : Bool). escaped_if t b ++ rest_of bs) e
+
+one_more : (n : ℕ) → 1 + n ≡ suc n
+one_more n = omega arith
+
+or_true : (t : Bool) → (t || true) ≡ true
+or_true true = refl
+or_true false = refl
+
+and_false : (p q : Bool) → q ≡ false → (p && q) ≡ false
+and_false true q h = h
+and_false false q h = refl
+
+negated : (t : Bool) → not t ≡ true → t ≡ false
+negated true h = sym h
+negated false h = refl
+
+no_end : (b : ℕ) → not (is_tab_or_end b) ≡ true → (b == 10) ≡ false
+no_end b h = no_other is_tab_or_end b 10 refl (negated (is_tab_or_end b) h)
+
+-- ---- the byte behind those that pass a test
+
+abbrev after : (ℕ → Bool) → List ℕ → ℕ
+after p bytes = first (drop (prefix_len p bytes) bytes)
+
+after_more : (p : ℕ → Bool) (b : ℕ) (bs : List ℕ) → p b ≡ true → after p (b ∷ bs) ≡ after p bs
+after_more p b bs e = ap (λ (t : Bool). first (drop (cond t (1 + prefix_len p bs) 0) (b ∷ bs))) e ∙ ap (λ (n : ℕ). first (drop n (b ∷ bs))) (one_more (prefix_len p bs))
+
+after_none : (p : ℕ → Bool) (b : ℕ) (bs : List ℕ) → p b ≡ false → after p (b ∷ bs) ≡ b
+after_none p b bs e = ap (λ (t : Bool). first (drop (cond t (1 + prefix_len p bs) 0) (b ∷ bs))) e
+
+-- where a backslash neither passes nor is this byte, and no other that doesn't pass is
+rest_after : (p : ℕ → Bool) (k : ℕ) → p 92 ≡ false → (92 == k) ≡ false → (0 == k) ≡ false → ((b : ℕ) → is_mark b ≡ false → not (is_tab_or_end b) ≡ true → (b == k) ≡ false)
+    → (words : List ℕ) → is_line words ≡ true → (after p (rest_of words) == k) ≡ false
+rest_after p k slash other none plain [] h = none
+rest_after p k slash other none plain (b ∷ bs) h =
+    let parts = and_parts (not (is_tab_or_end b)) (is_line bs) h in
+    by_escape (λ (front : List ℕ). (after p (front ++ rest_of bs) == k) ≡ false) (is_mark b) b
+    (λ e. ap (λ (c : ℕ). c == k) (after_none p 92 (b ∷ rest_of bs) slash) ∙ other)
+    (λ e. by_test (p b) ((after p (b ∷ rest_of bs) == k) ≡ false)
+    (λ f. ap (λ (c : ℕ). c == k) (after_more p b (rest_of bs) f) ∙ rest_after p k slash other none plain bs parts.1)
+    (λ f. ap (λ (c : ℕ). c == k) (after_none p b (rest_of bs) f) ∙ plain b e parts.0))
+
+-- no line ends
+no_line_end : (words : List ℕ) → is_line words ≡ true → ends_line (rest_of words) ≡ false
+no_line_end words h = rest_after is_blank_byte 10 refl refl refl (λ b e f. no_end b f) words h
+
+-- ---- no bare address
+
+no_mail : (words : List ℕ) → is_line words ≡ true → mail_of (rest_of words) ≡ None
+no_mail words h =
+    let bytes = rest_of words in
+    let local = prefix_len is_mail_byte bytes in
+    let found = mail_by local (mail_domain (drop (local + 1) bytes)) in
+    ap (λ (t : Bool). cond ((local == 0) || not t) None found) (rest_after is_mail_byte 64 refl refl refl (λ b e f. no_other is_mark b 64 refl e) words h)
+    ∙ ap (λ (t : Bool). cond t None found) (or_true (local == 0))
+
+lower_same : (x b : ℕ) → x < 65 → (b == x) ≡ false → (x == to_ascii_lowercase b) ≡ false
+lower_same x b few h =
+    by_test (nat_lt b 65) ((x == to_ascii_lowercase b) ≡ false)
+    (λ e. ap (λ (t : Bool). x == cond t b (cond (nat_lt b 91) (b + 32) b)) e ∙ turned x b h)
+    (λ e. ap (λ (t : Bool). x == cond t b (cond (nat_lt b 91) (b + 32) b)) e
+    ∙ by_test (nat_lt b 91) ((x == cond (nat_lt b 91) (b + 32) b) ≡ false) (λ f. ap (λ (t : Bool). x == cond t (b + 32) b) f ∙ above x (b + 32) few (higher b e)) (λ f. ap (λ (t : Bool). x == cond t (b + 32) b) f ∙ above x b few (high b e)))
+  where
+    turned : (x b : ℕ) → (b == x) ≡ false → (x == b) ≡ false
+    turned x b h = grind (arith, nat_tests, h)
+
+    above : (x b : ℕ) → x < 65 → 65 ≤ b → (x == b) ≡ false
+    above x b f g = grind (arith, nat_tests, f, g)
+
+    high : (b : ℕ) → nat_lt b 65 ≡ false → 65 ≤ b
+    high b e = grind (arith, nat_tests, e)
+
+    higher : (b : ℕ) → nat_lt b 65 ≡ false → 65 ≤ b + 32
+    higher b e = grind (arith, nat_tests, e)
+
+-- letters, and a mark behind them, aren't in front
+not_in_front : (letters : List ℕ) (x : ℕ) (others : List ℕ) → list_all (λ c. not (c == 92)) letters ≡ true → (x == 92) ≡ false → x < 65 → is_mark x ≡ true → (n : ℕ) (words : List ℕ)
+    → same_letters (letters ++ x ∷ others) (take n (rest_of words)) ≡ false
+unfolding same_letters
+not_in_front [] x others h slash few mark zero words = refl
+not_in_front (c ∷ cs) x others h slash few mark zero words = refl
+not_in_front [] x others h slash few mark (suc n) [] = refl
+not_in_front (c ∷ cs) x others h slash few mark (suc n) [] = refl
+not_in_front [] x others h slash few mark (suc n) (b ∷ bs) =
+    by_escape (λ (front : List ℕ). same_letters (x ∷ others) (take (suc n) (front ++ rest_of bs)) ≡ false) (is_mark b) b (λ e. ap (λ (t : Bool). t && same_letters others (take n (b ∷ rest_of bs))) slash)
+    (λ e. ap (λ (t : Bool). t && same_letters others (take n (rest_of bs))) (lower_same x b few (no_other is_mark b x mark e)))
+not_in_front (c ∷ cs) x others h slash few mark (suc n) (b ∷ bs) =
+    let parts = and_parts (not (c == 92)) (list_all (λ d. not (d == 92)) cs) h in
+    by_escape (λ (front : List ℕ). same_letters (c ∷ (cs ++ x ∷ others)) (take (suc n) (front ++ rest_of bs)) ≡ false) (is_mark b) b
+    (λ e. ap (λ (t : Bool). t && same_letters (cs ++ x ∷ others) (take n (b ∷ rest_of bs))) (negated (c == 92) parts.0))
+    (λ e. and_false (c == to_ascii_lowercase b) (same_letters (cs ++ x ∷ others) (take n (rest_of bs))) (not_in_front cs x others parts.1 slash few mark n bs))
+
+four : (t u v w : Bool) (a b c d : Option Bare) → t ≡ false → u ≡ false → v ≡ false → w ≡ false → cond t a (cond u b (cond v c (cond w d None))) ≡ None
+four t u v w a b c d e f g h = ap (λ x. cond x a (cond u b (cond v c (cond w d None)))) e ∙ ap (λ x. cond x b (cond v c (cond w d None))) f ∙ ap (λ x. cond x c (cond w d None)) g ∙ ap (λ x. cond x d None) h
+
+no_web : (words : List ℕ) → web_of (rest_of words) ≡ None
+no_web words =
+    four _ _ _ _ _ _ _ _ (not_in_front (119 ∷ 119 ∷ 119 ∷ []) 46 [] refl refl (omega arith) refl 4 words)
+    (not_in_front (104 ∷ 116 ∷ 116 ∷ 112 ∷ 115 ∷ []) 58 (47 ∷ 47 ∷ []) refl refl (omega arith) refl 8 words)
+    (not_in_front (104 ∷ 116 ∷ 116 ∷ 112 ∷ []) 58 (47 ∷ 47 ∷ []) refl refl (omega arith) refl 7 words)
+    (not_in_front (102 ∷ 116 ∷ 112 ∷ []) 58 (47 ∷ 47 ∷ []) refl refl (omega arith) refl 6 words)
+
+none_or_none : (p q : Bool) → or_bare (cond p None None) (cond q None None) ≡ None
+none_or_none true true = refl
+none_or_none true false = refl
+none_or_none false true = refl
+none_or_none false false = refl
+
+no_bare : (before : Option ℕ) (words : List ℕ) → is_line words ≡ true → bare_if true before (rest_of words) ≡ None
+no_bare before words h =
+    let p = may_precede_web before in
+    let q = may_precede_mail before in
+    ap (λ (o : Option Bare). or_bare (cond p o None) (cond q (mail_of (rest_of words)) None)) (no_web words)
+    ∙ ap (λ (o : Option Bare). or_bare (cond p None None) (cond q o None)) (no_mail words h) ∙ none_or_none p q
+
+-- ---- bytes that stand for themselves
+
+none : (b k : ℕ) → is_mark k ≡ true → is_mark b ≡ false → (b == k) ≡ false
+none b k mark h = no_other is_mark b k mark h
+
+stays_plain : (b : ℕ) → is_mark b ≡ false → not (is_tab_or_end b) ≡ true → is_blank_byte b ≡ false → is_plain b ≡ true
+stays_plain b h f blank =
+    rw (none b 96 refl h) (rw (none b 42 refl h) (rw (none b 95 refl h) (rw (none b 126 refl h) (rw (none b 92 refl h) (rw (none b 38 refl h) (rw (none b 60 refl h) (rw (none b 91 refl h) (rw (none b 93 refl h)
+    (rw (none b 33 refl h) (rw (no_end b f) (rw (no_other is_blank_byte b 32 refl blank) (rw (no_other is_blank_byte b 9 refl blank) refl))))))))))))
+
+stays_here : (b : ℕ) (rest : List ℕ) → is_mark b ≡ false → not (is_tab_or_end b) ≡ true → ends_line rest ≡ false → stays b rest ≡ true
+stays_here b rest h f e =
+    by_test (is_blank_byte b) (stays b rest ≡ true)
+    (λ k. ap (λ (t : Bool). is_plain b || (t && not (ends_line rest))) k ∙ ap (λ (t : Bool). is_plain b || not t) e ∙ or_true (is_plain b))
+    (λ k. ap (λ (t : Bool). t || (is_blank_byte b && not (ends_line rest))) (stays_plain b h f k))
+
+-- Words that are split: the first are plain, and the others are written behind them.
+pub record Split (before : Option ℕ) (words : List ℕ) : Type 0 where
+  pub plain : List ℕ
+  pub others : List ℕ
+  pub words_are : words ≡ plain ++ others
+  pub bytes_are : rest_of words ≡ plain ++ rest_of others
+  pub many : plain_from true before (rest_of words) ≡ length plain
+  pub line : is_line others ≡ true
+
+from_slash : (before : Option ℕ) (bytes : List ℕ) → plain_from true before (92 ∷ bytes) ≡ 0
+unfolding plain_from
+from_slash before bytes = refl
+
+from_plain : (before : Option ℕ) (b : ℕ) (bs : List ℕ) → stays b (b ∷ bs) ≡ true → bare_if true before (b ∷ bs) ≡ None → plain_from true before (b ∷ bs) ≡ suc (plain_from true (Some b) bs)
+unfolding plain_from
+from_plain before b bs h e =
+    let next = suc (plain_from true (Some b) bs) in
+    ap (λ (t : Bool). cond (t && not (is_some (bare_if true before (b ∷ bs)))) next 0) h ∙ ap (λ (o : Option Bare). cond (not (is_some o)) next 0) e
+
+none_plain : (before : Option ℕ) → plain_from true before [] ≡ 0
+unfolding plain_from
+none_plain before = refl
+
+split : (before : Option ℕ) (words : List ℕ) → is_line words ≡ true → Split before words
+split before [] h = record { plain = []; others = []; words_are = refl; bytes_are = refl; many = none_plain before; line = refl }
+split before (b ∷ bs) h =
+    let parts = and_parts (not (is_tab_or_end b)) (is_line bs) h in
+    by_test (is_mark b) (Split before (b ∷ bs))
+    (λ e. record { plain = []; others = b ∷ bs; words_are = refl; bytes_are = refl; many = ap (plain_from true before) (sign_rest b bs e) ∙ from_slash before (b ∷ rest_of bs); line = h })
+    (λ e.
+    let more = split (Some b) bs parts.1 in
+    let are = plain_rest b bs e in
+    let ends : ends_line (b ∷ rest_of bs) ≡ false = ap ends_line (sym are) ∙ no_line_end (b ∷ bs) h in
+    let bare : bare_if true before (b ∷ rest_of bs) ≡ None = ap (bare_if true before) (sym are) ∙ no_bare before (b ∷ bs) h in
+    record {
+      plain = b ∷ more.plain;
+      others = more.others;
+      words_are = ap (λ (ws : List ℕ). b ∷ ws) more.words_are;
+      bytes_are = are ∙ ap (λ (ws : List ℕ). b ∷ ws) more.bytes_are;
+      many = ap (plain_from true before) are ∙ from_plain before b (rest_of bs) (stays_here b (b ∷ rest_of bs) e parts.0 ends) bare ∙ ap suc more.many;
+      line = more.line;
+    })
+
+-- ---- a step
+
+index_is : (text : List ℕ) (at b : ℕ) (rest : List ℕ) → drop at text ≡ b ∷ rest → slice_index text at ≡ b
+index_is text at b rest e = ap (λ (n : ℕ). slice_index text n) (omega arith) ∙ sym (get_or-drop at text 0 0) ∙ ap (λ (bs : List ℕ). slice_index bs 0) e
+
+other_of : (labels : List (List ℕ)) (text : List ℕ) (at index c : ℕ) (rest : List ℕ) → (c == 91) ≡ false → (c == 33) ≡ false → (c == 93) ≡ false
+    → read_with c labels text at index nothing_read rest ≡ step_of (piece_at true text at rest) index nothing_read
+other_of labels text at index c rest e f g = rw e (rw f (rw g refl))
+
+capped_is : (text : List ℕ) (at index : ℕ) (p : Piece) (rest : List ℕ) → drop at text ≡ rest → p.more < length rest → capped_step (step_of p index nothing_read) (length text - at - 1) ≡ record { piece = p; reading = (step_of p index nothing_read).reading }
+capped_is text at index p rest e few =
+    let left : length text - at ≡ length rest = sym (length-drop at text) ∙ ap length e in
+    let same : min p.more (length text - at - 1) ≡ p.more = omega (arith, left, few) in
+    ap (λ (n : ℕ). record { piece = record p { more = n }; reading = (step_of p index nothing_read).reading }) same
+
+by_slash : (text : List ℕ) (at b : ℕ) (bs : List ℕ) → (b == 10) ≡ false → is_ascii_punctuation b ≡ true → piece_by true 92 text at (92 ∷ b ∷ bs) ≡ piece (Shown b None) 1
+by_slash text at b bs e h = ap escape_by (ap (λ (t : Bool). cond t Break (cond (is_ascii_punctuation b) (SignEscape b) Itself)) e ∙ ap (λ (t : Bool). cond t (SignEscape b) Itself) h)
+
+-- a backslash and a sign
+step_sign : (labels : List (List ℕ)) (text : List ℕ) (at index b : ℕ) (bs : List ℕ) → drop at text ≡ 92 ∷ b ∷ bs → (b == 10) ≡ false → is_ascii_punctuation b ≡ true
+    → step labels text at index nothing_read (92 ∷ b ∷ bs) ≡ record { piece = piece (Shown b None) 1; reading = nothing_read }
+unfolding step piece_at
+step_sign labels text at index b bs e f h =
+    let rest = 92 ∷ b ∷ bs in
+    let here = index_is text at 92 (b ∷ bs) e in
+    let few : 1 < length rest = omega arith in
+    ap (λ (c : ℕ). capped_step (read_with c labels text at index nothing_read rest) (length text - at - 1)) here
+    ∙ ap (λ (s : Step). capped_step s (length text - at - 1)) (other_of labels text at index 92 rest refl refl refl)
+    ∙ ap (λ (c : ℕ). capped_step (step_of (piece_by true c text at rest) index nothing_read) (length text - at - 1)) here
+    ∙ ap (λ (p : Piece). capped_step (step_of p index nothing_read) (length text - at - 1)) (by_slash text at b bs f h)
+    ∙ capped_is text at index (piece (Shown b None) 1) rest e few
+
+by_plain : (text : List ℕ) (at b : ℕ) (bs : List ℕ) → is_mark b ≡ false → ends_line (b ∷ bs) ≡ false → bare_if true (byte_before text at) (b ∷ bs) ≡ None
+    → piece_by true b text at (b ∷ bs) ≡ piece Plain (plain_from true (Some b) bs)
+unfolding plain_piece
+by_plain text at b bs h e f =
+    let rest = b ∷ bs in
+    let before = byte_before text at in
+    let others : piece_by true b text at rest ≡ no_mark_piece true before b rest =
+    rw (none b 96 refl h) (rw (none b 42 refl h) (rw (none b 95 refl h) (rw (none b 126 refl h) (rw (none b 92 refl h) (rw (none b 38 refl h) (rw (none b 60 refl h) refl)))))) in
+    others ∙ ap (λ (t : Bool). cond t (break_piece rest) (plain_piece true before b rest)) e ∙ ap (λ (o : Option Bare). plain_by o true b rest) f
+
+-- plain bytes
+step_plain : (labels : List (List ℕ)) (text : List ℕ) (at index b : ℕ) (bs : List ℕ) → drop at text ≡ b ∷ bs → is_mark b ≡ false → ends_line (b ∷ bs) ≡ false → bare_if true (byte_before text at) (b ∷ bs) ≡ None
+    → plain_from true (Some b) bs ≤ length bs → step labels text at index nothing_read (b ∷ bs) ≡ record { piece = piece Plain (plain_from true (Some b) bs); reading = nothing_read }
+unfolding step piece_at
+step_plain labels text at index b bs e h ends bare many =
+    let rest = b ∷ bs in
+    let here = index_is text at b bs e in
+    let few : plain_from true (Some b) bs < length rest = omega (arith, many) in
+    ap (λ (c : ℕ). capped_step (read_with c labels text at index nothing_read rest) (length text - at - 1)) here
+    ∙ ap (λ (s : Step). capped_step s (length text - at - 1)) (other_of labels text at index b rest (none b 91 refl h) (none b 33 refl h) (none b 93 refl h))
+    ∙ ap (λ (c : ℕ). capped_step (step_of (piece_by true c text at rest) index nothing_read) (length text - at - 1)) here
+    ∙ ap (λ (p : Piece). capped_step (step_of p index nothing_read) (length text - at - 1)) (by_plain text at b bs h ends bare)
+    ∙ capped_is text at index (piece Plain (plain_from true (Some b) bs)) rest e few
+
+-- ---- pieces, one after the other
+
+skipped : (labels : List (List ℕ)) (text : List ℕ) (at index : ℕ) (xs ys : List ℕ) → cut_from labels text (length xs) at index nothing_read (xs ++ ys) ≡ cut_from labels text 0 (at + length xs) index nothing_read ys
+unfolding cut_from
+skipped labels text at index [] ys = ap (λ (n : ℕ). cut_from labels text 0 n index nothing_read ys) (omega arith)
+skipped labels text at index (x ∷ xs) ys = skipped labels text (at + 1) index xs ys ∙ ap (λ (n : ℕ). cut_from labels text 0 n index nothing_read ys) (omega arith)
+
+cut_by : (labels : List (List ℕ)) (text : List ℕ) (at index b : ℕ) (bs : List ℕ) (p : Piece) → step labels text at index nothing_read (b ∷ bs) ≡ record { piece = p; reading = nothing_read }
+    → cut_from labels text 0 at index nothing_read (b ∷ bs) ≡ onto p (cut_from labels text p.more (at + 1) (index + 1) nothing_read bs)
+unfolding cut_from
+cut_by labels text at index b bs p e = ap (λ (s : Step). onto s.piece (cut_from labels text s.piece.more (at + 1) (index + 1) s.reading bs)) e
+
+nothing_cut : (labels : List (List ℕ)) (text : List ℕ) (at index : ℕ) → (cut_from labels text 0 at index nothing_read []).pieces ≡ []
+unfolding cut_from
+nothing_cut labels text at index = refl
+
+-- what is cut of the words behind a place
+abbrev pieces_at : List (List ℕ) → (text : List ℕ) (at index : ℕ) (bytes : List ℕ) → List Piece
+pieces_at labels text at index bytes = (cut_from labels text 0 at index nothing_read bytes).pieces
+
+zero_more : (m : ℕ) → 0 + m ≡ m
+zero_more m = omega arith
+
+suc_more : (n m : ℕ) → suc n + m ≡ suc (n + m)
+suc_more n m = omega arith
+
+nil_drop : (n : ℕ) → drop {A = ℕ} n [] ≡ []
+nil_drop zero = refl
+nil_drop (suc n) = refl
+
+pub drop_more : (n m : ℕ) (zs : List ℕ) → drop (n + m) zs ≡ drop m (drop n zs)
+drop_more zero m zs = ap (λ (k : ℕ). drop k zs) (zero_more m)
+drop_more (suc n) m [] = nil_drop (suc n + m) ∙ sym (nil_drop m)
+drop_more (suc n) m (z ∷ zs) = ap (λ (k : ℕ). drop k (z ∷ zs)) (suc_more n m) ∙ drop_more n m zs
+
+behind_more : (text : List ℕ) (at n : ℕ) (xs ys : List ℕ) → drop at text ≡ xs ++ ys → n ≡ length xs → drop (at + n) text ≡ ys
+behind_more text at n xs ys e m = ap (λ (k : ℕ). drop (at + k) text) m ∙ drop_more at (length xs) text ∙ ap (drop (length xs)) e ∙ drop-append_seam xs ys
+
+few_signs : (b : ℕ) → is_ascii_punctuation b ≡ true → b < 128
+few_signs b h = grind (arith, nat_tests, h)
+
+no_newline : (b : ℕ) → is_ascii_punctuation b ≡ true → (b == 10) ≡ false
+no_newline b h = is_false (b == 10) (λ e. ap is_ascii_punctuation (sym (eqb-true b 10 e)) ∙ h)
+
+said_sign : (labels : List (List ℕ)) (text : List ℕ) (at index b : ℕ) (bs : List ℕ) → drop at text ≡ 92 ∷ b ∷ rest_of bs → is_ascii_punctuation b ≡ true
+    → AreWords (rest_of bs) (pieces_at labels text (at + 1 + 1) (index + 1) (rest_of bs)) bs → AreWords (92 ∷ b ∷ rest_of bs) (pieces_at labels text at index (92 ∷ b ∷ rest_of bs)) (b ∷ bs)
+said_sign labels text at index b bs e h later =
+    let p = piece (Shown b None) 1 in
+    let cut = cut_by labels text at index 92 (b ∷ rest_of bs) p (step_sign labels text at index b (rest_of bs) e (no_newline b h) h) ∙ ap (onto p) (skipped labels text (at + 1) (index + 1) (b ∷ []) (rest_of bs)) in
+    subst (λ (c : Pieces). AreWords (92 ∷ b ∷ rest_of bs) c.pieces (b ∷ bs)) (sym cut) (b ∷ [], bs, refl, (refl, few_signs b h), later)
+
+taken_plain : (b n : ℕ) (xs ys : List ℕ) → n ≡ length xs → (b ∷ xs ≡ take (suc n) (b ∷ (xs ++ ys))) × (ys ≡ drop (suc n) (b ∷ (xs ++ ys)))
+taken_plain b n xs ys e =
+    (ap (λ (ws : List ℕ). b ∷ ws) (sym (take-append_seam xs ys)) ∙ ap (λ (k : ℕ). take (suc k) (b ∷ (xs ++ ys))) (sym e), sym (drop-append_seam xs ys) ∙ ap (λ (k : ℕ). drop (suc k) (b ∷ (xs ++ ys))) (sym e))
+
+said_plain : (labels : List (List ℕ)) (text : List ℕ) (at index b : ℕ) (bs : List ℕ) → drop at text ≡ b ∷ rest_of bs → is_mark b ≡ false → is_line (b ∷ bs) ≡ true → (s : Split (Some b) bs)
+    → AreWords (rest_of s.others) (pieces_at labels text (at + 1 + length s.plain) (index + 1) (rest_of s.others)) s.others → AreWords (b ∷ rest_of bs) (pieces_at labels text at index (b ∷ rest_of bs)) (b ∷ bs)
+said_plain labels text at index b bs e h line s later =
+    let are = plain_rest b bs h in
+    let ends : ends_line (b ∷ rest_of bs) ≡ false = ap ends_line (sym are) ∙ no_line_end (b ∷ bs) line in
+    let bare : bare_if true (byte_before text at) (b ∷ rest_of bs) ≡ None = ap (bare_if true (byte_before text at)) (sym are) ∙ no_bare (byte_before text at) (b ∷ bs) line in
+    let n = plain_from true (Some b) (rest_of bs) in
+    let many : n ≤ length (rest_of bs) = omega (arith, s.many, ap length s.bytes_are, length-append s.plain (rest_of s.others)) in
+    let p = piece Plain n in
+    let cut = cut_by labels text at index b (rest_of bs) p (step_plain labels text at index b (rest_of bs) e h ends bare many)
+    ∙ ap (λ (k : ℕ). onto p (cut_from labels text k (at + 1) (index + 1) nothing_read (rest_of bs))) s.many
+    ∙ ap (λ (ws : List ℕ). onto p (cut_from labels text (length s.plain) (at + 1) (index + 1) nothing_read ws)) s.bytes_are
+    ∙ ap (onto p) (skipped labels text (at + 1) (index + 1) s.plain (rest_of s.others)) in
+    let taken = taken_plain b n s.plain (rest_of s.others) s.many in
+    subst (λ (c : Pieces). AreWords (b ∷ rest_of bs) c.pieces (b ∷ bs)) (sym cut)
+    (subst (λ (ws : List ℕ). AreWords (b ∷ ws) (p ∷ pieces_at labels text (at + 1 + length s.plain) (index + 1) (rest_of s.others)) (b ∷ bs)) (sym s.bytes_are)
+    (b ∷ s.plain, s.others, ap (λ (ws : List ℕ). b ∷ ws) s.words_are, taken.0, subst (λ (ws : List ℕ). AreWords ws (pieces_at labels text (at + 1 + length s.plain) (index + 1) (rest_of s.others)) s.others) taken.1 later))
+
+no_mark : (b : ℕ) → is_ascii_punctuation b ≡ false → is_mark b ≡ false
+no_mark b f =
+    rw (no_other is_ascii_punctuation b 33 refl f) (rw (no_other is_ascii_punctuation b 35 refl f) (rw (no_other is_ascii_punctuation b 38 refl f) (rw (no_other is_ascii_punctuation b 41 refl f)
+    (rw (no_other is_ascii_punctuation b 42 refl f) (rw (no_other is_ascii_punctuation b 46 refl f) (rw (no_other is_ascii_punctuation b 58 refl f) (rw (no_other is_ascii_punctuation b 60 refl f)
+    (rw (no_other is_ascii_punctuation b 64 refl f) (rw (no_other is_ascii_punctuation b 91 refl f) (rw (no_other is_ascii_punctuation b 92 refl f) (rw (no_other is_ascii_punctuation b 93 refl f)
+    (rw (no_other is_ascii_punctuation b 95 refl f) (rw (no_other is_ascii_punctuation b 96 refl f) (rw (no_other is_ascii_punctuation b 126 refl f) refl))))))))))))))
+
+punctuation : (b : ℕ) → is_mark b ≡ true → is_ascii_punctuation b ≡ true
+punctuation b h = by_test (is_ascii_punctuation b) (is_ascii_punctuation b ≡ true) (λ e. e) (λ e. let no : false ≡ true = sym (no_mark b e) ∙ h in absurd (cc))
+
+fewer : (fuel b : ℕ) (bs plain others : List ℕ) → length (b ∷ bs) ≤ suc fuel → bs ≡ plain ++ others → length others ≤ fuel
+fewer fuel b bs plain others few e = omega (arith, few, ap length e, length-append plain others)
+
+two_more : (at : ℕ) → at + 1 + 1 ≡ at + 2
+two_more at = omega arith
+
+one_and : (at n : ℕ) → at + 1 + n ≡ at + suc n
+one_and at n = omega arith
+
+said_rest : (labels : List (List ℕ)) (text : List ℕ) (fuel at index : ℕ) (words : List ℕ) → length words ≤ fuel → is_line words ≡ true → drop at text ≡ rest_of words
+    → AreWords (rest_of words) (pieces_at labels text at index (rest_of words)) words
+said_rest labels text fuel at index [] few line e = subst (λ (ps : List Piece). AreWords [] ps []) (sym (nothing_cut labels text at index)) (refl, refl)
+said_rest labels text zero at index (b ∷ bs) few line e = absurd (omega (arith, few))
+said_rest labels text (suc fuel) at index (b ∷ bs) few line e =
+    let parts = and_parts (not (is_tab_or_end b)) (is_line bs) line in
+    by_test (is_mark b) (AreWords (rest_of (b ∷ bs)) (pieces_at labels text at index (rest_of (b ∷ bs))) (b ∷ bs))
+    (λ h.
+    let are = sign_rest b bs h in
+    let here : drop at text ≡ 92 ∷ b ∷ rest_of bs = e ∙ are in
+    subst (λ (ws : List ℕ). AreWords ws (pieces_at labels text at index ws) (b ∷ bs)) (sym are)
+    (said_sign labels text at index b bs here (punctuation b h) (said_rest labels text fuel (at + 1 + 1) (index + 1) bs (omega (arith, few)) parts.1
+    (ap (λ (n : ℕ). drop n text) (two_more at) ∙ behind_more text at 2 (92 ∷ b ∷ []) (rest_of bs) here refl))))
+    (λ h.
+    let are = plain_rest b bs h in
+    let here : drop at text ≡ b ∷ rest_of bs = e ∙ are in
+    let s = split (Some b) bs parts.1 in
+    subst (λ (ws : List ℕ). AreWords ws (pieces_at labels text at index ws) (b ∷ bs)) (sym are)
+    (said_plain labels text at index b bs here h line s (said_rest labels text fuel (at + 1 + length s.plain) (index + 1) s.others (fewer fuel b bs s.plain s.others few s.words_are) s.line
+    (ap (λ (n : ℕ). drop n text) (one_and at (length s.plain)) ∙ behind_more text at (suc (length s.plain)) (b ∷ s.plain) (rest_of s.others) (here ∙ ap (λ (ws : List ℕ). b ∷ ws) s.bytes_are) refl))))
+
+-- escaped words are read as these words
+pub words_said : WordsAreSaid
+words_said labels [] line = subst (λ (ps : List Piece). AreWords [] ps []) (sym (nothing_cut labels [] 0 0)) (refl, refl)
+words_said labels (b ∷ bs) line =
+    let parts = and_parts (not (is_tab_or_end b)) (is_line bs) line in
+    by_test (is_ascii_punctuation b) (AreWords (escaped (b ∷ bs)) (pieces_at labels (escaped (b ∷ bs)) 0 0 (escaped (b ∷ bs))) (b ∷ bs))
+    (λ h.
+    let text = 92 ∷ b ∷ rest_of bs in
+    subst (λ (ws : List ℕ). AreWords ws (pieces_at labels ws 0 0 ws) (b ∷ bs)) (sym (ap (λ (t : Bool). escaped_if t b ++ rest_of bs) h))
+    (said_sign labels text 0 0 b bs refl h (said_rest labels text (length bs) (0 + 1 + 1) (0 + 1) bs (omega arith) parts.1 refl)))
+    (λ h.
+    let text = rest_of (b ∷ bs) in
+    let same : text ≡ escaped (b ∷ bs) = plain_rest b bs (no_mark b h) ∙ sym (ap (λ (t : Bool). escaped_if t b ++ rest_of bs) h) in
+    subst (λ (ws : List ℕ). AreWords ws (pieces_at labels ws 0 0 ws) (b ∷ bs)) same (said_rest labels text (length (b ∷ bs)) 0 0 (b ∷ bs) (omega arith) line refl))
