@@ -19,7 +19,7 @@ use Rattle.mad_measure.proofs.AllLemmas.{all_each}
 use Rattle.mad_edit_lines.specs.TextLines.{is_newline}
 use Rattle.mad_field.specs.Shown.{IsShowable}
 use Rattle.mad_draw.specs.DrawnRows.{AreRowsShown, FillArea}
-use Rattle.mad_draw.specs.Pieces.{IsColumnChar}
+use Rattle.mad_draw.specs.Pieces.{IsColumnChar, char_piece}
 use Rattle.mad_draw.proofs.CharLemmas.{single_columns, single_shown}
 use Rattle.mad_characters.proofs.CharColumns.{char_columns-ascii}
 use Rattle.mad_style.specs.CompoundStyles.{unstyled}
@@ -73,15 +73,18 @@ pub both_shown : (p q : Pane) (a b : List ℕ) → AreApart p.area q.area → Ar
 both_shown p q a b apart here there =
     panes_shown (p ∷ q ∷ []) (a ++ b) ((apart, tt), (tt, tt)) (a, b, refl, here, (b, [], sym (append-nil b), there, refl))
 
--- the slash fills its cell
-pub prompt_fills : (area : Area) (rows : ℕ) → area ≡ prompt_cell rows → FillArea prompt_row area
-prompt_fills area rows is y inside =
-    let slash = styled_char unstyled 47 in
-    let one : IsColumnChar 47 = record { scalar = refl; one = char_columns-ascii 47 (omega arith) (omega arith) } in
-    record { shown = single_shown slash 1 one; columns = single_columns slash 1 one ∙ sym (ap (λ (a : Area). a.width) is) }
+-- a sign of one column fills its cell
+sign_fills : (c : ℕ) (area : Area) (rows : ℕ) → IsColumnChar c → area ≡ prompt_cell rows → FillArea (λ y. char_piece (styled_char unstyled c) ∷ []) area
+sign_fills c area rows one is y inside =
+    let sign = styled_char unstyled c in record { shown = single_shown sign 1 one; columns = single_columns sign 1 one ∙ sym (ap (λ (a : Area). a.width) is) }
 
--- the slash and the field, drawn in turn
-pub typed_shown : (s : State) (a b : List ℕ) → AreRowsShown prompt_row (prompt_cell s.page.rows) a → IsFieldShown s b → IsFieldRow s (a ++ b)
+-- the sign before what is typed fills its cell
+pub prompt_fills : (back : Bool) (area : Area) (rows : ℕ) → area ≡ prompt_cell rows → FillArea (prompt_row back) area
+prompt_fills true area rows is = sign_fills 63 area rows (record { scalar = refl; one = char_columns-ascii 63 (omega arith) (omega arith) }) is
+prompt_fills false area rows is = sign_fills 47 area rows (record { scalar = refl; one = char_columns-ascii 47 (omega arith) (omega arith) }) is
+
+-- the sign and the field, drawn in turn
+pub typed_shown : (s : State) (a b : List ℕ) → AreRowsShown (prompt_row s.types_back) (prompt_cell s.page.rows) a → IsFieldShown s b → IsFieldRow s (a ++ b)
 typed_shown s a b prompt field wide row = (a, b, refl, prompt, (b, [], sym (append-nil b), field wide row, refl))
 
 -- whether two areas are the same, as it is tested

@@ -21,7 +21,8 @@ use Rattle.mad_page_rows.specs.FaceLaws.{AreFacesShown}
 use Rattle.mad_page_rows.specs.PageFits.{KeepsRoom, sections_at}
 use Rattle.mad_pages.specs.PagedPages.{sections_in}
 use Rattle.mad_rows.specs.RowStyles.{line_rules}
-use Rattle.mad_page.specs.Pages.{percent}
+use Rattle.mad_page.specs.declared.page.Page.{Page}
+use Rattle.mad_page.specs.Pages.{percent, row_number}
 use Rattle.mad_search.specs.Searches.{composite_text}
 use Rattle.mad_term.specs.Draws.{DrawsSome}
 use Rattle.mad_term.specs.Trace.{Trace, after, flushed, CutShort}
@@ -79,13 +80,13 @@ status_area s = last_row s.page.columns s.page.rows
 abbrev pub status_pane : RowSkin → FmtLine → State → Pane
 status_pane skin line s = record { area = status_area s; row = area_row skin None (line ∷ []) (status_area s) 0 }
 
--- the slash before what is being typed
-abbrev pub prompt_row : ℕ → List RowPiece
-prompt_row y = char_piece (styled_char unstyled 47) ∷ []
+-- the sign before what is being typed: a slash (47), or, backwards, a question mark (63)
+abbrev pub prompt_row : Bool → ℕ → List RowPiece
+prompt_row backward y = char_piece (styled_char unstyled (if backward then 63 else 47)) ∷ []
 
--- that slash, in the first cell of the last row
+-- that sign, in the first cell of the last row
 abbrev pub prompt_pane : State → Pane
-prompt_pane s = record { area = prompt_cell s.page.rows; row = prompt_row }
+prompt_pane s = record { area = prompt_cell s.page.rows; row = prompt_row s.types_back }
 
 -- what is being typed, in the last row
 abbrev pub field_pane : State → Pane
@@ -93,16 +94,26 @@ field_pane s = record { area = s.field.area; row = row_pieces s.field }
 
 -- ---- the status
 
--- what is said of what is sought, where anything is; where the last search found no row, that too
-abbrev pub sought_words : Bool → List ℕ → List ℕ
-sought_words missing [] = []
-sought_words missing (c ∷ cs) = codes "  /" ++ (c ∷ cs) ++ (if missing then codes "  not found" else [])
+-- what stands before what is sought, backwards or not
+abbrev pub sought_sign : Bool → List ℕ
+sought_sign backward = if backward then codes "  ?" else codes "  /"
 
--- what the status says: how much of the text was shown, its name, what is sought, and whether it wasn't found; after a colon that alone
+-- what is said of what is sought, backwards or not, where anything is; where the last search found no row, that too
+abbrev pub sought_words : Bool → Bool → List ℕ → List ℕ
+sought_words backward missing [] = []
+sought_words backward missing (c ∷ cs) = sought_sign backward ++ (c ∷ cs) ++ (if missing then codes "  not found" else [])
+
+-- where in the text the page is, if that is to be told: the number of the row on top, and how many rows there are
+abbrev pub place_words : Page → List ℕ
+place_words page = if page.tells then codes "row " ++ decimal (row_number page) ++ codes " of " ++ decimal page.height ++ codes "  " else []
+
+-- what the status says: where the page is, if that is to be told, how much of the text was shown, its name, what is sought, and whether it wasn't found;
+-- after a colon that alone, and after digits their number
 abbrev pub status_words : List ℕ → State → List ℕ
 status_words name s =
     if s.page.has_colon then codes ":"
-    else decimal (percent s.page) ++ codes "%  " ++ name ++ sought_words s.is_missing s.sought
+    else if nat_lt 0 s.page.count then decimal s.page.count
+    else place_words s.page ++ decimal (percent s.page) ++ codes "%  " ++ name ++ sought_words s.is_backward s.is_missing s.sought
 
 -- the skin of the status: no style but this one, which its characters have
 abbrev pub status_skin : CompoundStyle → MadSkin
@@ -186,7 +197,7 @@ AreLinesShown skin s bytes = KeepsTextPremises skin s → AreShownBeside (bar_of
 abbrev pub IsFieldShown : State → List ℕ → Type 0
 IsFieldShown s bytes = 1 < s.page.columns → IsFieldInRow s → AreRowsShown (row_pieces s.field) s.field.area bytes
 
--- these bytes show the slash, and what is being typed after it, on a screen that has columns for both
+-- these bytes show the sign, and what is being typed after it, on a screen that has columns for both
 abbrev pub IsFieldRow : State → List ℕ → Type 0
 IsFieldRow s bytes = 1 < s.page.columns → IsFieldInRow s → ShowsEach (prompt_pane s ∷ field_pane s ∷ []) bytes
 
@@ -195,7 +206,7 @@ pub record IsLastRow (skin : PageSkin) (name : List ℕ) (s : State) (bytes : Li
   pub typing : s.is_typing ≡ true → IsFieldRow s bytes
   pub status : s.is_typing ≡ false → IsStatus skin name s bytes
 
--- These bytes show a session while something is being typed: the text from its top row on, its bar, and in the last row a slash and the field. Every
+-- These bytes show a session while something is being typed: the text from its top row on, its bar, and in the last row its sign and the field. Every
 -- other cell is as before.
 abbrev pub IsTypingShown : PageSkin → State → List ℕ → Type 0
 IsTypingShown skin s bytes = KeepsTextPremises skin s → IsFieldInRow s → ArePanesShown (text_pane skin s ∷ prompt_pane s ∷ field_pane s ∷ []) bytes

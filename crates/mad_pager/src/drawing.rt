@@ -151,11 +151,14 @@ impl Session<'_> {
         Ok(())
     }
 
-    // Draws a slash without a style, and what is typed after it in the styles of its field.
+    // Draws a slash or a question mark without a style, and what is typed after it in the styles of its field.
     fn draw_typed<O: Out>(&self, alloc: Global, out: &mut O) -> Result<(), Error>
         ensures { OnOk result (TookWith (O.seen out.old) (O.seen out.new) (IsFieldRow (state_of self.now))) }
     {
-        draw_rows(alloc, out, &Prompt, &prompt_cell(self.page.rows))?;
+        let prompt = Prompt {
+            backward: self.types_back,
+        };
+        draw_rows(alloc, out, &prompt, &prompt_cell(self.page.rows))?;
         self.draw_field(out)?;
         Ok(())
     }
@@ -175,17 +178,20 @@ impl Session<'_> {
     }
 }
 
-// The slash before what is typed.
-struct Prompt;
+// The sign before what is typed: a slash, or, backwards, a question mark.
+#[derive(Clone, Copy)]
+struct Prompt {
+    backward: bool,
+}
 
 impl Rows for Prompt {
     ghost use Rattle.mad_pager.specs.Screens.{prompt_row};
 
-    ghost pieces = { λ _ y. prompt_row y };
+    ghost pieces = { λ prompt y. prompt_row prompt.backward y };
 
     fn push_row(&self, bytes: &mut String, _y: u16) -> Result<(), AllocError> {
-        let slash = StyledChar::nude('/');
-        write!(bytes, "{slash}")
+        let sign = StyledChar::nude(if self.backward { '?' } else { '/' });
+        write!(bytes, "{sign}")
     }
 }
 

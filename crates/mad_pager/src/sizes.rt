@@ -86,6 +86,7 @@ impl<'s> Session<'s> {
             count: self.page.count,
             holds_bar: self.page.holds_bar,
             has_colon: self.page.has_colon,
+            tells: self.page.tells,
             files: self.page.files,
         };
         self.laid = laid;
