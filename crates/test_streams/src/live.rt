@@ -41,20 +41,34 @@ fn go_on_below<'t>(
     out: &mut CutOut,
     piece: &'t str,
 ) -> Result<&'t str, AllocError> {
-    let Some((size, rest)) = piece.strip_prefix('[').and_then(|s| s.split_once(']')) else {
-        return Ok(piece);
+    let (size, rest) = piece_behind_size(piece);
+    let Some([width, height]) = size else {
+        return Ok(rest);
     };
-    let (width, height) = size.split_once(' ').unwrap_or((size, ""));
-    let height = height.parse().unwrap_or(0);
-    let width = Some(width.parse().unwrap_or(0));
-    if live.go_on_below(asked.alloc, out, width, height).is_err() {
+    if live
+        .go_on_below(asked.alloc, out, Some(width), height)
+        .is_err()
+    {
         return Err(AllocError);
     }
     paper.resize(height);
     Ok(rest)
 }
 
-fn read(
+/// The size of another screen, where a piece begins with `[W H]`, and what comes behind it.
+pub fn piece_behind_size(piece: &str) -> (Option<[usize; 2]>, &str) {
+    let Some((size, rest)) = piece.strip_prefix('[').and_then(|s| s.split_once(']')) else {
+        return (None, piece);
+    };
+    let (width, height) = size.split_once(' ').unwrap_or((size, ""));
+    match (width.parse(), height.parse()) {
+        (Ok(width), Ok(height)) => (Some([width, height]), rest),
+        _ => (None, piece),
+    }
+}
+
+/// The terminal reads what went out, and its rows are told.
+pub fn read(
     asked: &Asked,
     paper: &mut Paper,
     out: &CutOut,
