@@ -1,2 +1,0 @@
-pub mod DressLaws
-pub mod Dressed

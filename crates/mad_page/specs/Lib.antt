@@ -1,2 +1,0 @@
-pub mod PageKeys
-pub mod Pages

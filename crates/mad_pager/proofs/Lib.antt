@@ -1,7 +1,0 @@
-pub mod DrawnLemmas
-pub mod OrderLemmas
-pub mod PageFills
-pub mod PagerOrder
-pub mod PagerSteps
-pub mod ScreenStandLemmas
-pub mod StepLemmas

@@ -1,7 +1,0 @@
-pub mod PushLemmas
-pub mod WordLemmas
-pub mod ParagraphLemmas
-pub mod MarkLemmas
-pub mod CodeLemmas
-pub mod LineLemmas
-pub mod PageLemmas

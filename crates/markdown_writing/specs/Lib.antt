@@ -1,4 +1,0 @@
-pub mod Words
-pub mod Pages
-pub mod Writable
-pub mod Reading

@@ -1,2 +1,0 @@
-pub mod PieceLemmas
-pub mod PrintLemmas

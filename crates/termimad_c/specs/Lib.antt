@@ -1,5 +1,0 @@
-pub mod Answers
-pub mod DataTables
-pub mod Inputs
-pub mod Making
-pub mod Outlines
