@@ -176,6 +176,31 @@ def tiny_lines(r, size):
     return until(size, line)
 
 
+def links(r, size):
+    """Paragraphs and items with links of each form, and the definitions of those that are named."""
+    def address():
+        return "https://example.org/" + "/".join(r.pick(LATIN) for _ in range(r.between(1, 3)))
+
+    def link(named):
+        kind = r.below(10)
+        text = words(r, r.between(1, 4), 10)
+        if kind < 5:
+            return f"[{text}]({address()})"
+        if kind < 7:
+            return f"<{address()}>" if kind == 5 else address()
+        if kind < 8:
+            return f"![{text}]({address()}.png \"{word(r)}\")"
+        named.append(f"[{r.pick(LATIN)}-{len(named)}]")
+        return f"[{text}]{named[-1]}"
+
+    def block():
+        named = []
+        front = "- " if r.chance(40) else ""
+        parts = " ".join(f"{words(r, r.between(2, 12), 4)} {link(named)}" for _ in range(r.between(1, 5)))
+        return front + parts + ".\n\n" + "".join(f"{label}: {address()}\n" for label in named) + ("\n" if named else "")
+    return until(size, block)
+
+
 def mixed(r, size):
     makers = [lambda: prose(r, 3000), lambda: lists(r, 1500), lambda: code(r, 1500),
               lambda: words(r, 9) + "\n\n" + table(r, r.between(3, 12), r.between(2, 5)) + "\n",
@@ -203,6 +228,7 @@ CORPORA = {
     "longword_10m": lambda r: long_word(r, 10_000_000),
     "tiny_1m": lambda r: tiny_lines(r, 1_000_000),
     "tiny_10m": lambda r: tiny_lines(r, 10_000_000),
+    "links_1m": lambda r: links(r, 1_000_000),
     "small_prose": lambda r: prose(r, 60_000),
     "small_mixed": lambda r: mixed(r, 60_000),
     "small_lists": lambda r: lists(r, 60_000),
@@ -212,6 +238,11 @@ CORPORA = {
     "small_longline": lambda r: long_line(r, 60_000),
     "small_tiny": lambda r: tiny_lines(r, 60_000),
 }
+
+
+MARKDOWN_100K = {"prose": prose, "lists": lists, "links": links, "tables": small_tables, "code": code, "cjk": cjk, "mixed": mixed}
+for _name, _make in MARKDOWN_100K.items():
+    CORPORA[f"{_name}_100k"] = lambda r, make=_make: make(r, 100_000)
 
 
 # Texts that repeat one piece, for reading alone; the first part is once in front.

@@ -24,8 +24,9 @@
  * come from one allocator and align as the C library's do. No call is made from a signal handler, or from the child of a fork in a
  * program with threads. There is enough stack; 1 MiB is.
  *
- * There is no state between calls, so any thread may call: what termimad_parts needs of the calls before, its caller hands it. While a call runs the whole result is in memory, also what doesn't fit the
- * buffer; all memory that a call takes it gives back.
+ * There is no state between calls but behind a termimad_stream, so any thread may call: what termimad_parts needs of the calls before, its caller
+ * hands it. While a call runs the whole result is in memory, also what doesn't fit the buffer. All memory that a call takes it gives back, but what
+ * a termimad_stream keeps.
  */
 #ifndef TERMIMAD_H
 #define TERMIMAD_H
@@ -67,6 +68,11 @@ typedef struct {
     uint32_t fenced; /* 1 where a fence is open after these bytes, else 0 */
     uint32_t status; /* TERMIMAD_DONE to TERMIMAD_MEMORY */
 } termimad_progress;
+
+/* A text of Markdown that comes in pieces, from termimad_stream_begin to termimad_stream_end. */
+typedef struct {
+    void *text; /* where it is kept: no caller reads or changes it */
+} termimad_stream;
 
 /* The text in an area of the screen: what `termimad-view area LEFT TOP WIDTH HEIGHT` writes.
  *
@@ -156,6 +162,46 @@ termimad_answer termimad_headings(const char *text, size_t text_length, char *bu
 termimad_progress termimad_parts(const char *text, size_t text_length, const char *skin, size_t skin_length,
                                  size_t width, size_t fenced, size_t last, char *buffer, size_t capacity);
 
+/* Begins a text that comes in pieces: read as termimad_markdown reads one, in its skins, and laid out in WIDTH columns.
+ *
+ * Where the status is TERMIMAD_DONE the stream is begun, and its text lives until termimad_stream_end. What stood in the struct is lost. Else it stays as
+ * it was, and nothing is begun. COUNT is 0. WIDTH is at most 65535, else TERMIMAD_CONDITION.
+ */
+termimad_answer termimad_stream_begin(termimad_stream *stream, const char *skin, size_t skin_length, size_t width);
+
+/* Takes the next piece of a text that was begun; where LAST isn't 0, the last one. The buffer gets the rows that wait then: first those of the leaves
+ * that are complete, and at the text's end all others.
+ *
+ * A leaf is a paragraph, a heading, a table, code, html or a rule. A piece is cut anywhere, also inside a character. COUNT is how many bytes waited.
+ * Where the status is TERMIMAD_SHORT, the buffer is full, and the others wait: ask again with an empty piece, also after the last one. In all, the rows are
+ * those that `termimad-view markdown-stream WIDTH` writes of the whole text, wherever it was cut. Each piece takes time for itself alone.
+ *
+ * TERMIMAD_NOT_UTF8: the piece makes no text of what came. TERMIMAD_CONDITION: the text has ended already. Then nothing was taken. After
+ * TERMIMAD_MEMORY the text is of no use, but for its end. The stream is one that was begun and hasn't ended. No two calls use it at a time, and no
+ * copy of the struct is used.
+ *
+ *   termimad_stream stream;
+ *   if (termimad_stream_begin(&stream, "none", 4, 80).status != TERMIMAD_DONE)
+ *       return 1;
+ *   char piece[8192], rows[4096];
+ *   size_t came;
+ *   do {
+ *       came = fread(piece, 1, sizeof piece, stdin);
+ *       termimad_answer now = termimad_stream_take(&stream, piece, came, came == 0, rows, sizeof rows);
+ *       while (now.status == TERMIMAD_SHORT) {
+ *           fwrite(rows, 1, sizeof rows, stdout);
+ *           now = termimad_stream_take(&stream, "", 0, came == 0, rows, sizeof rows);
+ *       }
+ *       fwrite(rows, 1, now.count, stdout);
+ *   } while (came > 0);
+ *   termimad_stream_end(&stream);
+ */
+termimad_answer termimad_stream_take(termimad_stream *stream, const char *text, size_t text_length, size_t last,
+                                     char *buffer, size_t capacity);
+
+/* Ends a text that was begun, whether all of it came or not, and gives its memory back. The stream can be begun anew. */
+void termimad_stream_end(termimad_stream *stream);
+
 /* The text as one line with its inline marks, and a newline: what `termimad-view inline` writes.
  *
  * One newline at the end of the text is dropped before, with a carriage return before it.
@@ -165,7 +211,7 @@ termimad_progress termimad_parts(const char *text, size_t text_length, const cha
 termimad_answer termimad_inline(const char *text, size_t text_length, const char *skin, size_t skin_length,
                                 char *buffer, size_t capacity);
 
-/* How many rows the text takes in WIDTH columns: `count` is that number. There is no buffer.
+/* How many rows termimad_text writes of the text in WIDTH columns: `count` is that number. There is no buffer.
  *
  * WIDTH is at most 65535, else TERMIMAD_CONDITION.
  *

@@ -255,13 +255,64 @@ static int try_call(unsigned number, char *room, unsigned *counted)
     return fault == NULL;
 }
 
+/* Hands a text to a stream in pieces, into buffers of a few bytes, and answers the last status: `grants` growths of memory are granted at first, or all
+ * below zero. Where the status is done, `rows` has all rows, and `length` is how many bytes they have. */
+static uint32_t streamed(const bytes *text, const bytes *skin, size_t width, long grants, char *rows, size_t *length)
+{
+    termimad_stream stream;
+    granted = grants;
+    termimad_answer now = termimad_stream_begin(&stream, skin->bytes, skin->length, width);
+    uint32_t begun = now.status;
+    *length = 0;
+    for (size_t at = 0, last = begun != TERMIMAD_DONE; !last && now.status == TERMIMAD_DONE;) {
+        size_t left = text->length - at, count = next(8) < left ? next(8) % (left + 1) : left, capacity = next(40);
+        last = count == left;
+        do {
+            char *buffer = __real_malloc(capacity);
+            now = termimad_stream_take(&stream, text->bytes + at, count, last, buffer, capacity);
+            size_t got = now.count < capacity ? now.count : capacity;
+            memcpy(rows + *length, buffer, now.status > TERMIMAD_SHORT ? 0 : got);
+            *length += now.status > TERMIMAD_SHORT ? 0 : got;
+            free(buffer);
+            at += count;
+            count = 0;
+            capacity = capacity * 2 + 1;
+        } while (now.status == TERMIMAD_SHORT);
+    }
+    granted = -1;
+    if (begun == TERMIMAD_DONE)
+        termimad_stream_end(&stream);
+    return now.status;
+}
+
+/* Streams one text twice, once while memory runs out. Where both are done the rows have to be the same. */
+static int try_stream(unsigned number, char *room, unsigned *counted)
+{
+    bytes text = random_text();
+    const char *word = skins[next(COUNT(skins))];
+    bytes skin = copy_of(word, strlen(word));
+    size_t width = next(8) ? numbers[next(12)] : 65536 + next(9), length, other;
+    char *again = room + ROOM / 2;
+    uint32_t status = streamed(&text, &skin, width, -1, room, &length);
+    uint32_t poor = streamed(&text, &skin, width, (long)next(40), again, &other);
+    counted[status]++;
+    counted[TERMIMAD_MEMORY] += poor == TERMIMAD_MEMORY;
+    int is_right = status < TERMIMAD_MEMORY && (poor == TERMIMAD_MEMORY || (poor == status && (status != TERMIMAD_DONE || other == length)))
+        && memcmp(room, again, length < other ? length : other) == 0;
+    if (!is_right)
+        fprintf(stderr, "stream %u: status %u, then %u\n", number, (unsigned)status, (unsigned)poor);
+    free(text.bytes);
+    free(skin.bytes);
+    return is_right;
+}
+
 int main(int count, char **words)
 {
     unsigned calls = count > 1 ? (unsigned)strtoul(words[1], NULL, 10) : 1000;
     unsigned counted[TERMIMAD_MEMORY + 1] = { 0 }, wrong = 0;
     char *room = taken(ROOM);
     for (unsigned number = 0; number < calls; number++)
-        wrong += !try_call(number, room, counted);
+        wrong += number % 4 == 3 ? !try_stream(number, room, counted) : !try_call(number, room, counted);
     free(room);
     printf("%u calls: done %u, of these short %u, condition %u, not UTF-8 %u, skin %u; refused memory %u; wrong %u\n", calls, counted[TERMIMAD_DONE],
            counted[TERMIMAD_SHORT], counted[TERMIMAD_CONDITION], counted[TERMIMAD_NOT_UTF8], counted[TERMIMAD_SKIN], counted[TERMIMAD_MEMORY], wrong);

@@ -14,6 +14,7 @@ from . import dump
 from .leaf_rows import Cells, Row, columns, fits_as_table, layout, placed, table_of
 from .lines import EMPTY, Align, Compound, HorizontalRule, Line, Normal, TableRule, paragraph
 from .sections import BULLET, CODE_SIDES, DONE, OPEN, Gutter, Section, hanging, sections_of
+from .words import worded
 
 PageRow = tuple[str, Row]
 LOOKS = ("page", "boxes", "ascii", "plain")
@@ -82,7 +83,9 @@ def boxed_rows(width: int | None, section: Section) -> list[PageRow]:
 
 
 def dressed(section: Section) -> list[Section]:
-    """What a page without styles shows in the place of a section: below a heading of the first two levels a rule, and the signs in front of another."""
+    """What a page without styles shows in the place of a section: marks at its words, below a heading of the first two levels a rule, and the signs in front
+    of another."""
+    section = worded(section)
     first = section.lines[0]
     level = first.composite.style.level if isinstance(first, Normal) else 0
     if level in BELOW:

@@ -140,6 +140,32 @@ static made pieces_of(const request *it)
     return whole;
 }
 
+/* The rows of Markdown in pieces of so many bytes, by a buffer of a few bytes. */
+static made stream_of(const request *it)
+{
+    made whole = { NULL, 0, TERMIMAD_DONE };
+    termimad_stream stream;
+    size_t length = it->lengths[0], cut = it->numbers[1];
+    whole.status = termimad_stream_begin(&stream, it->texts[1], it->lengths[1], it->numbers[0]).status;
+    if (whole.status != TERMIMAD_DONE)
+        return whole;
+    for (size_t at = 0; at <= length && whole.status == TERMIMAD_DONE; at += cut) {
+        size_t count = length - at < cut ? length - at : cut;
+        do {
+            char buffer[64];
+            termimad_answer now = termimad_stream_take(&stream, it->texts[0] + at, count, at + cut > length, buffer, sizeof buffer);
+            size_t got = now.count < sizeof buffer ? now.count : sizeof buffer;
+            whole.bytes = room_of(whole.bytes, whole.count + got);
+            memcpy(whole.bytes + whole.count, buffer, got);
+            whole.count += got;
+            whole.status = now.status;
+            count = 0;
+        } while (whole.status == TERMIMAD_SHORT);
+    }
+    termimad_stream_end(&stream);
+    return whole;
+}
+
 /* How many rows a text takes, as a number. */
 static made rows_of(const request *it)
 {
@@ -168,7 +194,7 @@ int main(void)
 {
     request it;
     while (read_request(&it)) {
-        made whole = strcmp(it.call, "pieces") == 0 ? pieces_of(&it) : strcmp(it.call, "rows") == 0 ? rows_of(&it) : whole_of(&it);
+        made whole = strcmp(it.call, "pieces") == 0 ? pieces_of(&it) : strcmp(it.call, "markdown-pieces") == 0 ? stream_of(&it) : strcmp(it.call, "rows") == 0 ? rows_of(&it) : whole_of(&it);
         if (whole.status != TERMIMAD_DONE)
             whole.count = 0;
         printf("%u %zu\n", (unsigned)whole.status, whole.count);

@@ -1,13 +1,17 @@
 """Answers calls that it reads, by the Python module: `answers.py <REQUESTS`. tools/same_rows/compare writes them, and says how they look."""
+from __future__ import annotations
+
+import io
 import json
 import sys
+from collections.abc import Iterable
 
 import termimad
 
 STATUS_OF = {termimad.WrongNumber: 2, termimad.NotUtf8: 3, termimad.WrongSkin: 4, termimad.OutOfMemory: 5}
 
 
-def skin_of(word):
+def skin_of(word: str) -> termimad.Skin:
     """A skin as users of Python write it: JSON text as the dict that it is."""
     try:
         found = json.loads(word)
@@ -16,7 +20,7 @@ def skin_of(word):
     return found if isinstance(found, dict) else word
 
 
-def table_of(numbers, texts):
+def table_of(numbers: list[int], texts: list[bytes]) -> str:
     """A table: its numbers are the width, the columns and the alignments; its texts the skin and the cells."""
     skin, *cells = [text.decode() for text in texts]
     width, columns, *aligns = numbers
@@ -24,12 +28,28 @@ def table_of(numbers, texts):
     return termimad.table(rows, width, aligns, skin_of(skin))
 
 
-def pieces_of(text, skin, width, cut):
+def cut_up(text: bytes, size: int) -> Iterable[bytes]:
     """A text in pieces of so many bytes."""
-    return "".join(termimad.text_of_pieces((text[at : at + cut] for at in range(0, len(text), cut)), width, skin))
+    return (text[at : at + size] for at in range(0, len(text), size))
 
 
-def markdown_of(text, skin, width):
+def pieces_of(text: bytes, skin: termimad.Skin, width: int, cut: int) -> str:
+    """A text of the small grammar in pieces."""
+    return "".join(termimad.text_of_pieces(cut_up(text, cut), width, skin))
+
+
+def markdown_pieces_of(text: bytes, skin: termimad.Skin, width: int, cut: int) -> str:
+    """Markdown in pieces, whose rows have to be those that are printed."""
+    made = "".join(f"{row}\n" for row in termimad.pieces(cut_up(text, cut), width, skin))
+    shown = io.StringIO()
+    with termimad.live(width, skin, shown) as out:
+        for piece in cut_up(text, cut):
+            out.write(piece)
+    assert made == shown.getvalue(), (made, shown.getvalue())
+    return made
+
+
+def markdown_of(text: bytes, skin: termimad.Skin, width: int) -> str:
     """Markdown by the call, which has to be what a page has."""
     made = termimad.markdown(text, width, skin)
     rows = termimad.Markdown(text).rows(width, skin)
@@ -37,17 +57,17 @@ def markdown_of(text, skin, width):
     return made
 
 
-def code_of(text, skin, language, width):
+def code_of(text: bytes, skin: termimad.Skin, language: bytes, width: int) -> str:
     """A text of code: its rows, each with a newline."""
     return "".join(f"{row}\n" for row in termimad.code(text, language.decode()).rows(width, skin))
 
 
-def lines_of(found):
+def lines_of(found: Iterable[tuple[object, ...]]) -> str:
     """Links or headings as the library writes them: a line for each, its parts with tabs between."""
     return "".join("\t".join(map(str, parts)) + "\n" for parts in found)
 
 
-def made_by(call, numbers, texts):
+def made_by(call: str, numbers: list[int], texts: list[bytes]) -> str:
     """What a call makes."""
     if call == "table":
         return table_of(numbers, texts)
@@ -59,6 +79,7 @@ def made_by(call, numbers, texts):
         "code": lambda: code_of(text, skin, texts[2], *numbers),
         "inline": lambda: termimad.inline(text, skin),
         "pieces": lambda: pieces_of(text, skin, *numbers),
+        "markdown-pieces": lambda: markdown_pieces_of(text, skin, *numbers),
         "rows": lambda: str(termimad.rows(text, *numbers, skin)),
         "fit": lambda: termimad.fit(text, *numbers, skin),
         "printable": lambda: termimad.printable(text),
@@ -68,11 +89,11 @@ def made_by(call, numbers, texts):
     return calls[call]()
 
 
-def main():
+def main() -> None:
     source, out = sys.stdin.buffer, sys.stdout.buffer
     for line in iter(source.readline, b""):
-        call, number_count, _, *numbers = line.decode().split()
-        numbers, lengths = [int(it) for it in numbers[: int(number_count)]], [int(it) for it in numbers[int(number_count) :]]
+        call, number_count, _, *sizes = line.decode().split()
+        numbers, lengths = [int(it) for it in sizes[: int(number_count)]], [int(it) for it in sizes[int(number_count) :]]
         texts = [source.read(length) for length in lengths]
         try:
             status, made = 0, made_by(call, numbers, texts).encode()

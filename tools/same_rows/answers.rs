@@ -2,7 +2,7 @@
 
 use std::io::{self, BufRead, Read, Write};
 use termimad_proved::{
-    area, code, fit, headings, inline, links, markdown, printable, rows, rows_as_read, table,
+    area, code, fit, headings, inline, links, markdown, markdown_as_read, printable, rows, rows_as_read, table,
     text, Align, Area, Heading, Link, Page, Refused,
 };
 
@@ -61,9 +61,13 @@ fn align_of(number: usize) -> Align {
 
 /// The text in pieces; a text that isn't UTF-8 is an error of the reader there.
 fn pieces(request: &Request, skin: &str) -> Result<String, u32> {
-    let source = Cut(&request.texts[0], request.numbers[1]);
-    rows_as_read(source, request.numbers[0], skin)
-        .collect::<io::Result<String>>()
+    let (source, width) = (Cut(&request.texts[0], request.numbers[1]), request.numbers[0]);
+    let made: io::Result<String> = if request.call == "pieces" {
+        rows_as_read(source, width, skin).collect()
+    } else {
+        markdown_as_read(source, width, skin).collect()
+    };
+    made
         .map_err(|error| {
             let refused = error
                 .get_ref()
@@ -128,7 +132,7 @@ fn made_by(request: &Request) -> Result<String, u32> {
         .map(|it| std::str::from_utf8(it))
         .collect();
     let numbers = &request.numbers;
-    if request.call == "pieces" {
+    if request.call.ends_with("pieces") {
         return pieces(
             request,
             std::str::from_utf8(&request.texts[1]).map_err(|_| NOT_UTF8)?,

@@ -130,6 +130,11 @@ class Texts(unittest.TestCase):
             (termimad.WrongNumber, "width=3 is under 4", lambda: termimad.area("a", 0, 0, 3, 1)),
             (termimad.WrongNumber, "top=65535 and height=1", lambda: termimad.area("a", 0, 65535, 4, 1)),
             (termimad.WrongNumber, r"aligns\[1\]=4 is over 3", lambda: termimad.table([["a"]], 40, aligns=[0, 4])),
+            (termimad.WrongNumber, "width=65536 is over 65535", lambda: list(termimad.pieces(["a"], 65536))),
+            (termimad.WrongSkin, "skin='nothing'", lambda: termimad.live(20, "nothing")),
+            (termimad.NotUtf8, "a piece is not UTF-8", lambda: list(termimad.pieces([b"\xe6", b"a"], 20))),
+            (termimad.NotUtf8, "a piece is not UTF-8", lambda: list(termimad.pieces([b"\xe6"], 20))),
+            (TypeError, "a piece is of type int", lambda: list(termimad.pieces([7], 20))),
             (TypeError, "width is of type str", lambda: termimad.text("a", "20")),
             (TypeError, "skin is None", lambda: termimad.text("a", 20, None)),
             (TypeError, "source is of type int", lambda: termimad.Markdown(7)),
@@ -170,6 +175,38 @@ class Texts(unittest.TestCase):
         console.print(table)
         self.assertIn("two", file.getvalue())
 
+    def test_markdown_in_pieces_is_the_whole(self):
+        text = "# head\n\n> - an item\n>   of a quote\n\n|a|b|\n|-|-:|\n|1|2|\n\nlast *words* 日本語 of a [link](b.md)"
+        for size in (1, 3, 50):
+            source = [text.encode()[at : at + size] for at in range(0, len(text.encode()), size)]
+            self.assertEqual(list(termimad.pieces(source, 30, "dark")), termimad.Markdown(text).rows(30, "dark"))
+            file = io.StringIO()
+            with termimad.live(30, file=file) as out:
+                for piece in source:
+                    out.write(piece)
+            self.assertEqual(file.getvalue(), termimad.markdown(text, 30))
+        with self.assertRaisesRegex(ValueError, "behind the end"):
+            out.write("more")
+
+    def test_rows_come_as_soon_as_they_are_complete(self):
+        taken = []
+
+        def source():
+            yield "# head\n"
+            yield "- one\n"
+            yield "- two\n"
+
+        for row in termimad.pieces(source(), 20):
+            taken.append(row)
+            if "one" in row:
+                break
+        self.assertEqual(taken[0], "head")
+        file = io.StringIO()
+        with self.assertRaises(KeyError), termimad.live(20, file=file) as out:
+            out.write("one\n\ntwo")
+            raise KeyError
+        self.assertEqual(file.getvalue(), "one\n")
+
     def test_random_calls(self):
         draw = random.Random(7)
         for _ in range(RANDOM_CALLS):
@@ -181,6 +218,7 @@ class Texts(unittest.TestCase):
             safe = termimad.printable(source)
             self.assertEqual(termimad.printable(safe), safe)
             self.assertNotIn("\x1b", termimad.markdown(source, width))
+            self.assertEqual(list(termimad.pieces(source, width)), list(termimad.pieces([source], width)))
 
 
 if __name__ == "__main__":

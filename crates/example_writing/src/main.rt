@@ -1,19 +1,46 @@
 //! A page as Markdown, on standard output. It is proved that this text is read as the page again, whatever its words are.
 #![tactic(auto)]
 
-use markdown_writing::{PageBlock, markdown_of};
+use markdown_writing::{PageBlock, PagePhrase, markdown_of};
+use std::alloc::{AllocError, Global};
 use std::io::{self, Write};
 
-fn main(rt: HostRuntime) -> Result<(), anyhow::Error> {
-    let code = ["fn main() {}", "```", "    ````"];
+// A page of a heading, two paragraphs, code, a break and a third paragraph.
+fn page_text<'p>(
+    alloc: Global,
+    title: &'p [PagePhrase<'p>],
+    marks: &'p [PagePhrase<'p>],
+    spans: &'p [PagePhrase<'p>],
+    lines: &'p [&'p str],
+    item: &'p [PagePhrase<'p>],
+) -> Result<Vec<u8>, AllocError> {
     let page = [
-        PageBlock::Heading(1, "C# & *more*"),
-        PageBlock::Paragraph("2. Words with ![every] <b>mark</b>: www.example.com, a_b_c and #1 #"),
-        PageBlock::Code("rust", &code),
+        PageBlock::Heading(1, title),
+        PageBlock::Paragraph(marks),
+        PageBlock::Paragraph(spans),
+        PageBlock::Code("rust", lines),
         PageBlock::Break,
-        PageBlock::Paragraph("- no item"),
+        PageBlock::Paragraph(item),
     ];
-    let text = markdown_of(rt.alloc(), &page)?;
+    markdown_of(alloc, &page)
+}
+
+fn main(rt: HostRuntime) -> Result<(), anyhow::Error> {
+    let title = [PagePhrase::Words("C# & *more*")];
+    let marks = [PagePhrase::Words(
+        "2. Words with ![every] <b>mark</b>: www.example.com, a_b_c and #1 #",
+    )];
+    let spans = [
+        PagePhrase::Words("Call "),
+        PagePhrase::Code("a*b"),
+        PagePhrase::Words("; write "),
+        PagePhrase::Code("`` ` ``"),
+        PagePhrase::Words(" for "),
+        PagePhrase::Code("`"),
+    ];
+    let lines = ["fn main() {}", "```", "    ````"];
+    let item = [PagePhrase::Words("- no item")];
+    let text = page_text(rt.alloc(), &title, &marks, &spans, &lines, &item)?;
     io::writer(&rt).write_all(text.as_slice())?;
     Ok(())
 }

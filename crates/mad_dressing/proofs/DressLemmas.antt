@@ -1,59 +1,106 @@
 -- What is put into a page leaves its text as it is.
-use Rattle.std.proofs.Common.{◌≡◌, ◌⊎◌, inl, inr, ℕ, Bool, false, if◌then◌else◌, List, [], ◌∷◌, ◌++◌, map, Option, Some, None, refl, ap, ◌∙◌, arith, append-nil}
+use Rattle.std.proofs.Common.{◌≡◌, ◌⊎◌, inl, inr, ℕ, Bool, true, false, if◌then◌else◌, List, [], ◌∷◌, ◌++◌, map, Option, Some, None, refl, ap, sym, subst, ◌∙◌, arith, append-nil, not, ◌&&◌}
 use Rattle.std.specs.Prelude.{nat_lt}
+use Rattle.std.proofs.lemmas.Bool.{false≢true}
 use Rattle.std.proofs.lemmas.Bool.Decides.{nat_tests}
 use Rattle.std.proofs.lemmas.Grind.{flat_map-append}
 use Rattle.mad_sections.specs.Sections.{SectionContent}
-use Rattle.mad_sections.specs.UnfoldLaws.{lines_text}
+use Rattle.mad_md.specs.Flagged.{FlaggedChar}
+use Rattle.mad_md.specs.Lines.{LineContent, normal, table_row, table_rule, horizontal_rule}
+use Rattle.mad_md.specs.declared.composite.CompositeStyle.{CompositeStyle}
+use Rattle.mad_md.specs.declared.composite.CompositeStyle.TheVariants.{Paragraph, Header, ListItem, OrderedListItem, ListItemFollowUp, Code, Quote}
 use Rattle.mad_sections.specs.declared.gutters.Gutter.{Gutter}
 use Rattle.mad_sections.specs.declared.gutters.Gutter.TheVariants.{Below, Signs}
 use Rattle.mad_sections.proofs.Choices.{by_bool}
-use Rattle.mad_dressing.specs.Dressed.{Put, nothing, rule_below, signs_before, dressed, dressed_by, dressed_by_each, dressed_page, heading_level, put_at, put_with}
-use Rattle.mad_dressing.specs.DressLaws.{AddsMarksAlone, IsRuled, IsSigned, OthersStay, TextStays, sections_text}
+use Rattle.mad_dressing.specs.Dressed.{Beside, Put, nothing, rule_below, signs_before, dressed, dressed_by, dressed_by_each, dressed_page, header_level, heading_level, beside_at, placed_by, put_with}
+use Rattle.mad_dressing.specs.DressLaws.{AddsMarksAlone, HasMarks, IsRuled, IsSigned, OthersStay, TextStays, all_text, sections_text}
+use Rattle.mad_dressing.specs.WordMarks.{begin_code, is_code_style, worded, worded_if}
+use Rattle.mad_dressing.proofs.MarkLemmas.{worded_lines, worded_text}
 use Rattle.mad_dressing.specs.declared.heading_marks.HeadingMarks.{HeadingMarks}
 
-text_by : (put : Put) (section : SectionContent) → sections_text (dressed_by put section) ≡ lines_text section.lines
-text_by nothing section = append-nil (lines_text section.lines)
-text_by (rule_below gutters) section = append-nil (lines_text section.lines)
-text_by (signs_before gutters) section = append-nil (lines_text section.lines)
+text_by : (beside : Beside) (section : SectionContent) → sections_text (placed_by beside section) ≡ all_text section.lines
+text_by nothing section = append-nil (all_text section.lines)
+text_by (rule_below gutters) section = append-nil (all_text section.lines)
+text_by (signs_before gutters) section = append-nil (all_text section.lines)
 
--- the text of the sections that are shown is that of the one in whose place they are
+-- the text of the sections that are shown is that of the one in whose place they are, with marks at words or as it is
 pub text_stays : TextStays
-text_stays marks section = text_by (put_with marks section) section
+text_stays = record {
+  placed = worded_lines;
+  marked = λ marks section.
+      let own = worded marks.words section in
+      subst (HasMarks (all_text section.lines)) (sym (text_by (put_with marks section).beside own)) (worded_text marks.words section);
+  unmarked = λ marks section none.
+      text_by (put_with marks section).beside (worded marks.words section) ∙ ap (λ (t : Bool). all_text (worded t section).lines) none;
+}
 
--- what is shown is a section as it is, or a heading with a rule or signs
+-- what is shown is a section alone, or a heading with a rule or signs
 abbrev IsDressed : HeadingMarks → SectionContent → List SectionContent → Type 0
-IsDressed marks section shown = (shown ≡ section ∷ []) ⊎ (IsRuled marks section shown ⊎ IsSigned marks section shown)
+IsDressed marks section shown = (shown ≡ worded marks.words section ∷ []) ⊎ (IsRuled marks section shown ⊎ IsSigned marks section shown)
 
-adds_at : (marks : HeadingMarks) (section : SectionContent) (level : Option ℕ) → heading_level section.lines ≡ level → IsDressed marks section (dressed_by (put_at marks section.gutters level) section)
+adds_at : (marks : HeadingMarks) (section : SectionContent) (level : Option ℕ) → heading_level section.lines ≡ level → IsDressed marks section (placed_by (beside_at marks section.gutters level) (worded marks.words section))
 adds_at marks section None is = inl refl
 adds_at marks section (Some level) is =
+    let own = worded marks.words section in
     let ruled : List Gutter = section.gutters ++ Below level ∷ [] in
     let marked : List Gutter = section.gutters ++ Signs level ∷ [] in
-    by_bool (λ t. IsDressed marks section (dressed_by (if t then rule_below ruled else if marks.signs then signs_before marked else nothing) section)) (nat_lt level marks.rules)
+    by_bool (λ t. IsDressed marks section (placed_by (if t then rule_below ruled else if marks.signs then signs_before marked else nothing) own)) (nat_lt level marks.rules)
     (λ first. inr (inl (record { level = level; heading = is; first = grind (arith, nat_tests, first); shown_are = refl })))
-    (λ other. by_bool (λ t. IsDressed marks section (dressed_by (if t then signs_before marked else nothing) section)) marks.signs
+    (λ other. by_bool (λ t. IsDressed marks section (placed_by (if t then signs_before marked else nothing) own)) marks.signs
     (λ signs. inr (inr (record { level = level; heading = is; other = grind (arith, nat_tests, other); signs = signs; shown_are = refl })))
     (λ none. inl refl))
 
--- what is new is a rule below a heading, or the signs in front of one
+-- what is new is marks, a rule below a heading, or the signs in front of one
 pub adds_marks_alone : AddsMarksAlone
 adds_marks_alone marks section = adds_at marks section (heading_level section.lines) refl
 
-unmarked_at : (marks : HeadingMarks) (section : SectionContent) (level : Option ℕ) → marks.rules ≡ 0 → marks.signs ≡ false → dressed_by (put_at marks section.gutters level) section ≡ section ∷ []
+unmarked_at : (marks : HeadingMarks) (section : SectionContent) (level : Option ℕ) → marks.rules ≡ 0 → marks.signs ≡ false → placed_by (beside_at marks section.gutters level) section ≡ section ∷ []
 unmarked_at marks section None none unsigned = refl
 unmarked_at marks section (Some level) none unsigned =
     let ruled : List Gutter = section.gutters ++ Below level ∷ [] in
     let marked : List Gutter = section.gutters ++ Signs level ∷ [] in
     let off : nat_lt level marks.rules ≡ false = grind (arith, nat_tests, none) in
-    ap (λ (t : Bool). dressed_by (if t then rule_below ruled else if marks.signs then signs_before marked else nothing) section) off
-    ∙ ap (λ (t : Bool). dressed_by (if t then signs_before marked else nothing) section) unsigned
+    ap (λ (t : Bool). placed_by (if t then rule_below ruled else if marks.signs then signs_before marked else nothing) section) off
+    ∙ ap (λ (t : Bool). placed_by (if t then signs_before marked else nothing) section) unsigned
 
--- a section that is no heading stays, and so does each where headings have neither
+-- code is no heading
+style_heading : (style : CompositeStyle) → is_code_style style ≡ true → header_level style ≡ None
+style_heading Paragraph is = refl
+style_heading (Header level) is = absurd (false≢true is)
+style_heading (ListItem level) is = refl
+style_heading (OrderedListItem level index) is = refl
+style_heading (ListItemFollowUp level) is = refl
+style_heading Code is = refl
+style_heading Quote is = refl
+
+code_heading : (lines : List LineContent) → begin_code lines ≡ true → heading_level lines ≡ None
+code_heading [] is = refl
+code_heading (normal said ∷ lines) is = style_heading said.style is
+code_heading (table_row cells ∷ lines) is = refl
+code_heading (table_rule aligns ∷ lines) is = refl
+code_heading (horizontal_rule ∷ lines) is = refl
+
+unworded : (words code : Bool) (section : SectionContent) → code ≡ true → worded_if (words && not code) section ≡ section
+unworded true code section is = ap (λ (c : Bool). worded_if (not c) section) is
+unworded false code section is = refl
+
+code_stays : (marks : HeadingMarks) (section : SectionContent) → begin_code section.lines ≡ true → dressed marks section ≡ section ∷ []
+code_stays marks section is =
+    ap (placed_by (put_with marks section).beside) (unworded marks.words (begin_code section.lines) section is)
+    ∙ ap (λ (level : Option ℕ). placed_by (beside_at marks section.gutters level) section) (code_heading section.lines is)
+
+-- without marks at words a section is as it is
+bare : (marks : HeadingMarks) (section : SectionContent) (beside : Beside) → marks.words ≡ false → placed_by beside (worded marks.words section) ≡ placed_by beside section
+bare marks section beside none = ap (λ (t : Bool). placed_by beside (worded t section)) none
+
+-- a section of code stays; so does one that is no heading where no marks stand at words, and each where headings have neither
 pub others_stay : OthersStay
 others_stay = record {
-  text = λ marks section none. ap (λ (level : Option ℕ). dressed_by (put_at marks section.gutters level) section) none;
-  unmarked = λ marks section none unsigned. unmarked_at marks section (heading_level section.lines) none unsigned;
+  code = code_stays;
+  text = λ marks section none other.
+      bare marks section (put_with marks section).beside none ∙ ap (λ (level : Option ℕ). placed_by (beside_at marks section.gutters level) section) other;
+  unmarked = λ marks section none unruled unsigned.
+      bare marks section (put_with marks section).beside none ∙ unmarked_at marks section (heading_level section.lines) unruled unsigned;
 }
 
 -- ---- whole pages

@@ -1,1 +1,2 @@
 pub mod DressLemmas
+pub mod MarkLemmas

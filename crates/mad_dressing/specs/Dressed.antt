@@ -1,5 +1,5 @@
 -- What stands in rows and isn't the text's own, put into the sections of a page.
-use Rattle.std.specs.Prelude.{ℕ, zero, suc, ◌+◌, min, nat_lt, if◌then◌else◌, List, [], ◌∷◌, ◌++◌, length, Option, Some, None, option_map}
+use Rattle.std.specs.Prelude.{ℕ, zero, suc, ◌+◌, min, nat_lt, if◌then◌else◌, Bool, List, [], ◌∷◌, ◌++◌, length, Option, Some, None, option_map}
 use Rattle.std.specs.List.{flat_map}
 use Rattle.mad_md.specs.Lines.{LineContent, normal, horizontal_rule}
 use Rattle.mad_md.specs.declared.composite.CompositeStyle.{CompositeStyle}
@@ -9,8 +9,10 @@ use Rattle.mad_sections.specs.declared.gutters.Gutter.{Gutter}
 use Rattle.mad_sections.specs.declared.gutters.Gutter.TheVariants.{Below, Signs}
 use Rattle.mad_dressing.specs.declared.heading_marks.HeadingMarks.{HeadingMarks}
 use Rattle.mad_dressing.specs.declared.dressings.Dressing.{Dressing}
-use Rattle.mad_dressing.specs.declared.dressings.Dressing.TheVariants as dressing
+use Rattle.mad_dressing.specs.declared.dressings.HeadingDressing.{HeadingDressing}
+use Rattle.mad_dressing.specs.declared.dressings.HeadingDressing.TheVariants as dressing
 use Rattle.mad_dressing.specs.declared.dressed_sections.Dressed.{Dressed}
+use Rattle.mad_dressing.specs.WordMarks.{worded}
 
 -- ---- headings
 
@@ -32,23 +34,28 @@ heading_level (line ∷ lines) = line_level line
 
 -- ---- what is put into a page
 
--- nothing, a rule below a section, behind these gutters, or signs in front of it, which are the last of these
-pub data Put : Type 0 where
-  nothing : Put
-  rule_below : List Gutter → Put
-  signs_before : List Gutter → Put
+-- what stands beside a heading: nothing, a rule below it, behind these gutters, or signs in front of it, which are the last of these
+pub data Beside : Type 0 where
+  nothing : Beside
+  rule_below : List Gutter → Beside
+  signs_before : List Gutter → Beside
 
--- what is put there with a section behind these gutters, if it is a heading of this level: the first levels have rules, others may have signs
-abbrev pub put_at : HeadingMarks → List Gutter → Option ℕ → Put
-put_at marks gutters None = nothing
-put_at marks gutters (Some level) =
+-- what is put there with a section: what stands beside it, if it is a heading, and whether marks stand at its words
+pub record Put : Type 0 where
+  pub beside : Beside
+  pub words : Bool
+
+-- what stands beside a section behind these gutters, if it is a heading of this level: the first levels have rules, others may have signs
+abbrev pub beside_at : HeadingMarks → List Gutter → Option ℕ → Beside
+beside_at marks gutters None = nothing
+beside_at marks gutters (Some level) =
     if nat_lt level marks.rules then rule_below (gutters ++ Below level ∷ [])
     else if marks.signs then signs_before (gutters ++ Signs level ∷ [])
     else nothing
 
 -- what is put there with a section
 abbrev pub put_with : HeadingMarks → SectionContent → Put
-put_with marks section = put_at marks section.gutters (heading_level section.lines)
+put_with marks section = record { beside = beside_at marks section.gutters (heading_level section.lines); words = marks.words }
 
 -- a section that is one rule, behind these gutters; none begins with it
 abbrev pub rule_behind : List Gutter → SectionContent
@@ -58,13 +65,17 @@ rule_behind gutters = record { gutters = gutters; fresh = 0; list = None; marks 
 abbrev pub signed : List Gutter → SectionContent → SectionContent
 signed gutters section = record { gutters = gutters; fresh = min section.fresh (length section.gutters) + 1; list = section.list; marks = section.marks; lines = section.lines }
 
+-- the sections that are shown in the place of one, with what stands beside it
+abbrev pub placed_by : Beside → SectionContent → List SectionContent
+placed_by nothing section = section ∷ []
+placed_by (rule_below gutters) section = section ∷ rule_behind gutters ∷ []
+placed_by (signs_before gutters) section = signed gutters section ∷ []
+
 -- the sections that are shown in the place of one, with what is put there
 abbrev pub dressed_by : Put → SectionContent → List SectionContent
-dressed_by nothing section = section ∷ []
-dressed_by (rule_below gutters) section = section ∷ rule_behind gutters ∷ []
-dressed_by (signs_before gutters) section = signed gutters section ∷ []
+dressed_by put section = placed_by put.beside (worded put.words section)
 
--- the sections that are shown in the place of one: a heading with the rule below it or the signs in front of it, all else as it is
+-- the sections that are shown in the place of one: a heading with the rule below it or the signs in front of it, and each with marks at its words, or as it is
 abbrev pub dressed : HeadingMarks → SectionContent → List SectionContent
 dressed marks section = dressed_by (put_with marks section) section
 
@@ -80,11 +91,15 @@ dressed_by_each (put ∷ puts) (section ∷ page) = dressed_by put section ++ dr
 
 -- ---- what values say
 
+-- what a value says that stands beside a heading
+abbrev pub beside_of : HeadingDressing → Beside
+beside_of dressing.Nothing = nothing
+beside_of (dressing.Rule gutters) = rule_below gutters.items
+beside_of (dressing.Signs gutters) = signs_before gutters.items
+
 -- what a dressing puts there
 abbrev pub put_of : Dressing → Put
-put_of dressing.Nothing = nothing
-put_of (dressing.Rule gutters) = rule_below gutters.items
-put_of (dressing.Signs gutters) = signs_before gutters.items
+put_of d = record { beside = beside_of d.beside; words = d.words }
 
 -- a section that may be there
 abbrev pub maybe_section : Option SectionContent → List SectionContent

@@ -1,2 +1,4 @@
 pub mod DressLaws
 pub mod Dressed
+pub mod WordFlags
+pub mod WordMarks

@@ -3,9 +3,10 @@
 ghost use Rattle.std.specs.Prelude.{◌≡◌, ◌∷◌, [], None, map, IfOk};
 ghost use Rattle.mad_md.specs.Lines.{contents, horizontal_rule};
 ghost use Rattle.mad_sections.specs.Sections.{section_content};
-ghost use Rattle.mad_dressing.specs.Dressed.{dressed_by, put_of, rule_behind, sections_dressed, signed};
+ghost use Rattle.mad_dressing.specs.Dressed.{beside_of, dressed_by, placed_by, put_of, rule_behind, sections_dressed, signed};
 
-use crate::dressings::Dressing;
+use crate::dressings::{Dressing, HeadingDressing};
+use crate::marked_sections::worded;
 use mad_md::{Line, Text};
 use mad_sections::{Gutter, Section};
 use std::alloc::{AllocError, Global};
@@ -13,13 +14,13 @@ use std::alloc::{AllocError, Global};
 /// A section with what is put into the page with it.
 #[derive(Debug, PartialEq, Drop)]
 pub struct Dressed<'s> {
-    /// The section; with signs behind one gutter more.
+    /// The section, with marks at its words or without; with signs behind one gutter more.
     pub section: Section<'s>,
     /// The rule below it, if it has one: a section of its own.
     pub rule: Option<Section<'s>>,
 }
 
-/// A section with what is put into the page with it. Its text is moved, and none of it changes.
+/// A section with what is put into the page with it. None of its text changes.
 ///
 /// # Errors
 ///
@@ -31,19 +32,31 @@ pub fn dress<'s>(
 ) -> Result<Dressed<'s>, AllocError>
     ensures { IfOk result (λ dressed. sections_dressed dressed ≡ dressed_by (put_of dressing.entry.now) (section_content section.entry)) }
 {
-    match dressing {
-        Dressing::Nothing => Ok(Dressed {
+    let own = worded(alloc, section, dressing.words)?;
+    placed(alloc, own, &dressing.beside)
+}
+
+// A section with what stands beside it.
+fn placed<'s>(
+    alloc: Global,
+    section: Section<'s>,
+    beside: &'s HeadingDressing,
+) -> Result<Dressed<'s>, AllocError>
+    ensures { IfOk result (λ dressed. sections_dressed dressed ≡ placed_by (beside_of beside.entry.now) (section_content section.entry)) }
+{
+    match beside {
+        HeadingDressing::Nothing => Ok(Dressed {
             section,
             rule: None,
         }),
-        Dressing::Rule(gutters) => {
+        HeadingDressing::Rule(gutters) => {
             let rule = rule_behind(alloc, gutters)?;
             Ok(Dressed {
                 section,
                 rule: Some(rule),
             })
         }
-        Dressing::Signs(gutters) => Ok(Dressed {
+        HeadingDressing::Signs(gutters) => Ok(Dressed {
             section: signed(section, gutters),
             rule: None,
         }),

@@ -3,7 +3,7 @@
 ghost use Rattle.std.specs.Prelude.{◌≡◌, ◌++◌, ◌∷◌, [], map, IfOk};
 ghost use Rattle.mad_md.specs.Lines.{content_of};
 ghost use Rattle.mad_sections.specs.Sections.{section_content};
-ghost use Rattle.mad_dressing.specs.Dressed.{header_level, heading_level, line_level, put_of, put_with};
+ghost use Rattle.mad_dressing.specs.Dressed.{beside_at, beside_of, header_level, heading_level, line_level, put_of, put_with};
 
 use crate::heading_marks::HeadingMarks;
 use mad_md::{CompositeStyle, Line};
@@ -12,12 +12,21 @@ use std::alloc::{AllocError, Global};
 
 /// What is put into a page with a section. It has the gutters of what is put there, so it has to last as long as they are drawn.
 #[derive(Debug, Drop)]
-pub enum Dressing {
+pub struct Dressing {
+    /// What stands beside it, if it is a heading.
+    pub beside: HeadingDressing,
+    /// Whether marks stand at its words.
+    pub words: bool,
+}
+
+/// What stands beside a heading.
+#[derive(Debug, Drop)]
+pub enum HeadingDressing {
     /// Nothing.
     Nothing,
-    /// A rule below the section, behind these gutters.
+    /// A rule below it, behind these gutters.
     Rule(Vec<Gutter>),
-    /// The signs of a heading in front of it: the last of these gutters.
+    /// The signs in front of it: the last of these gutters.
     Signs(Vec<Gutter>),
 }
 
@@ -33,17 +42,32 @@ pub fn dressing_of(
 ) -> Result<Dressing, AllocError>
     ensures { IfOk result (λ dressing. put_of dressing ≡ put_with marks (section_content section.now)) }
 {
+    let beside = beside_of(alloc, section, marks)?;
+    Ok(Dressing {
+        beside,
+        words: marks.words,
+    })
+}
+
+// What stands beside a section, if it is a heading.
+fn beside_of(
+    alloc: Global,
+    section: &Section,
+    marks: HeadingMarks,
+) -> Result<HeadingDressing, AllocError>
+    ensures { IfOk result (λ dressing. beside_of dressing ≡ beside_at marks section.now.gutters.now (heading_level (map content_of section.now.text.lines.items))) }
+{
     let Some(level) = heading_level(&section.text.lines) else {
-        return Ok(Dressing::Nothing);
+        return Ok(HeadingDressing::Nothing);
     };
     if level < marks.rules {
         let gutters = with_gutter(alloc, section.gutters, Gutter::Below(level))?;
-        Ok(Dressing::Rule(gutters))
+        Ok(HeadingDressing::Rule(gutters))
     } else if marks.signs {
         let gutters = with_gutter(alloc, section.gutters, Gutter::Signs(level))?;
-        Ok(Dressing::Signs(gutters))
+        Ok(HeadingDressing::Signs(gutters))
     } else {
-        Ok(Dressing::Nothing)
+        Ok(HeadingDressing::Nothing)
     }
 }
 

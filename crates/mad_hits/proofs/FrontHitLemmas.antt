@@ -10,6 +10,7 @@ use Rattle.mad_rows.specs.declared.row_skin.RowSkin.{RowSkin}
 use Rattle.mad_hits.specs.Drawn.{AreHitsShown, IsHitShown}
 use Rattle.mad_hits.specs.Hits.{Marked, marked_of}
 use Rattle.mad_hits.specs.declared.hits.Hit.{Hit}
+use Rattle.mad_hits.specs.declared.rooms.RowRoom.{RowRoom}
 use Rattle.mad_hits.proofs.DrawnHits.{hits_more}
 use Rattle.mad_sections.specs.declared.gutters.Gutter.{Gutter}
 use Rattle.mad_page_rows.specs.FaceLaws.{fronts}
@@ -29,26 +30,26 @@ range_more : (a n j : ℕ) → a + n ≡ j → range_with_len a (n + 1) ≡ rang
 range_more a n j e =
     sym (map-id (range_with_len a (n + 1))) ∙ (map-range_with_len_more (λ (k : ℕ). k) a n j e ∙ ap (λ (l : List ℕ). l ++ j ∷ []) (map-id (range_with_len a n)))
 
-rows_more : (skin : RowSkin) (style : CompoundStyle) (width : ℕ) (sought : List ℕ) (lines : List FmtLine) (fs : List Front) (starts : List ℕ) (y n : ℕ) (rows : List ℕ) (row : ℕ) (a b : List ℕ) → n ≡ y + length rows
-    → AreRowsMarked skin style width sought lines fs starts y rows a → IsRowMarked skin style width sought lines fs starts n row b → AreRowsMarked skin style width sought lines fs starts y (rows ++ row ∷ []) (a ++ b)
-rows_more skin style width sought lines fs starts y n [] row a b at none here =
+rows_more : (skin : RowSkin) (style : CompoundStyle) (room : RowRoom) (sought : List ℕ) (lines : List FmtLine) (fs : List Front) (starts : List ℕ) (y n : ℕ) (rows : List ℕ) (row : ℕ) (a b : List ℕ) → n ≡ y + length rows
+    → AreRowsMarked skin style room sought lines fs starts y rows a → IsRowMarked skin style room sought lines fs starts n row b → AreRowsMarked skin style room sought lines fs starts y (rows ++ row ∷ []) (a ++ b)
+rows_more skin style room sought lines fs starts y n [] row a b at none here =
     let same : n ≡ y = omega (arith, at) in
-    (b, [], ap (λ (l : List ℕ). l ++ b) none ∙ sym (append-nil b), subst (λ (k : ℕ). IsRowMarked skin style width sought lines fs starts k row b) same here, refl)
-rows_more skin style width sought lines fs starts y n (r ∷ rows) row a b at (first, others, are, marked, rest) here = (
+    (b, [], ap (λ (l : List ℕ). l ++ b) none ∙ sym (append-nil b), subst (λ (k : ℕ). IsRowMarked skin style room sought lines fs starts k row b) same here, refl)
+rows_more skin style room sought lines fs starts y n (r ∷ rows) row a b at (first, others, are, marked, rest) here = (
   first,
   others ++ b,
   ap (λ (s : List ℕ). s ++ b) are ∙ append_assoc first others b,
   marked,
-  rows_more skin style width sought lines fs starts (y + 1) n rows row others b (omega (arith, at)) rest here,
+  rows_more skin style room sought lines fs starts (y + 1) n rows row others b (omega (arith, at)) rest here,
 )
 
 -- a row more
-pub row_more : (skin : RowSkin) (style : CompoundStyle) (width : ℕ) (sought : List ℕ) (lines : List FmtLine) (fs : List Front) (starts : List ℕ) (top y row : ℕ) (a b : List ℕ) → row ≡ top + y
-    → AreRowsMarked skin style width sought lines fs starts 0 (range_with_len top y) a → IsRowMarked skin style width sought lines fs starts y row b → AreRowsMarked skin style width sought lines fs starts 0 (range_with_len top (y + 1)) (a ++ b)
-row_more skin style width sought lines fs starts top y row a b at so here =
+pub row_more : (skin : RowSkin) (style : CompoundStyle) (room : RowRoom) (sought : List ℕ) (lines : List FmtLine) (fs : List Front) (starts : List ℕ) (top y row : ℕ) (a b : List ℕ) → row ≡ top + y
+    → AreRowsMarked skin style room sought lines fs starts 0 (range_with_len top y) a → IsRowMarked skin style room sought lines fs starts y row b → AreRowsMarked skin style room sought lines fs starts 0 (range_with_len top (y + 1)) (a ++ b)
+row_more skin style room sought lines fs starts top y row a b at so here =
     let long : length (range_with_len top y) ≡ y = length-range_with_len top y in
-    subst (λ (rows : List ℕ). AreRowsMarked skin style width sought lines fs starts 0 rows (a ++ b)) (sym (range_more top y (top + y) refl))
-    (rows_more skin style width sought lines fs starts 0 y (range_with_len top y) (top + y) a b (omega (arith, long)) so (subst (λ (r : ℕ). IsRowMarked skin style width sought lines fs starts y r b) at here))
+    subst (λ (rows : List ℕ). AreRowsMarked skin style room sought lines fs starts 0 rows (a ++ b)) (sym (range_more top y (top + y) refl))
+    (rows_more skin style room sought lines fs starts 0 y (range_with_len top y) (top + y) a b (omega (arith, long)) so (subst (λ (r : ℕ). IsRowMarked skin style room sought lines fs starts y r b) at here))
 
 none_left : (i : ℕ) (gs : List Gutter) → length gs ≤ i → drop i gs ≡ []
 none_left zero [] h = refl

@@ -4,23 +4,27 @@ use Rattle.std.specs.Prelude.{chars, slice_get}
 use Rattle.std.specs.List.{AllByRecursion, flat_map}
 use Rattle.std.proofs.lemmas.List.{append-nil, drop-map, map-append, take-map}
 use Rattle.std.proofs.lemmas.Option.{same_Some}
+use Rattle.std.proofs.lemmas.List.Concat.{flat_map-append}
 use Rattle.mad_measure.proofs.AllLemmas.{all_joined}
 use Rattle.mad_style.specs.declared.compound_styles.CompoundStyle.{CompoundStyle}
 use Rattle.mad_style.specs.declared.styled_chars.StyledChar.{StyledChar}
 use Rattle.mad_screen.specs.Glyph.{Glyph}
 use Rattle.mad_screen.specs.Grid.{plain_pen}
+use Rattle.mad_screen.specs.Painting.{piece_cells}
 use Rattle.mad_draw.specs.PennedCells.{penned_cells}
 use Rattle.mad_draw.specs.Pieces.{AreShownPieces, IsShownPiece, RowPiece, penned_chars, pieces_columns, spaces}
 use Rattle.mad_marked_rows.specs.Told.{told_cell, told_cells}
-use Rattle.mad_page_rows.proofs.TonedLemmas.{row_told}
-use Rattle.mad_draw.proofs.PieceLemmas.{columns-both, spaces_columns}
+use Rattle.mad_page_rows.proofs.TonedLemmas.{row_told, toned_fills}
+use Rattle.mad_rows.specs.RowStyles.{tone_styles}
+use Rattle.mad_draw.proofs.CellLemmas.{cells_of_pieces}
+use Rattle.mad_draw.proofs.PieceLemmas.{columns-both, pieces_cells, shown_spaces, spaces_columns}
 use Rattle.mad_format.specs.declared.composite.FmtComposite.{FmtComposite}
 use Rattle.mad_format.specs.declared.line.FmtLine.{FmtLine}
 use Rattle.mad_format.specs.declared.line.FmtLine.TheVariants.{Normal, TableRow, TableRule, HorizontalRule}
 use Rattle.mad_rows.specs.Rows.{cell_pieces, composite_pieces, inner_columns, left_of_place, line_pieces, margins_of, right_of_place, row_columns, vertical_piece}
 use Rattle.mad_rows.specs.declared.row_skin.RowSkin.{RowSkin}
 use Rattle.mad_page_rows.specs.FaceLaws.{fronts}
-use Rattle.mad_page_rows.specs.Faces.{backs, faces, has_ascii_boxes, line_skin, page_row_pieces}
+use Rattle.mad_page_rows.specs.Faces.{backs, behind_pieces, blanks, faces, has_ascii_boxes, line_skin, page_row_pieces}
 use Rattle.mad_page_rows.proofs.FillLemmas.{faces_fill}
 use Rattle.mad_pages.specs.Fronts.{front_at, row_behind}
 use Rattle.mad_sections.specs.Gutters.{columns_of}
@@ -32,6 +36,7 @@ use Rattle.mad_hits.specs.Hits.{AreTextHits, AreTextsHits, Marked, marked_at, pl
 use Rattle.mad_hits.specs.Overs.{overs_above, overs_below}
 use Rattle.mad_hits.specs.FrontHits.{hit_behind}
 use Rattle.mad_hits.specs.Parts.{AreRowHits, line_parts, part_above, part_below}
+use Rattle.mad_hits.specs.Rooms.{in_room, room_columns}
 use Rattle.mad_hits.specs.Styled.{styled_text}
 use Rattle.mad_hits.proofs.StandLemmas.{amid, mark_stands, styled_stands}
 
@@ -214,22 +219,65 @@ all_styled : (style : CompoundStyle) (width : ℕ) (row : List RowPiece) (n : �
 all_styled style width row n [] h = tt
 all_styled style width row n (hit ∷ hits) h = (styled_stands style width row (further n hit) h.0, all_styled style width row n hits h.1)
 
+-- cells of pieces behind others, and what is told of them
+cells_both : (ps qs : List RowPiece) → AreShownPieces ps → AreShownPieces qs → penned_cells (penned_chars (ps ++ qs)) ≡ penned_cells (penned_chars ps) ++ penned_cells (penned_chars qs)
+cells_both ps qs p q =
+    cells_of_pieces (ps ++ qs) (all_joined IsShownPiece ps qs p q)
+    ∙ flat_map-append (λ (p : RowPiece). piece_cells p.style p.text) ps qs
+    ∙ ap (λ (gs : List Glyph). gs ++ pieces_cells qs) (sym (cells_of_pieces ps p))
+    ∙ ap (λ (gs : List Glyph). penned_cells (penned_chars ps) ++ gs) (sym (cells_of_pieces qs q))
+
+told_both : (ps qs : List RowPiece) → AreShownPieces ps → AreShownPieces qs → told_cells (λ pen. plain_pen) (ps ++ qs) ≡ told_cells (λ pen. plain_pen) ps ++ told_cells (λ pen. plain_pen) qs
+told_both ps qs p q = ap (map (told_cell (λ pen. plain_pen))) (cells_both ps qs p q) ∙ map-append (told_cell (λ pen. plain_pen)) (penned_cells (penned_chars ps)) (penned_cells (penned_chars qs))
+
+-- where the same is told of two rows, it is so between blanks
+told_amid : (a x y b : List RowPiece) → AreShownPieces a → AreShownPieces x → AreShownPieces y → AreShownPieces b → told_cells (λ pen. plain_pen) x ≡ told_cells (λ pen. plain_pen) y → told_cells (λ pen. plain_pen) (a ++ (x ++ b)) ≡ told_cells (λ pen. plain_pen) (a ++ (y ++ b))
+told_amid a x y b p q r t same =
+    told_both a (x ++ b) p (all_joined IsShownPiece x b q t)
+    ∙ ap (λ (gs : List Glyph). told_cells (λ pen. plain_pen) a ++ gs) (told_both x b q t ∙ ap (λ (gs : List Glyph). gs ++ told_cells (λ pen. plain_pen) b) same ∙ sym (told_both y b r t))
+    ∙ sym (told_both a (y ++ b) p (all_joined IsShownPiece y b r t))
+
+-- blanks before a row and behind it, and its sides
+sides_joined : (a f x b c : List RowPiece) → a ++ ((f ++ (x ++ b)) ++ c) ≡ (a ++ f) ++ (x ++ (b ++ c))
+sides_joined a f x b c =
+    ap (λ (ps : List RowPiece). a ++ ps) (append_assoc f (x ++ b) c ∙ ap (λ (ps : List RowPiece). f ++ ps) (append_assoc x b c)) ∙ sym (append_assoc a f (x ++ (b ++ c)))
+
 pub hits_change_no_character : HitsChangeNoCharacter
-hits_change_no_character skin style width sought lines front starts row hits line is narrow faces_shown counted shown h =
-    let inner : RowSkin = line_skin skin front.gutters in
+hits_change_no_character skin style room all sought lines front starts row hits line is narrow faces_shown counted shown h =
+    let width : ℕ = room_columns room in
+    let inner : RowSkin = line_skin skin front in
     let rest : ℕ = width - columns_of (has_ascii_boxes skin) front.gutters in
-    let f : List RowPiece = faces skin front.gutters front.fresh in
-    let b : List RowPiece = backs skin front.gutters in
-    let sides = faces_fill skin front.gutters front.fresh faces_shown counted.typed in
-    let told = row_told (λ pen. plain_pen) skin (Some width) true (row_behind front line) (λ v style. refl) shown in
-    let row_shown : AreShownPieces (f ++ (line_pieces inner (Some rest) true line ++ b)) = all_joined IsShownPiece f _ sides.front.shown (all_joined IsShownPiece _ b shown sides.back.shown) in
-    all_styled style width (page_row_pieces skin (Some width) true (row_behind front line)) (capped (fronts skin front.gutters)) hits
-    (stands_toned width (page_row_pieces skin (Some width) true (row_behind front line)) (f ++ (line_pieces inner (Some rest) true line ++ b)) told (map (further (capped (fronts skin front.gutters))) hits)
-    (amid_stand inner width rest (fronts skin front.gutters) sought lines starts row hits line f b is narrow sides.front.columns counted.counts row_shown h))
+    let gutters = front.gutters in
+    let before : List RowPiece = blanks skin room.left in
+    let behind : List RowPiece = blanks skin (all - room.end) in
+    let f : List RowPiece = faces skin gutters front.fresh in
+    let b : List RowPiece = backs skin gutters in
+    let plain : List RowPiece = line_pieces inner (Some rest) true line in
+    let toned : List RowPiece = behind_pieces skin (Some width) true (row_behind front line) in
+    let placed : List RowPiece = in_room skin room all (page_row_pieces skin (Some width) true (row_behind front line)) in
+    let bare : List RowPiece = (before ++ f) ++ (plain ++ (b ++ behind)) in
+    let sides = faces_fill skin gutters front.fresh faces_shown counted.typed in
+    let before_shown : AreShownPieces before = shown_spaces skin.paragraph.compound_style room.left in
+    let behind_shown : AreShownPieces behind = shown_spaces skin.paragraph.compound_style (all - room.end) in
+    let toned_shown : AreShownPieces toned =
+    (toned_fills (pieces_columns plain) front.marks (tone_styles skin) front.number inner (Some rest) true line (record { shown = shown; columns = refl })).shown in
+    let row_shown : AreShownPieces (f ++ (toned ++ b)) = all_joined IsShownPiece f _ sides.front.shown (all_joined IsShownPiece toned _ toned_shown sides.back.shown) in
+    let plain_shown : AreShownPieces (f ++ (plain ++ b)) = all_joined IsShownPiece f _ sides.front.shown (all_joined IsShownPiece plain _ shown sides.back.shown) in
+    let same : told_cells (λ pen. plain_pen) (f ++ (toned ++ b)) ≡ told_cells (λ pen. plain_pen) (f ++ (plain ++ b)) = row_told (λ pen. plain_pen) skin (Some width) true (row_behind front line) (λ v style. refl) shown in
+    let told : told_cells (λ pen. plain_pen) placed ≡ told_cells (λ pen. plain_pen) bare =
+    told_amid before (f ++ (toned ++ b)) (f ++ (plain ++ b)) behind before_shown row_shown plain_shown behind_shown same ∙ ap (told_cells (λ pen. plain_pen)) (sides_joined before f plain b behind) in
+    let front_shown : AreShownPieces (before ++ f) = all_joined IsShownPiece before f before_shown sides.front.shown in
+    let back_shown : AreShownPieces (b ++ behind) = all_joined IsShownPiece b behind sides.back.shown behind_shown in
+    let bare_shown : AreShownPieces bare = all_joined IsShownPiece (before ++ f) _ front_shown (all_joined IsShownPiece plain _ shown back_shown) in
+    let wide : pieces_columns (before ++ f) ≡ room.left + fronts skin gutters =
+    let both = columns-both before f in let blank = spaces_columns skin.paragraph.compound_style room.left in let own = sides.front.columns in omega (arith, both, blank, own) in
+    all_styled style room.end placed (capped (room.left + fronts skin gutters)) hits
+    (stands_toned room.end placed bare told (map (further (capped (room.left + fronts skin gutters))) hits)
+    (amid_stand inner room.end rest (room.left + fronts skin gutters) sought lines starts row hits line (before ++ f) (b ++ behind) is narrow wide counted.counts bare_shown h))
 
 pub drawn_hits_stand : DrawnHitsStand
-drawn_hits_stand skin style width sought lines fs starts y [] bytes narrow faces_shown marked = tt
-drawn_hits_stand skin style width sought lines fs starts y (row ∷ rows) bytes narrow faces_shown marked = (
-  λ line is counted shown. hits_change_no_character skin style width sought lines (front_at fs row) starts row marked.3.hits line is narrow faces_shown counted shown marked.3.are,
-  drawn_hits_stand skin style width sought lines fs starts (y + 1) rows marked.1 narrow faces_shown marked.4,
+drawn_hits_stand skin style room all sought lines fs starts y [] bytes narrow faces_shown marked = tt
+drawn_hits_stand skin style room all sought lines fs starts y (row ∷ rows) bytes narrow faces_shown marked = (
+  λ line is counted shown. hits_change_no_character skin style room all sought lines (front_at fs row) starts row marked.3.hits line is narrow faces_shown counted shown marked.3.are,
+  drawn_hits_stand skin style room all sought lines fs starts (y + 1) rows marked.1 narrow faces_shown marked.4,
 )

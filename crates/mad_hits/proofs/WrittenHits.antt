@@ -31,8 +31,10 @@ use Rattle.mad_hits.specs.Drawn.{AreHitsShown, IsHitShown, hit_area, hit_bytes, 
 use Rattle.mad_hits.specs.FrontHits.{AreHitsBehind, AreLineHits, IsRowMarked, WritesRowHits, WritesRowsHits, hit_behind, hits_behind}
 use Rattle.mad_hits.specs.Hits.{Marked, marked_of}
 use Rattle.mad_hits.specs.Parts.{AreRowHits}
+use Rattle.mad_hits.specs.Rooms.{room_columns}
 use Rattle.mad_hits.specs.Styled.{overlaid}
 use Rattle.mad_hits.specs.declared.hits.Hit.{Hit}
+use Rattle.mad_hits.specs.declared.rooms.RowRoom.{RowRoom}
 use Rattle.mad_hits.proofs.DrawnHits.{hit_drawn}
 use Rattle.mad_hits.proofs.TookLemmas.{took_exact, took_so}
 
@@ -113,96 +115,96 @@ none_written {T} done style front width y hits i old past = took_none old ∙ ap
 -- ---- rows
 
 -- the hits of a row that were found are those of its line behind its front
-line_hits : (skin : RowSkin) (width : ℕ) (sought : List ℕ) (lines : List FmtLine) (starts : List ℕ) (row : ℕ) (own : FrontContent) (rest : ℕ) (inner : RowSkin) (hits : List Marked)
-    → inner ≡ line_skin skin own.gutters → rest ≡ width - columns_of (has_ascii_boxes skin) own.gutters → AreRowHits inner rest sought lines starts row hits → AreLineHits skin width sought lines own starts row hits
-line_hits skin width sought lines starts row own rest inner hits inner_is rest_is are =
-    subst (λ (s : RowSkin). AreRowHits s (width - columns_of (has_ascii_boxes skin) own.gutters) sought lines starts row hits) inner_is (subst (λ (n : ℕ). AreRowHits inner n sought lines starts row hits) rest_is are)
+line_hits : (skin : RowSkin) (room : RowRoom) (sought : List ℕ) (lines : List FmtLine) (starts : List ℕ) (row : ℕ) (own : FrontContent) (rest : ℕ) (inner : RowSkin) (hits : List Marked)
+    → inner ≡ line_skin skin own → rest ≡ room_columns room - columns_of (has_ascii_boxes skin) own.gutters → AreRowHits inner rest sought lines starts row hits → AreLineHits skin room sought lines own starts row hits
+line_hits skin room sought lines starts row own rest inner hits inner_is rest_is are =
+    subst (λ (s : RowSkin). AreRowHits s (room_columns room - columns_of (has_ascii_boxes skin) own.gutters) sought lines starts row hits) inner_is (subst (λ (n : ℕ). AreRowHits inner n sought lines starts row hits) rest_is are)
 
 -- and they are drawn behind it
-hits_at : (skin : RowSkin) (style : CompoundStyle) (own : FrontContent) (front : ℕ) (hits given : List Hit) → front ≡ capped (fronts skin own.gutters) → given ≡ hits → placed style front given ≡ hits_behind skin style own (map marked_of hits)
-hits_at skin style own front hits given front_is same =
+hits_at : (skin : RowSkin) (style : CompoundStyle) (room : RowRoom) (own : FrontContent) (front : ℕ) (hits given : List Hit) → front ≡ capped (room.left + fronts skin own.gutters) → given ≡ hits → placed style front given ≡ hits_behind skin style room own (map marked_of hits)
+hits_at skin style room own front hits given front_is same =
     ap (λ (hs : List Hit). placed style front hs) same ∙ ap (λ (n : ℕ). placed style n hits) front_is
 
 -- the hits of a row were drawn, or that was refused
-pub row_written : {T : Type 0} (r : Result T Error) (skin : RowSkin) (style : CompoundStyle) (width : ℕ) (sought : List ℕ) (lines : List FmtLine) (fs : List Front) (starts : List ℕ) (y row : ℕ) (own : FrontContent) (hits given : List Hit) (front rest : ℕ) (inner : RowSkin) (old new : Trace)
-    → own ≡ front_at fs row → inner ≡ line_skin skin own.gutters → rest ≡ width - columns_of (has_ascii_boxes skin) own.gutters → front ≡ capped (fronts skin own.gutters) → given ≡ hits
-    → AreRowHits inner rest sought lines starts row (map marked_of hits) → Draws old (hits_bytes width y (placed style front given)) r new → WritesRowHits skin style width sought lines fs starts y row old r new
-row_written {T} r skin style width sought lines fs starts y row own hits given front rest inner old new own_is inner_is rest_is front_is same are h =
-    let found : AreLineHits skin width sought lines own starts row (map marked_of hits) = line_hits skin width sought lines starts row own rest inner (map marked_of hits) inner_is rest_is are in
-    let drawn : Draws old (hits_bytes width y (hits_behind skin style own (map marked_of hits))) r new =
-    subst (λ (ms : List Marked). Draws old (hits_bytes width y ms) r new) (hits_at skin style own front hits given front_is same) h in
+pub row_written : {T : Type 0} (r : Result T Error) (skin : RowSkin) (style : CompoundStyle) (room : RowRoom) (sought : List ℕ) (lines : List FmtLine) (fs : List Front) (starts : List ℕ) (y row : ℕ) (own : FrontContent) (hits given : List Hit) (front rest : ℕ) (inner : RowSkin) (old new : Trace)
+    → own ≡ front_at fs row → inner ≡ line_skin skin own → rest ≡ room_columns room - columns_of (has_ascii_boxes skin) own.gutters → front ≡ capped (room.left + fronts skin own.gutters) → given ≡ hits
+    → AreRowHits inner rest sought lines starts row (map marked_of hits) → Draws old (hits_bytes room.end y (placed style front given)) r new → WritesRowHits skin style room sought lines fs starts y row old r new
+row_written {T} r skin style room sought lines fs starts y row own hits given front rest inner old new own_is inner_is rest_is front_is same are h =
+    let found : AreLineHits skin room sought lines own starts row (map marked_of hits) = line_hits skin room sought lines starts row own rest inner (map marked_of hits) inner_is rest_is are in
+    let drawn : Draws old (hits_bytes room.end y (hits_behind skin style room own (map marked_of hits))) r new =
+    subst (λ (ms : List Marked). Draws old (hits_bytes room.end y ms) r new) (hits_at skin style room own front hits given front_is same) h in
     inl (
       map marked_of hits,
-      subst (λ (f : FrontContent). AreLineHits skin width sought lines f starts row (map marked_of hits)) own_is found,
-      subst (λ (f : FrontContent). Draws old (hits_bytes width y (hits_behind skin style f (map marked_of hits))) r new) own_is drawn,
+      subst (λ (f : FrontContent). AreLineHits skin room sought lines f starts row (map marked_of hits)) own_is found,
+      subst (λ (f : FrontContent). Draws old (hits_bytes room.end y (hits_behind skin style room f (map marked_of hits))) r new) own_is drawn,
     )
 
 -- the hits of a row that were drawn in its place mark the row
-row_marked : (skin : RowSkin) (style : CompoundStyle) (width : ℕ) (sought : List ℕ) (lines : List FmtLine) (fs : List Front) (starts : List ℕ) (y row : ℕ) (own : FrontContent) (hits given : List Hit) (front rest : ℕ) (inner : RowSkin) (old new : Trace)
-    → own ≡ front_at fs row → inner ≡ line_skin skin own.gutters → rest ≡ width - columns_of (has_ascii_boxes skin) own.gutters → front ≡ capped (fronts skin own.gutters) → given ≡ hits
-    → AreRowHits inner rest sought lines starts row (map marked_of hits) → new ≡ after old (hits_bytes width y (placed style front given)) → TookWith old new (AreHitsShown width y (placed style front given))
-    → TookWith old new (IsRowMarked skin style width sought lines fs starts y row)
-row_marked skin style width sought lines fs starts y row own hits given front rest inner old new own_is inner_is rest_is front_is same are taken shown =
-    let at : placed style front given ≡ hits_behind skin style own (map marked_of hits) = hits_at skin style own front hits given front_is same in
-    let found : AreLineHits skin width sought lines own starts row (map marked_of hits) = line_hits skin width sought lines starts row own rest inner (map marked_of hits) inner_is rest_is are in
-    let bytes : List ℕ = hits_bytes width y (placed style front given) in
-    took_so old new (λ text. (text ≡ bytes) × AreHitsShown width y (placed style front given) text) (IsRowMarked skin style width sought lines fs starts y row)
+row_marked : (skin : RowSkin) (style : CompoundStyle) (room : RowRoom) (sought : List ℕ) (lines : List FmtLine) (fs : List Front) (starts : List ℕ) (y row : ℕ) (own : FrontContent) (hits given : List Hit) (front rest : ℕ) (inner : RowSkin) (old new : Trace)
+    → own ≡ front_at fs row → inner ≡ line_skin skin own → rest ≡ room_columns room - columns_of (has_ascii_boxes skin) own.gutters → front ≡ capped (room.left + fronts skin own.gutters) → given ≡ hits
+    → AreRowHits inner rest sought lines starts row (map marked_of hits) → new ≡ after old (hits_bytes room.end y (placed style front given)) → TookWith old new (AreHitsShown room.end y (placed style front given))
+    → TookWith old new (IsRowMarked skin style room sought lines fs starts y row)
+row_marked skin style room sought lines fs starts y row own hits given front rest inner old new own_is inner_is rest_is front_is same are taken shown =
+    let at : placed style front given ≡ hits_behind skin style room own (map marked_of hits) = hits_at skin style room own front hits given front_is same in
+    let found : AreLineHits skin room sought lines own starts row (map marked_of hits) = line_hits skin room sought lines starts row own rest inner (map marked_of hits) inner_is rest_is are in
+    let bytes : List ℕ = hits_bytes room.end y (placed style front given) in
+    took_so old new (λ text. (text ≡ bytes) × AreHitsShown room.end y (placed style front given) text) (IsRowMarked skin style room sought lines fs starts y row)
     (λ text h.
-    subst (λ (f : FrontContent). AreHitsBehind skin style width sought lines f starts y row text) own_is (record {
+    subst (λ (f : FrontContent). AreHitsBehind skin style room sought lines f starts y row text) own_is (record {
       hits = map marked_of hits;
       are = found;
-      written = h.0 ∙ ap (hits_bytes width y) at;
-      shown = subst (λ (ms : List Marked). AreHitsShown width y ms text) at h.1;
+      written = h.0 ∙ ap (hits_bytes room.end y) at;
+      shown = subst (λ (ms : List Marked). AreHitsShown room.end y ms text) at h.1;
     }))
-    (took_exact old new bytes (AreHitsShown width y (placed style front given)) taken shown)
+    (took_exact old new bytes (AreHitsShown room.end y (placed style front given)) taken shown)
 
 -- the same of a call that drew them, or was refused
-pub row_shown : {T : Type 0} (r : Result T Error) (skin : RowSkin) (style : CompoundStyle) (width : ℕ) (sought : List ℕ) (lines : List FmtLine) (fs : List Front) (starts : List ℕ) (y row : ℕ) (own : FrontContent) (hits given : List Hit) (front rest : ℕ) (inner : RowSkin) (old new : Trace)
-    → own ≡ front_at fs row → inner ≡ line_skin skin own.gutters → rest ≡ width - columns_of (has_ascii_boxes skin) own.gutters → front ≡ capped (fronts skin own.gutters) → given ≡ hits
-    → AreRowHits inner rest sought lines starts row (map marked_of hits) → Draws old (hits_bytes width y (placed style front given)) r new → OnOk r (TookWith old new (AreHitsShown width y (placed style front given)))
-    → OnOk r (TookWith old new (IsRowMarked skin style width sought lines fs starts y row))
-row_shown {T} (Ok x) skin style width sought lines fs starts y row own hits given front rest inner old new own_is inner_is rest_is front_is same are taken shown =
-    row_marked skin style width sought lines fs starts y row own hits given front rest inner old new own_is inner_is rest_is front_is same are taken shown
-row_shown {T} (Err e) skin style width sought lines fs starts y row own hits given front rest inner old new own_is inner_is rest_is front_is same are taken shown = tt
+pub row_shown : {T : Type 0} (r : Result T Error) (skin : RowSkin) (style : CompoundStyle) (room : RowRoom) (sought : List ℕ) (lines : List FmtLine) (fs : List Front) (starts : List ℕ) (y row : ℕ) (own : FrontContent) (hits given : List Hit) (front rest : ℕ) (inner : RowSkin) (old new : Trace)
+    → own ≡ front_at fs row → inner ≡ line_skin skin own → rest ≡ room_columns room - columns_of (has_ascii_boxes skin) own.gutters → front ≡ capped (room.left + fronts skin own.gutters) → given ≡ hits
+    → AreRowHits inner rest sought lines starts row (map marked_of hits) → Draws old (hits_bytes room.end y (placed style front given)) r new → OnOk r (TookWith old new (AreHitsShown room.end y (placed style front given)))
+    → OnOk r (TookWith old new (IsRowMarked skin style room sought lines fs starts y row))
+row_shown {T} (Ok x) skin style room sought lines fs starts y row own hits given front rest inner old new own_is inner_is rest_is front_is same are taken shown =
+    row_marked skin style room sought lines fs starts y row own hits given front rest inner old new own_is inner_is rest_is front_is same are taken shown
+row_shown {T} (Err e) skin style room sought lines fs starts y row own hits given front rest inner old new own_is inner_is rest_is front_is same are taken shown = tt
 
 -- memory for them was refused
-pub row_unfound : {T : Type 0} (r : Result T Error) (skin : RowSkin) (style : CompoundStyle) (width : ℕ) (sought : List ℕ) (lines : List FmtLine) (fs : List Front) (starts : List ℕ) (y row : ℕ) (old : Trace) → IsErrAnd r (λ e. e ≡ Memory)
-    → WritesRowHits skin style width sought lines fs starts y row old r old
-row_unfound {T} r skin style width sought lines fs starts y row old refused =
+pub row_unfound : {T : Type 0} (r : Result T Error) (skin : RowSkin) (style : CompoundStyle) (room : RowRoom) (sought : List ℕ) (lines : List FmtLine) (fs : List Front) (starts : List ℕ) (y row : ℕ) (old : Trace) → IsErrAnd r (λ e. e ≡ Memory)
+    → WritesRowHits skin style room sought lines fs starts y row old r old
+row_unfound {T} r skin style room sought lines fs starts y row old refused =
     let p = err_from_is_err_and r refused in
     inr (p.1 ∙ ap Err p.2, refl)
 
 -- a row whose hits were drawn, before the others
-pub row_before : {T U : Type 0} (r : Result T Error) (done : U) (skin : RowSkin) (style : CompoundStyle) (width : ℕ) (sought : List ℕ) (lines : List FmtLine) (fs : List Front) (starts : List ℕ) (y row after_it n : ℕ) (old mid new : Trace) → after_it ≡ row + 1
-    → WritesRowHits {T = U} skin style width sought lines fs starts y row old (Ok done) mid → WritesRowsHits skin style width sought lines fs starts (y + 1) (range_with_len after_it n) mid r new
-    → WritesRowsHits skin style width sought lines fs starts y (range_with_len row (n + 1)) old r new
-row_before {T} {U} r done skin style width sought lines fs starts y row after_it n old mid new at (inl h) rest =
-    let next : WritesRowsHits skin style width sought lines fs starts (y + 1) (range_with_len (row + 1) n) mid r new =
-    subst (λ (m : ℕ). WritesRowsHits skin style width sought lines fs starts (y + 1) (range_with_len m n) mid r new) at rest in
-    subst (λ (m : ℕ). WritesRowsHits skin style width sought lines fs starts y (range_with_len row m) old r new) (let it : suc n ≡ n + 1 = omega arith in it)
-    (inl (h.0, h.1, subst (λ (t : Trace). WritesRowsHits skin style width sought lines fs starts (y + 1) (range_with_len (row + 1) n) t r new) h.2 next))
-row_before {T} {U} r done skin style width sought lines fs starts y row after_it n old mid new at (inr h) rest = absurd (cc)
+pub row_before : {T U : Type 0} (r : Result T Error) (done : U) (skin : RowSkin) (style : CompoundStyle) (room : RowRoom) (sought : List ℕ) (lines : List FmtLine) (fs : List Front) (starts : List ℕ) (y row after_it n : ℕ) (old mid new : Trace) → after_it ≡ row + 1
+    → WritesRowHits {T = U} skin style room sought lines fs starts y row old (Ok done) mid → WritesRowsHits skin style room sought lines fs starts (y + 1) (range_with_len after_it n) mid r new
+    → WritesRowsHits skin style room sought lines fs starts y (range_with_len row (n + 1)) old r new
+row_before {T} {U} r done skin style room sought lines fs starts y row after_it n old mid new at (inl h) rest =
+    let next : WritesRowsHits skin style room sought lines fs starts (y + 1) (range_with_len (row + 1) n) mid r new =
+    subst (λ (m : ℕ). WritesRowsHits skin style room sought lines fs starts (y + 1) (range_with_len m n) mid r new) at rest in
+    subst (λ (m : ℕ). WritesRowsHits skin style room sought lines fs starts y (range_with_len row m) old r new) (let it : suc n ≡ n + 1 = omega arith in it)
+    (inl (h.0, h.1, subst (λ (t : Trace). WritesRowsHits skin style room sought lines fs starts (y + 1) (range_with_len (row + 1) n) t r new) h.2 next))
+row_before {T} {U} r done skin style room sought lines fs starts y row after_it n old mid new at (inr h) rest = absurd (cc)
 
 -- a row that was refused ends the drawing
-pub row_refused : {T : Type 0} (r : Result T Error) (e : Error) (skin : RowSkin) (style : CompoundStyle) (width : ℕ) (sought : List ℕ) (lines : List FmtLine) (fs : List Front) (starts : List ℕ) (y row n : ℕ) (old new : Trace) → IsErrAnd r (λ d. d ≡ e)
-    → WritesRowHits {T = T} skin style width sought lines fs starts y row old (Err e) new → WritesRowsHits skin style width sought lines fs starts y (range_with_len row (n + 1)) old r new
-row_refused {T} r e skin style width sought lines fs starts y row n old new refused h =
+pub row_refused : {T : Type 0} (r : Result T Error) (e : Error) (skin : RowSkin) (style : CompoundStyle) (room : RowRoom) (sought : List ℕ) (lines : List FmtLine) (fs : List Front) (starts : List ℕ) (y row n : ℕ) (old new : Trace) → IsErrAnd r (λ d. d ≡ e)
+    → WritesRowHits {T = T} skin style room sought lines fs starts y row old (Err e) new → WritesRowsHits skin style room sought lines fs starts y (range_with_len row (n + 1)) old r new
+row_refused {T} r e skin style room sought lines fs starts y row n old new refused h =
     let p = err_from_is_err_and r refused in
     let d : r ≡ Err e = p.1 ∙ ap Err p.2 in
-    subst (λ (s : Result T Error). WritesRowsHits skin style width sought lines fs starts y (range_with_len row (n + 1)) old s new) (sym d)
-    (subst (λ (m : ℕ). WritesRowsHits {T = T} skin style width sought lines fs starts y (range_with_len row m) old (Err e) new) (let it : suc n ≡ n + 1 = omega arith in it) (inr (refl, h)))
+    subst (λ (s : Result T Error). WritesRowsHits skin style room sought lines fs starts y (range_with_len row (n + 1)) old s new) (sym d)
+    (subst (λ (m : ℕ). WritesRowsHits {T = T} skin style room sought lines fs starts y (range_with_len row m) old (Err e) new) (let it : suc n ≡ n + 1 = omega arith in it) (inr (refl, h)))
 
 -- all rows are to come
-pub rows_to_come : {T : Type 0} (r : Result T Error) (skin : RowSkin) (style : CompoundStyle) (width : ℕ) (sought : List ℕ) (lines : List FmtLine) (fs : List Front) (starts : List ℕ) (y top row n count : ℕ) (old new : Trace) → y ≡ 0 → row ≡ top + y → n + y ≡ count
-    → WritesRowsHits skin style width sought lines fs starts y (range_with_len row n) old r new → WritesRowsHits skin style width sought lines fs starts 0 (range_with_len top count) old r new
-rows_to_come {T} r skin style width sought lines fs starts y top row n count old new none at left h =
+pub rows_to_come : {T : Type 0} (r : Result T Error) (skin : RowSkin) (style : CompoundStyle) (room : RowRoom) (sought : List ℕ) (lines : List FmtLine) (fs : List Front) (starts : List ℕ) (y top row n count : ℕ) (old new : Trace) → y ≡ 0 → row ≡ top + y → n + y ≡ count
+    → WritesRowsHits skin style room sought lines fs starts y (range_with_len row n) old r new → WritesRowsHits skin style room sought lines fs starts 0 (range_with_len top count) old r new
+rows_to_come {T} r skin style room sought lines fs starts y top row n count old new none at left h =
     let first : row ≡ top = omega (arith, at, none) in
     let all : n ≡ count = omega (arith, left, none) in
-    subst (λ (m : ℕ). WritesRowsHits skin style width sought lines fs starts m (range_with_len top count) old r new) none
-    (subst (λ (m : ℕ). WritesRowsHits skin style width sought lines fs starts y (range_with_len m count) old r new) first
-    (subst (λ (m : ℕ). WritesRowsHits skin style width sought lines fs starts y (range_with_len row m) old r new) all h))
+    subst (λ (m : ℕ). WritesRowsHits skin style room sought lines fs starts m (range_with_len top count) old r new) none
+    (subst (λ (m : ℕ). WritesRowsHits skin style room sought lines fs starts y (range_with_len m count) old r new) first
+    (subst (λ (m : ℕ). WritesRowsHits skin style room sought lines fs starts y (range_with_len row m) old r new) all h))
 
 -- as many rows as are counted
-pub counted : {T : Type 0} (r : Result T Error) (skin : RowSkin) (style : CompoundStyle) (width : ℕ) (sought : List ℕ) (lines : List FmtLine) (fs : List Front) (starts : List ℕ) (y top count n : ℕ) (old new : Trace) → count ≡ n
-    → WritesRowsHits skin style width sought lines fs starts y (range_with_len top count) old r new → WritesRowsHits skin style width sought lines fs starts y (range_with_len top n) old r new
-counted {T} r skin style width sought lines fs starts y top count n old new is h = subst (λ (m : ℕ). WritesRowsHits skin style width sought lines fs starts y (range_with_len top m) old r new) is h
+pub counted : {T : Type 0} (r : Result T Error) (skin : RowSkin) (style : CompoundStyle) (room : RowRoom) (sought : List ℕ) (lines : List FmtLine) (fs : List Front) (starts : List ℕ) (y top count n : ℕ) (old new : Trace) → count ≡ n
+    → WritesRowsHits skin style room sought lines fs starts y (range_with_len top count) old r new → WritesRowsHits skin style room sought lines fs starts y (range_with_len top n) old r new
+counted {T} r skin style room sought lines fs starts y top count n old new is h = subst (λ (m : ℕ). WritesRowsHits skin style room sought lines fs starts y (range_with_len top m) old r new) is h

@@ -22,6 +22,8 @@ use Rattle.mad_page_rows.specs.ToneLaws.{without_marks}
 use Rattle.mad_page_rows.specs.Faces.{behind_pieces, line_skin, page_row_pieces}
 use Rattle.mad_pages.specs.Fronts.{FrontContent, front_at, row_behind}
 use Rattle.mad_pages.specs.declared.fronts.Front.{Front}
+use Rattle.mad_hits.specs.Rooms.{in_room, room_columns}
+use Rattle.mad_hits.specs.declared.rooms.RowRoom.{RowRoom}
 
 -- ---- cells
 
@@ -61,12 +63,12 @@ IsCounted skin line = Unit {0}
 -- what the columns of a row behind a front are counted by: its gutters are as their type promises, and so are the columns of its line
 pub record IsCountedRow (skin : RowSkin) (front : FrontContent) (line : FmtLine) : Type 0 where
   pub typed : AllByRecursion IsTypedGutter front.gutters
-  pub counts : IsCounted (line_skin skin front.gutters) line
+  pub counts : IsCounted (line_skin skin front) line
 
--- these hits of a line stand in its row of `width` columns behind a front, in this style of hits
-abbrev pub StandInRow : RowSkin → CompoundStyle → ℕ → FrontContent → FmtLine → List Marked → Type 0
-StandInRow skin style width front line hits =
-    AllByRecursion (StandsWithin width (page_row_pieces skin (Some width) true (row_behind front line))) (hits_behind skin style front hits)
+-- these hits of a line stand in its row behind a front, which is in a room of so many columns, in this style of hits
+abbrev pub StandInRow : RowSkin → CompoundStyle → RowRoom → ℕ → FrontContent → FmtLine → List Marked → Type 0
+StandInRow skin style room all front line hits =
+    AllByRecursion (StandsWithin room.end (in_room skin room all (page_row_pieces skin (Some (room_columns room)) true (row_behind front line)))) (hits_behind skin style room front hits)
 
 -- ---- laws
 
@@ -74,20 +76,20 @@ StandInRow skin style width front line hits =
 -- what is in front of its line. The row has as many columns as the hits were found for. Its line is shown, as it is without tones.
 abbrev pub HitsChangeNoCharacter : Type 0
 HitsChangeNoCharacter =
-    (skin : RowSkin) (style : CompoundStyle) (width : ℕ) (sought : List ℕ) (lines : List FmtLine) (front : FrontContent) (starts : List ℕ) (row : ℕ) (hits : List Marked) (line : FmtLine) → slice_get lines row ≡ Some line → width < 2 ^ 16
-    → AreFacesShown skin → IsCountedRow skin front line → AreShownPieces (behind_pieces skin (Some width) true (without_marks (row_behind front line)))
-    → AreLineHits skin width sought lines front starts row hits → StandInRow skin style width front line hits
+    (skin : RowSkin) (style : CompoundStyle) (room : RowRoom) (all : ℕ) (sought : List ℕ) (lines : List FmtLine) (front : FrontContent) (starts : List ℕ) (row : ℕ) (hits : List Marked) (line : FmtLine) → slice_get lines row ≡ Some line → room.end < 2 ^ 16
+    → AreFacesShown skin → IsCountedRow skin front line → AreShownPieces (behind_pieces skin (Some (room_columns room)) true (without_marks (row_behind front line)))
+    → AreLineHits skin room sought lines front starts row hits → StandInRow skin style room all front line hits
 
 -- each of the hits that these bytes show stands in its row
-abbrev pub RowsStand : (skin : RowSkin) (style : CompoundStyle) (width : ℕ) (sought : List ℕ) (lines : List FmtLine) (fs : List Front) (starts : List ℕ) (y : ℕ) (rows bytes : List ℕ) → AreRowsMarked skin style width sought lines fs starts y rows bytes → Type 0
-RowsStand skin style width sought lines fs starts y [] bytes marked = Unit {0}
-RowsStand skin style width sought lines fs starts y (row ∷ rows) bytes marked =
-    ((line : FmtLine) → slice_get lines row ≡ Some line → IsCountedRow skin (front_at fs row) line → AreShownPieces (behind_pieces skin (Some width) true (without_marks (row_behind (front_at fs row) line)))
-    → StandInRow skin style width (front_at fs row) line marked.3.hits)
-    × RowsStand skin style width sought lines fs starts (y + 1) rows marked.1 marked.4
+abbrev pub RowsStand : (skin : RowSkin) (style : CompoundStyle) (room : RowRoom) (all : ℕ) (sought : List ℕ) (lines : List FmtLine) (fs : List Front) (starts : List ℕ) (y : ℕ) (rows bytes : List ℕ) → AreRowsMarked skin style room sought lines fs starts y rows bytes → Type 0
+RowsStand skin style room all sought lines fs starts y [] bytes marked = Unit {0}
+RowsStand skin style room all sought lines fs starts y (row ∷ rows) bytes marked =
+    ((line : FmtLine) → slice_get lines row ≡ Some line → IsCountedRow skin (front_at fs row) line → AreShownPieces (behind_pieces skin (Some (room_columns room)) true (without_marks (row_behind (front_at fs row) line)))
+    → StandInRow skin style room all (front_at fs row) line marked.3.hits)
+    × RowsStand skin style room all sought lines fs starts (y + 1) rows marked.1 marked.4
 
 -- So it is with all hits that are drawn over rows.
 abbrev pub DrawnHitsStand : Type 0
 DrawnHitsStand =
-    (skin : RowSkin) (style : CompoundStyle) (width : ℕ) (sought : List ℕ) (lines : List FmtLine) (fs : List Front) (starts : List ℕ) (y : ℕ) (rows bytes : List ℕ) → width < 2 ^ 16 → AreFacesShown skin
-    → (marked : AreRowsMarked skin style width sought lines fs starts y rows bytes) → RowsStand skin style width sought lines fs starts y rows bytes marked
+    (skin : RowSkin) (style : CompoundStyle) (room : RowRoom) (all : ℕ) (sought : List ℕ) (lines : List FmtLine) (fs : List Front) (starts : List ℕ) (y : ℕ) (rows bytes : List ℕ) → room.end < 2 ^ 16 → AreFacesShown skin
+    → (marked : AreRowsMarked skin style room sought lines fs starts y rows bytes) → RowsStand skin style room all sought lines fs starts y rows bytes marked

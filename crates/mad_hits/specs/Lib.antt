@@ -7,4 +7,5 @@ pub mod Matches
 pub mod Overs
 pub mod Panes
 pub mod Parts
+pub mod Rooms
 pub mod Styled

@@ -1,7 +1,7 @@
 //! Hits, drawn over rows of a page that were drawn before: they begin behind the fronts' columns.
 
 ghost use Rattle.std.specs.List.{range_with_len};
-ghost use Rattle.std.specs.Prelude.{◌+◌, ◌-◌, ◌<◌, ◌^◌, OnOk, length, map, min};
+ghost use Rattle.std.specs.Prelude.{◌≡◌, ◌+◌, ◌-◌, ◌<◌, ◌^◌, OnOk, length, map, min};
 ghost use Rattle.mad_term.specs.Draws.{Draws};
 ghost use Rattle.mad_term.specs.Trace.{TookWith};
 ghost use Rattle.mad_style.specs.StyledChars.{char_style};
@@ -9,10 +9,13 @@ ghost use Rattle.mad_term.specs.Styles.{IsStyle};
 ghost use Rattle.mad_hits.specs.Drawn.{AreHitsShown, IsHitShown, hit_bytes, hits_bytes};
 ghost use Rattle.mad_hits.specs.FrontHits.{AreRowsMarked, IsRowMarked, WritesRowHits, WritesRowsHits, hit_behind};
 ghost use Rattle.mad_hits.specs.Hits.{marked_of};
+ghost use Rattle.mad_page_rows.specs.FaceLaws.{fronts};
+ghost use Rattle.mad_wrap.specs.WrapLines.{capped};
 
 use crate::columns::columns_in_front;
 use crate::hits::{Hit, columns_of};
 use crate::parts::row_hits;
+use crate::rooms::RowRoom;
 use crate::styled::overlaid_chars;
 use mad_draw::{Rows, draw_rows};
 use mad_format::FmtLine;
@@ -21,12 +24,13 @@ use mad_page_rows::columns_left;
 use mad_page_rows::faces::line_skin;
 use mad_pages::{Front, front_at};
 use mad_rows::RowSkin;
+use mad_sections::Gutter;
 use mad_style::{CompoundStyle, StyledChar};
 use mad_term::{Error, Out};
 use std::alloc::{AllocError, Global};
 
 /// Draws the hits of what is sought over rows of a page that were drawn in an area, those from the row `top` on, as many as its height. The page
-/// has `width` columns: those beside the scroll bar, if there is one. The style of a hit's characters is overwritten with `style`. Nothing is flushed.
+/// has the columns of its room. The style of a hit's characters is overwritten with `style`. Nothing is flushed.
 ///
 /// Parts of what is shown begin in the rows `starts`, as [`mad_pages::PagedPage`] tells. What is sought is in the lines alone; a hit begins behind what
 /// stands in front of its line. Of what goes over the break between two rows that come of one line of the text, each row has its part, also where the
@@ -44,19 +48,19 @@ pub fn draw_row_hits<O: Out>(
     fronts: &[Front],
     starts: &[usize],
     top: usize,
-    width: u16,
+    room: RowRoom,
     height: u16,
     sought: &str,
 ) -> Result<(), Error>
-    ensures writes { WritesRowsHits skin.now style width sought.now lines.now fronts.now starts.now 0 (range_with_len top (min height (length lines.now - top))) (O.seen out.old) result (O.seen out.new) }
-    ensures shown { OnOk result (TookWith (O.seen out.old) (O.seen out.new) (AreRowsMarked skin.now style width sought.now lines.now fronts.now starts.now 0 (range_with_len top (min height (length lines.now - top))))) }
+    ensures writes { WritesRowsHits skin.now style room sought.now lines.now fronts.now starts.now 0 (range_with_len top (min height (length lines.now - top))) (O.seen out.old) result (O.seen out.new) }
+    ensures shown { OnOk result (TookWith (O.seen out.old) (O.seen out.new) (AreRowsMarked skin.now style room sought.now lines.now fronts.now starts.now 0 (range_with_len top (min height (length lines.now - top))))) }
 {
     let count = usize::from(height).min(lines.len().saturating_sub(top));
     let mut y: u16 = 0;
     'rows: while usize::from(y) < count {
         let row = top + usize::from(y);
         draw_row(
-            alloc, out, skin, style, lines, fronts, starts, row, width, y, sought,
+            alloc, out, skin, style, lines, fronts, starts, row, room, y, sought,
         )?;
         y += 1;
     }
@@ -73,28 +77,36 @@ fn draw_row<O: Out>(
     fronts: &[Front],
     starts: &[usize],
     row: usize,
-    width: u16,
+    room: RowRoom,
     y: u16,
     sought: &str,
 ) -> Result<(), Error>
     requires low { y + 1 < 2 ^ 16 }
     requires within { row < length lines.now }
-    ensures writes { WritesRowHits skin.now style width sought.now lines.now fronts.now starts.now y row (O.seen out.old) result (O.seen out.new) }
-    ensures shown { OnOk result (TookWith (O.seen out.old) (O.seen out.new) (IsRowMarked skin.now style width sought.now lines.now fronts.now starts.now y row)) }
+    ensures writes { WritesRowHits skin.now style room sought.now lines.now fronts.now starts.now y row (O.seen out.old) result (O.seen out.new) }
+    ensures shown { OnOk result (TookWith (O.seen out.old) (O.seen out.new) (IsRowMarked skin.now style room sought.now lines.now fronts.now starts.now y row)) }
 {
-    let gutters = front_at(fronts, row).gutters;
-    let rest = columns_left(skin, gutters, usize::from(width));
+    let own = front_at(fronts, row);
+    let gutters = own.gutters;
+    let rest = columns_left(skin, gutters, usize::from(room.columns()));
     let hits = row_hits(
         alloc,
-        &line_skin(skin, gutters),
+        &line_skin(skin, own),
         lines,
         starts,
         row,
         rest,
         sought,
     )?;
-    let front = columns_in_front(skin, gutters);
-    draw_each(alloc, out, hits.as_slice(), style, front, width, y)
+    let front = columns_before(skin, room, gutters);
+    draw_each(alloc, out, hits.as_slice(), style, front, room.end, y)
+}
+
+// The columns before a row's line: those before its room, and those of its front.
+fn columns_before(skin: &RowSkin, room: RowRoom, gutters: &[Gutter]) -> usize
+    ensures { result ≡ capped (room.left + fronts skin.now gutters.now) }
+{
+    columns_in_front(skin, gutters).saturating_add(usize::from(room.left))
 }
 
 // Draws hits in their style, each where it is within the columns, behind so many.

@@ -1,7 +1,7 @@
 //! Rows of a page that is laid out as lines and fronts, on a screen, and what is sought, marked in them: it is drawn once more,
 //! in a style over that of its characters.
 //!
-//! 1. [`columns`]: the columns in front of a row's line. [`rows`], [`panes`]: rows in an area of the screen, beside a scroll bar.
+//! 1. [`columns`]: the columns in front of a row's line. [`rooms`]: those that rows have. [`rows`], [`panes`]: rows in an area of the screen, beside a scroll bar.
 //! 2. [`styled`]: the characters of a composite, each in its style.
 //! 3. [`matches`]: where what is sought begins among them.
 //! 4. [`places`]: where the texts of a row begin; [`hits`]: what is drawn of a line.
@@ -19,6 +19,7 @@ mod overs;
 mod panes;
 mod parts;
 mod places;
+mod rooms;
 mod rows;
 mod styled;
 
@@ -27,4 +28,5 @@ pub use drawing::draw_row_hits;
 pub use hits::{Hit, hits_in};
 pub use panes::{draw_page_rows, left_columns};
 pub use parts::row_hits;
+pub use rooms::RowRoom;
 pub use rows::FrontRows;

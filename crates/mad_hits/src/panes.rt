@@ -6,6 +6,7 @@ ghost use Rattle.mad_term.specs.Trace.{TookWith};
 ghost use Rattle.mad_draw.specs.BesideBar.{columns_beside};
 ghost use Rattle.mad_hits.specs.Panes.{ArePageRowsDrawn, page_rows_bytes};
 
+use crate::rooms::RowRoom;
 use crate::rows::FrontRows;
 use mad_draw::scroll_bars::{ScrollBar, columns_beside, draw_rows_beside};
 use mad_format::FmtLine;
@@ -15,8 +16,8 @@ use mad_rows::RowSkin;
 use mad_term::{Error, Out};
 use std::alloc::Global;
 
-/// Draws rows of a page in so many columns and rows from the screen's first on, beside a scroll bar, if there is one. The first row is `top`.
-/// Nothing is flushed.
+/// Draws rows of a page in so many columns and rows from the screen's first on, beside a scroll bar, if there is one. The first row is `top`. Each is
+/// in its room of the columns that the bar leaves, and all others are blank. Nothing is flushed.
 ///
 /// # Errors
 ///
@@ -29,16 +30,18 @@ pub fn draw_page_rows<O: Out>(
     lines: &[FmtLine],
     fronts: &[Front],
     top: usize,
+    room: RowRoom,
     width: u16,
     height: u16,
 ) -> Result<(), Error>
-    ensures writes { Draws (O.seen out.old) (page_rows_bytes skin.now bar lines.now fronts.now top width height) result (O.seen out.new) }
-    ensures shown { OnOk result (TookWith (O.seen out.old) (O.seen out.new) (ArePageRowsDrawn skin.now bar lines.now fronts.now top width height)) }
+    ensures writes { Draws (O.seen out.old) (page_rows_bytes skin.now bar lines.now fronts.now top room width height) result (O.seen out.new) }
+    ensures shown { OnOk result (TookWith (O.seen out.old) (O.seen out.new) (ArePageRowsDrawn skin.now bar lines.now fronts.now top room width height)) }
 {
     let rows = FrontRows {
         skin,
         lines: from_line(lines, top),
         fronts: from_front(fronts, top),
+        room,
         width: usize::from(left_columns(bar, width)),
     };
     let area = Area {

@@ -2,6 +2,7 @@
 use Rattle.std.specs.Prelude.{None}
 use Rattle.mad_style.specs.CompoundStyles.{unstyled}
 use Rattle.mad_style.specs.StyledChars.{shown_as}
+use Rattle.mad_rows.specs.RowStyles.{unstyled_titles}
 use Rattle.mad_rows.specs.declared.page_styles.PageStyles.{PageStyles}
 use Rattle.mad_rows.specs.declared.row_skin.RowSkin.{RowSkin}
 use Rattle.mad_layout.specs.declared.skin.MadSkin.{MadSkin}
@@ -22,7 +23,7 @@ page_styles skin =
       below_others = skin.horizontal_rule;
     }
 
--- all but its scroll bar; links have no style of their own, and code has no tones
+-- all but its scroll bar; links, heads of tables and titles of alerts have no style of their own, and code has no tones
 abbrev pub row_skin : MadSkin → RowSkin
 row_skin skin =
     record {
@@ -44,5 +45,7 @@ row_skin skin =
       list_items_indentation_mode = skin.list_items_indentation_mode;
       whole_words = skin.whole_words;
       page = page_styles skin;
+      head = unstyled;
+      titles = unstyled_titles;
       tones = None;
     }

@@ -11,7 +11,8 @@ use mad_format::{LineSkin, composite_columns};
 use mad_md::{Alignment, Compound, MAX_HEADER_DEPTH};
 pub use mad_rows::OrderedItemStyles;
 use mad_rows::{
-    FlagStyles, HeaderStyles, PageStyles, RowSkin, item_style_at, style_of_compound, style_of_kind,
+    FlagStyles, HeaderStyles, PageStyles, RowSkin, TitleStyles, item_style_at, style_of_compound,
+    style_of_kind,
 };
 use mad_style::{
     CompositeKind, CompoundStyle, LineStyle, ListItemsIndentationMode, MAX_ORDERED_LIST_DEPTH,
@@ -207,7 +208,8 @@ impl MadSkin {
         style_of_compound(line_style, added, &self.ellipsis, compound)
     }
 
-    /// What rows show of the skin: all but its scroll bar. Links look as the rest of their line, and so does all of code.
+    /// What rows show of the skin: all but its scroll bar. Links look as the rest of their line, and so does all of code. Heads of tables and titles of
+    /// alerts look as other bold text.
     pub fn row_skin(&self) -> RowSkin
         ensures { result ≡ row_skin self.now }
     {
@@ -230,6 +232,8 @@ impl MadSkin {
             list_items_indentation_mode: self.list_items_indentation_mode,
             whole_words: self.whole_words,
             page: self.page_styles(),
+            head: CompoundStyle::default(),
+            titles: TitleStyles::default(),
             tones: None,
         }
     }

@@ -1,2 +1,3 @@
 pub mod PageKeys
+pub mod PageLaws
 pub mod Pages

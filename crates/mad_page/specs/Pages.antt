@@ -4,10 +4,11 @@ use Rattle.std.specs.Str.{bytes_eq}
 use Rattle.mad_page.specs.declared.page.Files.{Files}
 use Rattle.mad_page.specs.declared.page.Page.{Page}
 
--- the files that a word names: the first in a row has a next one, the last one before it, and any other has both
+-- the files that a word names: the first in a row has a next one, the last one before it, and any other has both; a text alone has neither
 abbrev pub files_named : List ℕ → Option Files
 files_named word =
-    if bytes_eq word (codes "first") then Some (record { has_next = true; has_previous = false })
+    if bytes_eq word (codes "alone") then Some (record { has_next = false; has_previous = false })
+    else if bytes_eq word (codes "first") then Some (record { has_next = true; has_previous = false })
     else if bytes_eq word (codes "between") then Some (record { has_next = true; has_previous = true })
     else if bytes_eq word (codes "last") then Some (record { has_next = false; has_previous = true })
     else None
@@ -31,6 +32,18 @@ above p count = record p { top = p.top - count }
 -- this row of the text on top, or its last one
 abbrev pub at_row : Page → ℕ → Page
 at_row p row = record p { top = min row (p.height - 1) }
+
+-- so much of the text on the screen or above it that it is this per cent, and no row more; or the text's start
+abbrev pub at_percent : Page → ℕ → Page
+at_percent p count = record p { top = (min count 100 * p.height + 99) / 100 - body_rows p }
+
+-- the row of this number on top, counted from 1, or the text's last one; for 0 the first
+abbrev pub begun_at : ℕ → Page → Page
+begun_at number p = at_row p (number - 1)
+
+-- the number of the row on top, counted from 1; of a page past the text's last row it is that of this row
+abbrev pub row_number : Page → ℕ
+row_number p = min (p.top + 1) p.height
 
 -- this row of the text is on the screen
 abbrev pub shows_row : Page → ℕ → Bool

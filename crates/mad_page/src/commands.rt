@@ -1,7 +1,7 @@
 //! Which key says what.
 
 ghost use Rattle.std.specs.Prelude.{◌≡◌};
-ghost use Rattle.mad_page.specs.PageKeys.{char_ask, char_command, command_of, control_command, controlled_command, file_ask, is_break, named_file, plain_command};
+ghost use Rattle.mad_page.specs.PageKeys.{alt_command, char_ask, char_command, command_of, control_command, controlled_command, file_ask, is_break, named_file, plain_command};
 
 use crate::page::Files;
 use mad_term::{KeyCode, KeyEvent, KeyModifiers};
@@ -25,6 +25,8 @@ pub enum Motion {
     Start,
     /// To that row, or the text's end.
     End,
+    /// To the per cent of the text that was typed.
+    Percent,
 }
 
 /// What a key asks for, beside a scroll.
@@ -34,6 +36,8 @@ pub enum Ask {
     Nothing,
     /// To type what is to be sought.
     Search,
+    /// To type what is to be sought backwards.
+    SearchBack,
     /// The next row that has what is sought.
     Next,
     /// The row before that has it.
@@ -54,6 +58,10 @@ pub enum Ask {
     NextFile,
     /// The file before.
     PreviousFile,
+    /// The text as its file is now.
+    Reload,
+    /// An editor of the text.
+    Edit,
     /// The size of the screen.
     Size,
     /// The end.
@@ -69,6 +77,8 @@ pub enum Command {
     Counts(u8),
     /// A colon, after which a key names a file.
     Colon,
+    /// To tell where in the text the page is.
+    Tells,
     /// Something else, or nothing.
     Asks(Ask),
 }
@@ -81,11 +91,14 @@ pub enum Command {
 /// | space, PageDown, Control-F; `b`, PageUp, Control-B | a page |
 /// | `d`, Control-D; `u`, Control-U | half a page |
 /// | `g`, Home; `G`, End | the start, the end |
-/// | digits | a number |
+/// | digits; `%` | a number; to that per cent |
+/// | `=` | where in the text the page is |
 /// | `:` | the next key names a file: see [`file_ask`] |
-/// | `/`, `n`, `N`, Esc | a search, its next row, the one before; to forget it |
+/// | `/`, `?` | a search, one backwards |
+/// | `n`, `N`; Esc, Alt-U | its next row, the one before; to forget it |
 /// | `}` `]`; `{` `[`; `t` | the next header, the one before; the contents |
-/// | `?` `h`; `l` | help; the addresses of links |
+/// | `h`, F1; `l` | help; the addresses of links |
+/// | `R`; `v` | the text as its file is now; an editor of it |
 /// | Control-L; `q`, Control-C | the size; the end |
 ///
 /// Other keys, and these with other modifiers, say nothing.
@@ -96,6 +109,8 @@ pub fn command_of(key: KeyEvent) -> Command
         plain_command(key.code)
     } else if key.modifiers == KeyModifiers::CONTROL {
         controlled_command(key.code)
+    } else if key.modifiers == KeyModifiers::ALT {
+        alt_command(key.code)
     } else {
         Command::Asks(Ask::Nothing)
     }
@@ -146,6 +161,7 @@ fn plain_command(code: KeyCode) -> Command
         KeyCode::Home => Command::Moves(Motion::Start),
         KeyCode::End => Command::Moves(Motion::End),
         KeyCode::Esc => Command::Asks(Ask::Forget),
+        KeyCode::F(1) => Command::Asks(Ask::Help),
         KeyCode::Char(c) => char_command(c),
         _ => Command::Asks(Ask::Nothing),
     }
@@ -157,6 +173,16 @@ fn controlled_command(code: KeyCode) -> Command
 {
     match code {
         KeyCode::Char(c) => control_command(c),
+        _ => Command::Asks(Ask::Nothing),
+    }
+}
+
+// What a key says with Alt alone.
+fn alt_command(code: KeyCode) -> Command
+    ensures { result ≡ alt_command code }
+{
+    match code {
+        KeyCode::Char('u') => Command::Asks(Ask::Forget),
         _ => Command::Asks(Ask::Nothing),
     }
 }
@@ -174,8 +200,10 @@ fn char_command(c: char) -> Command
         'u' => Command::Moves(Motion::HalfUp),
         'g' => Command::Moves(Motion::Start),
         'G' => Command::Moves(Motion::End),
+        '%' => Command::Moves(Motion::Percent),
         '0'..='9' => Command::Counts(c as u8 - b'0'),
         ':' => Command::Colon,
+        '=' => Command::Tells,
         _ => Command::Asks(char_ask(c)),
     }
 }
@@ -186,13 +214,16 @@ fn char_ask(c: char) -> Ask
 {
     match c {
         '/' => Ask::Search,
+        '?' => Ask::SearchBack,
         'n' => Ask::Next,
         'N' => Ask::Previous,
         '}' | ']' => Ask::NextHeader,
         '{' | '[' => Ask::PreviousHeader,
-        '?' | 'h' => Ask::Help,
+        'h' => Ask::Help,
         'l' => Ask::Links,
         't' => Ask::Contents,
+        'R' => Ask::Reload,
+        'v' => Ask::Edit,
         'q' => Ask::Quit,
         _ => Ask::Nothing,
     }

@@ -12,11 +12,12 @@ const WHEEL_ROWS: usize = 3;
 
 impl Page {
     /// Does what a key says: it scrolls the page, or answers what it asks for. A number that was typed is for the next key alone, and so is a
-    /// colon.
+    /// colon. Up to the next key it is told where the page is.
     pub fn apply_key(&mut self, key: KeyEvent) -> Ask
         ensures turned { HasTurned (after_key key self.old) self.new result }
         ensures screen { IsSameScreen self.old self.new }
     {
+        self.tells = false;
         if self.has_colon {
             self.has_colon = false;
             return file_ask(self.files, key);
@@ -60,6 +61,11 @@ impl Page {
                 self.has_colon = true;
                 Ask::Nothing
             }
+            Command::Tells => {
+                self.count = 0;
+                self.tells = true;
+                Ask::Nothing
+            }
             Command::Asks(ask) => {
                 self.count = 0;
                 ask
@@ -80,6 +86,7 @@ impl Page {
             Motion::HalfDown => self.go_down(page / 2),
             Motion::HalfUp => self.go_up(page / 2),
             Motion::End if self.count == 0 => self.go_to_end(),
+            Motion::Percent => self.go_to_percent(self.count),
             Motion::Start | Motion::End => self.go_to_row(self.count.saturating_sub(1)),
         }
     }

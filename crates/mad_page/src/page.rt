@@ -1,7 +1,7 @@
 //! The screen, the text's rows and the one on top.
 
 ghost use Rattle.std.specs.Prelude.{◌≡◌};
-ghost use Rattle.mad_page.specs.Pages.{above, at_bar, at_end, at_row, below, body_rows, files_named, in_sight, is_on_bar, percent, shows_row};
+ghost use Rattle.mad_page.specs.Pages.{above, at_bar, at_end, at_percent, at_row, begun_at, below, body_rows, files_named, in_sight, is_on_bar, percent, row_number, shows_row};
 
 /// Which files there are beside that of the text.
 #[derive(Clone, Copy, Debug, PartialEq, Eq)]
@@ -19,12 +19,13 @@ impl Files {
         has_previous: false,
     };
 
-    /// Those that a word names: of several files in a row the first has a next one, the last one before it, and any other has both. None of
-    /// another word than `first`, `between` and `last`.
+    /// Those that a word names: of several files in a row the first has a next one, the last one before it, and any other has both; a text alone
+    /// has neither. None of another word than `alone`, `first`, `between` and `last`.
     pub fn named(word: &str) -> Option<Files>
         ensures { result ≡ files_named word.now }
     {
         match word {
+            "alone" => Some(Files::NONE),
             "first" => Some(Files {
                 has_next: true,
                 has_previous: false,
@@ -59,6 +60,8 @@ pub struct Page {
     pub holds_bar: bool,
     /// Whether a colon was typed, so that the next key names a file.
     pub has_colon: bool,
+    /// Whether it is to be told where in the text the page is, up to the next key.
+    pub tells: bool,
     /// Which files there are to name.
     pub files: Files,
 }
@@ -80,6 +83,20 @@ impl Page {
         }
         let reached = (self.top as u128 + u128::from(self.body_rows())).min(self.height as u128);
         (100 * reached / self.height as u128) as u64
+    }
+
+    /// The number of the row on top, counted from 1, or that of the text's last row, where the page is past it.
+    pub fn row_number(&self) -> usize
+        ensures { result ≡ row_number self.now }
+    {
+        self.top.saturating_add(1).min(self.height)
+    }
+
+    /// Puts the row of this number on top, counted from 1, or the text's last one; for 0 the first.
+    pub fn begin_at(&mut self, number: usize)
+        ensures { self.new ≡ begun_at number self.old }
+    {
+        self.go_to_row(number.saturating_sub(1));
     }
 
     /// Whether a row of the text is on the screen.
@@ -127,6 +144,14 @@ impl Page {
         ensures { self.new ≡ at_row self.old row }
     {
         self.top = row.min(self.height.saturating_sub(1));
+    }
+
+    // Scrolls so that this per cent of the text is on the screen or above it, rounded up, and no more.
+    pub(crate) fn go_to_percent(&mut self, percent: usize)
+        ensures { self.new ≡ at_percent self.old percent }
+    {
+        let reached = (percent.min(100) as u128 * self.height as u128 + 99) / 100;
+        self.top = (reached as usize).saturating_sub(usize::from(self.body_rows()));
     }
 
     // Whether a position of the screen is on the bar.

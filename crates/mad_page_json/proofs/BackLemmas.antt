@@ -24,15 +24,16 @@ use Rattle.mad_parse.specs.declared.tokens.StyleToken.{StyleToken}
 use Rattle.mad_dressing.specs.declared.heading_marks.HeadingMarks.{HeadingMarks}
 use Rattle.mad_layout.specs.declared.skin.MadSkin.{MadSkin}
 use Rattle.mad_page_skin.specs.declared.page_skin.PageSkin.{PageSkin}
+use Rattle.mad_page_skin.specs.declared.text_room.TextRoom.{TextRoom}
 use Rattle.mad_json.specs.Faults.{SkinFault, at_key, wrong_kind}
 use Rattle.mad_json.specs.ReadsBack.{ReadsBackChar, ReadsBackStyle}
 use Rattle.mad_json.specs.Texts.{and_next, of_text, value_said}
 use Rattle.mad_json.specs.Written.{char_data, style_data}
-use Rattle.mad_page_json.specs.Lookups.{at_fault, headings_under, part_found, parts_under, rules_found, signs_found}
+use Rattle.mad_page_json.specs.Lookups.{at_fault, choice_found, columns_found, headings_under, part_found, parts_under, room_under, rules_found}
 use Rattle.mad_page_json.specs.Named.{named_said}
 use Rattle.mad_page_json.specs.PageReading.{page_of, page_under}
 use Rattle.mad_page_json.specs.PageReadsBack.{PageReadsBack}
-use Rattle.mad_page_json.specs.PageWriting.{page_data, with_headings, with_parts}
+use Rattle.mad_page_json.specs.PageWriting.{first_members, page_data, with_parts}
 use Rattle.mad_page_json.specs.Parts.{char_parts, style_parts}
 use Rattle.mad_page_json.specs.declared.named.Named.{Named}
 
@@ -147,29 +148,54 @@ chars_said (named ∷ parts) reads written = (ap of_text (reads.0 written.0 42),
 
 -- ---- a page
 
+-- what is read of the last member behind those before
+abbrev words_after : Members → HeadingMarks → ℕ → Bool → Result HeadingMarks SkinFault
+words_after ms old r s = and_next (choice_found (codes "marks") (get_member (codes "marks") ms) old.words) (λ w. Ok (record { rules = r; signs = s; words = w }))
+
 headings_back : (ms : Members) (headings old : HeadingMarks) → headings.rules < 256 → get_member (codes "rules") ms ≡ Some (number (unsigned headings.rules)) → get_member (codes "signs") ms ≡ Some (boolean headings.signs)
-    → headings_under (object ms) old ≡ Ok headings
-headings_back ms headings old small rules signs =
+    → get_member (codes "marks") ms ≡ Some (boolean headings.words) → headings_under (object ms) old ≡ Ok headings
+headings_back ms headings old small rules signs words =
     let fits : nat_lt headings.rules 256 ≡ true = grind (arith, nat_tests, small) in
-    ap (λ (found : Option Data). and_next (rules_found found old.rules) (λ r. and_next (signs_found (get_member (codes "signs") ms) old.signs) (λ s. Ok (record { rules = r; signs = s })))) rules
-    ∙ ap (λ (t : Bool). and_next (if t then Ok headings.rules else Err (at_key (codes "rules") wrong_kind)) (λ r. and_next (signs_found (get_member (codes "signs") ms) old.signs) (λ s. Ok (record { rules = r; signs = s })))) fits
-    ∙ ap (λ (found : Option Data). and_next (signs_found found old.signs) (λ s. Ok (record { rules = headings.rules; signs = s }))) signs
+    ap (λ (found : Option Data). and_next (rules_found found old.rules) (λ r. and_next (choice_found (codes "signs") (get_member (codes "signs") ms) old.signs) (λ s. words_after ms old r s))) rules
+    ∙ ap (λ (t : Bool). and_next (if t then Ok headings.rules else Err (at_key (codes "rules") wrong_kind)) (λ r. and_next (choice_found (codes "signs") (get_member (codes "signs") ms) old.signs) (λ s. words_after ms old r s))) fits
+    ∙ ap (λ (found : Option Data). and_next (choice_found (codes "signs") found old.signs) (λ s. words_after ms old headings.rules s)) signs
+    ∙ ap (λ (found : Option Data). and_next (choice_found (codes "marks") found old.words) (λ w. Ok (record { rules = headings.rules; signs = headings.signs; words = w }))) words
+
+room_back : (ms : Members) (room old : TextRoom) → room.columns < 65536 → room.margin < 65536 → get_member (codes "columns") ms ≡ Some (number (unsigned room.columns)) → get_member (codes "margin") ms ≡ Some (number (unsigned room.margin))
+    → room_under (object ms) old ≡ Ok room
+room_back ms room old columns_small margin_small columns margin =
+    let columns_fit : nat_lt room.columns 65536 ≡ true = grind (arith, nat_tests, columns_small) in
+    let margin_fits : nat_lt room.margin 65536 ≡ true = grind (arith, nat_tests, margin_small) in
+    ap (λ (found : Option Data). and_next (columns_found (codes "columns") found old.columns) (λ c. and_next (columns_found (codes "margin") (get_member (codes "margin") ms) old.margin) (λ m. Ok (record { margin = m; columns = c })))) columns
+    ∙ ap (λ (t : Bool). and_next (if t then Ok room.columns else Err (at_key (codes "columns") wrong_kind)) (λ c. and_next (columns_found (codes "margin") (get_member (codes "margin") ms) old.margin) (λ m. Ok (record { margin = m; columns = c })))) columns_fit
+    ∙ ap (λ (found : Option Data). and_next (columns_found (codes "margin") found old.margin) (λ m. Ok (record { margin = m; columns = room.columns }))) margin
+    ∙ ap (λ (t : Bool). and_next (if t then Ok room.margin else Err (at_key (codes "margin") wrong_kind)) (λ m. Ok (record { margin = m; columns = room.columns }))) margin_fits
+
+-- what is found before the parts is found in the whole
+found_before : (skin : PageSkin) (key : List ℕ) → no_key key (style_parts skin) ≡ true → no_key key (char_parts skin) ≡ true
+    → get_member key (with_parts style_data (style_parts skin) (with_parts char_data (char_parts skin) (first_members skin))) ≡ get_member key (first_members skin)
+found_before skin key styles chars =
+    get_past style_data key (style_parts skin) (with_parts char_data (char_parts skin) (first_members skin)) styles ∙ get_past char_data key (char_parts skin) (first_members skin) chars
 
 -- a skin whose parts each read back is read from their object
 pub page_back : (skin : PageSkin) (d : Data) → d ≡ page_data skin → AllByRecursion (λ (named : List ℕ × CompoundStyle). ReadsBackStyle named.1) (style_parts skin) → AllByRecursion (λ (named : List ℕ × StyledChar). ReadsBackChar named.1) (char_parts skin)
     → PageReadsBack skin d
 page_back skin d is styles chars h old same =
-    let first : Members = with_headings skin.headings no_members in
+    let first : Members = first_members skin in
     let second : Members = with_parts char_data (char_parts skin) first in
     let ms : Members = with_parts style_data (style_parts skin) second in
-    let rules : get_member (codes "rules") ms ≡ Some (number (unsigned skin.headings.rules)) = get_past style_data (codes "rules") (style_parts skin) second refl ∙ get_past char_data (codes "rules") (char_parts skin) first refl in
-    let signs : get_member (codes "signs") ms ≡ Some (boolean skin.headings.signs) = get_past style_data (codes "signs") (style_parts skin) second refl ∙ get_past char_data (codes "signs") (char_parts skin) first refl in
+    let rules : get_member (codes "rules") ms ≡ Some (number (unsigned skin.headings.rules)) = found_before skin (codes "rules") refl refl in
+    let signs : get_member (codes "signs") ms ≡ Some (boolean skin.headings.signs) = found_before skin (codes "signs") refl refl in
+    let words : get_member (codes "marks") ms ≡ Some (boolean skin.headings.words) = found_before skin (codes "marks") refl refl in
+    let columns : get_member (codes "columns") ms ≡ Some (number (unsigned skin.room.columns)) = found_before skin (codes "columns") refl refl in
+    let margin : get_member (codes "margin") ms ≡ Some (number (unsigned skin.room.margin)) = found_before skin (codes "margin") refl refl in
     let drawn : AreThere char_data ms (char_parts skin) = all_kept style_data char_data (char_parts skin) (style_parts skin) second refl (all_there char_data (char_parts skin) first refl) in
     let styled : AreThere style_data ms (style_parts skin) = all_there style_data (style_parts skin) second refl in
     ap (page_under old) is
-    ∙ ap (λ r. and_next r (λ headings. and_next (parts_under (styled_char_of 42) (object ms) (char_parts old) []) (λ cs. and_next (parts_under style_of (object ms) (style_parts old) []) (λ ss. Ok (page_of old headings cs ss))))) (headings_back ms skin.headings old.headings h.rules rules signs)
-    ∙ ap (λ r. and_next r (λ cs. and_next (parts_under style_of (object ms) (style_parts old) []) (λ ss. Ok (page_of old skin.headings cs ss)))) (parts_back (styled_char_of 42) char_data ms (char_parts old) (char_parts skin) [] refl (chars_said (char_parts skin) chars h.chars) drawn)
-    ∙ ap (λ r. and_next r (λ ss. Ok (page_of old skin.headings (map (λ (named : List ℕ × StyledChar). named.1) (char_parts skin)) ss))) (parts_back style_of style_data ms (style_parts old) (style_parts skin) [] refl (styles_said (style_parts skin) styles h.styles) styled)
+    ∙ ap (λ r. and_next r (λ headings. and_next (room_under (object ms) old.room) (λ room. and_next (parts_under (styled_char_of 42) (object ms) (char_parts old) []) (λ cs. and_next (parts_under style_of (object ms) (style_parts old) []) (λ ss. Ok (page_of old headings room cs ss)))))) (headings_back ms skin.headings old.headings h.rules rules signs words)
+    ∙ ap (λ r. and_next r (λ room. and_next (parts_under (styled_char_of 42) (object ms) (char_parts old) []) (λ cs. and_next (parts_under style_of (object ms) (style_parts old) []) (λ ss. Ok (page_of old skin.headings room cs ss))))) (room_back ms skin.room old.room h.columns h.margin columns margin)
+    ∙ ap (λ r. and_next r (λ cs. and_next (parts_under style_of (object ms) (style_parts old) []) (λ ss. Ok (page_of old skin.headings skin.room cs ss)))) (parts_back (styled_char_of 42) char_data ms (char_parts old) (char_parts skin) [] refl (chars_said (char_parts skin) chars h.chars) drawn)
+    ∙ ap (λ r. and_next r (λ ss. Ok (page_of old skin.headings skin.room (map (λ (named : List ℕ × StyledChar). named.1) (char_parts skin)) ss))) (parts_back style_of style_data ms (style_parts old) (style_parts skin) [] refl (styles_said (style_parts skin) styles h.styles) styled)
     ∙ ap (λ (text : MadSkin). Ok (record skin { text = text })) same
 
 -- ---- what was written

@@ -21,7 +21,7 @@ use Rattle.mad_json.specs.Written.{char_data, skin_data, style_data, with_additi
 use Rattle.mad_json.specs.declared.fields.Field.{Field}
 use Rattle.mad_page_json.specs.PageReading.{is_page_key, page_beside, page_skin_read, unknown_in}
 use Rattle.mad_page_json.specs.PageReadsBack.{PageReadsBack, PageSkinReadsBack}
-use Rattle.mad_page_json.specs.PageWriting.{page_data, with_headings, with_page, with_parts}
+use Rattle.mad_page_json.specs.PageWriting.{first_members, page_data, with_page, with_parts}
 use Rattle.mad_page_json.specs.Parts.{char_parts, style_parts}
 use Rattle.mad_page_json.proofs.BackLemmas.{both_true, get_same}
 
@@ -154,7 +154,7 @@ parts_flat shown [] ms flat h = h
 parts_flat shown (named ∷ parts) ms flat h = parts_flat shown parts (put named.0 (shown named.1) ms) flat (flat_put named.0 (shown named.1) ms (flat named.1) h)
 
 page_flat : (skin : PageSkin) → has_float (page_data skin) ≡ false
-page_flat skin = parts_flat style_data (style_parts skin) (with_parts char_data (char_parts skin) (with_headings skin.headings no_members)) (λ style. refl) (parts_flat char_data (char_parts skin) (with_headings skin.headings no_members) (λ drawn. refl) refl)
+page_flat skin = parts_flat style_data (style_parts skin) (with_parts char_data (char_parts skin) (first_members skin)) (λ style. refl) (parts_flat char_data (char_parts skin) (first_members skin) (λ drawn. refl) refl)
 
 -- ---- no key of a page is unknown
 
@@ -182,8 +182,8 @@ unknown_parts skin shown (named ∷ parts) ms known h =
     let both = both_true (is_page_key skin named.0) (are_page_keys skin parts) known in
     unknown_parts skin shown parts (put named.0 (shown named.1) ms) both.1 (unknown_put skin named.0 (shown named.1) ms both.0 h)
 
-none_unknown : (skin : PageSkin) → unknown_in skin (with_parts style_data (style_parts skin) (with_parts char_data (char_parts skin) (with_headings skin.headings no_members))) ≡ []
-none_unknown skin = unknown_parts skin style_data (style_parts skin) (with_parts char_data (char_parts skin) (with_headings skin.headings no_members)) refl (unknown_parts skin char_data (char_parts skin) (with_headings skin.headings no_members) refl refl)
+none_unknown : (skin : PageSkin) → unknown_in skin (with_parts style_data (style_parts skin) (with_parts char_data (char_parts skin) (first_members skin))) ≡ []
+none_unknown skin = unknown_parts skin style_data (style_parts skin) (with_parts char_data (char_parts skin) (first_members skin)) refl (unknown_parts skin char_data (char_parts skin) (first_members skin) refl refl)
 
 -- ---- the whole
 
@@ -192,7 +192,7 @@ pub whole_back : (skin : PageSkin) (text d : Data) (name : Option (List ℕ)) �
 whole_back skin text d name is reads d_is page_reads text_back page_back =
     let ms : Members = with_borders name (with_items skin.text (with_lines skin.text (with_chars skin.text (with_additions skin.text no_members)))) in
     let p : Data = page_data skin in
-    let pages : Members = with_parts style_data (style_parts skin) (with_parts char_data (char_parts skin) (with_headings skin.headings no_members)) in
+    let pages : Members = with_parts style_data (style_parts skin) (with_parts char_data (char_parts skin) (first_members skin)) in
     let known : all_known ms ≡ true = text_known skin.text name in
     let read : skin_and_unknown (members_read ms nothing_found) ≡ Ok (skin.text, []) = sym (ap skin_read is) ∙ reads text_back in
     let more : skin_and_unknown (members_read (put (codes "page") p ms) nothing_found) ≡ Ok (skin.text, codes "page" ∷ []) = ap skin_and_unknown (page_more p ms nothing_found (page_flat skin) known) ∙ read_more (members_read ms nothing_found) skin.text (codes "page" ∷ []) read in

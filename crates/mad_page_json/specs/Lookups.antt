@@ -5,6 +5,7 @@ use Rattle.serde_json.specs.Data.{Data}
 use Rattle.serde_json.specs.Find.{as_bool, as_number, as_u64, get}
 use Rattle.mad_parse.specs.declared.tokens.StyleToken.{StyleToken}
 use Rattle.mad_dressing.specs.declared.heading_marks.HeadingMarks.{HeadingMarks}
+use Rattle.mad_page_skin.specs.declared.text_room.TextRoom.{TextRoom}
 use Rattle.mad_json.specs.Faults.{SkinFault, ValueFault, at_key, wrong_kind}
 use Rattle.mad_json.specs.declared.errors.SkinError.{SkinError}
 use Rattle.mad_json.specs.declared.errors.SkinError.TheVariants.{WrongType, Memory}
@@ -44,16 +45,34 @@ abbrev pub rules_found : Option Data → ℕ → Result ℕ SkinFault
 rules_found None old = Ok old
 rules_found (Some d) old = rule_count (option_and_then as_u64 (as_number d))
 
--- true or false, if a value says it
-abbrev pub sign_choice : Option Bool → Result Bool SkinFault
-sign_choice None = Err (at_key (codes "signs") wrong_kind)
-sign_choice (Some b) = Ok b
+-- true or false, if the value of this key says it
+abbrev pub choice : List ℕ → Option Bool → Result Bool SkinFault
+choice key None = Err (at_key key wrong_kind)
+choice key (Some b) = Ok b
 
--- whether other headings have signs, as a member says it, or as it was
-abbrev pub signs_found : Option Data → Bool → Result Bool SkinFault
-signs_found None old = Ok old
-signs_found (Some d) old = sign_choice (as_bool d)
+-- the same, as a member of this key says it, or as it was
+abbrev pub choice_found : List ℕ → Option Data → Bool → Result Bool SkinFault
+choice_found key None old = Ok old
+choice_found key (Some d) old = choice key (as_bool d)
 
--- which headings have rules and signs, as an object says it
+-- which headings have rules and signs, and whether marks stand at words, as an object says it
 abbrev pub headings_under : Data → HeadingMarks → Result HeadingMarks SkinFault
-headings_under d old = and_next (rules_found (get (codes "rules") d) old.rules) (λ rules. and_next (signs_found (get (codes "signs") d) old.signs) (λ signs. Ok (record { rules = rules; signs = signs })))
+headings_under d old =
+    and_next (rules_found (get (codes "rules") d) old.rules) (λ rules.
+    and_next (choice_found (codes "signs") (get (codes "signs") d) old.signs) (λ signs.
+    and_next (choice_found (codes "marks") (get (codes "marks") d) old.words) (λ words. Ok (record { rules = rules; signs = signs; words = words }))))
+
+-- a count of columns under this key, if a number says it that is below 65,536
+abbrev pub column_count : List ℕ → Option ℕ → Result ℕ SkinFault
+column_count key None = Err (at_key key wrong_kind)
+column_count key (Some n) = if nat_lt n 65536 then Ok n else Err (at_key key wrong_kind)
+
+-- the columns that a member of this key says, or as they were
+abbrev pub columns_found : List ℕ → Option Data → ℕ → Result ℕ SkinFault
+columns_found key None old = Ok old
+columns_found key (Some d) old = column_count key (option_and_then as_u64 (as_number d))
+
+-- the columns that a pager gives the text, as an object says it
+abbrev pub room_under : Data → TextRoom → Result TextRoom SkinFault
+room_under d old =
+    and_next (columns_found (codes "columns") (get (codes "columns") d) old.columns) (λ columns. and_next (columns_found (codes "margin") (get (codes "margin") d) old.margin) (λ margin. Ok (record { margin = margin; columns = columns })))

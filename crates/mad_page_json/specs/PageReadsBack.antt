@@ -10,11 +10,13 @@ use Rattle.mad_json.specs.ReadsBack.{IsReadBackSkin}
 use Rattle.mad_page_json.specs.PageReading.{page_skin_read, page_under}
 use Rattle.mad_page_json.specs.Parts.{char_parts, style_parts}
 
--- a skin whose styles and characters read back; the number of levels with rules is a byte
+-- a skin whose styles and characters read back; the number of levels with rules is a byte, and columns have 16 bits
 pub record IsReadBackPage (skin : PageSkin) : Type 0 where
   pub styles : AllByRecursion (λ (named : List ℕ × CompoundStyle). IsReadBackStyle named.1) (style_parts skin)
   pub chars : AllByRecursion (λ (named : List ℕ × StyledChar). IsReadBackChar named.1) (char_parts skin)
   pub rules : skin.headings.rules < 256
+  pub columns : skin.room.columns < 65536
+  pub margin : skin.room.margin < 65536
 
 -- such a skin is read of that value, from any skin of the same text
 abbrev pub PageReadsBack : PageSkin → Data → Type 0

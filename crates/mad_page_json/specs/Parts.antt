@@ -4,7 +4,7 @@ use Rattle.mad_style.specs.declared.compound_styles.CompoundStyle.{CompoundStyle
 use Rattle.mad_style.specs.declared.styled_chars.StyledChar.{StyledChar}
 use Rattle.mad_page_skin.specs.declared.page_skin.PageSkin.{PageSkin}
 use Rattle.mad_page_skin.specs.declared.part_styles.CodeStyles.{CodeStyles}
-use Rattle.mad_page_skin.specs.declared.part_styles.TitleStyles.{TitleStyles}
+use Rattle.mad_rows.specs.declared.page_styles.TitleStyles.{TitleStyles}
 
 -- the parts that are styles alone
 abbrev pub style_parts : PageSkin → List (List ℕ × CompoundStyle)

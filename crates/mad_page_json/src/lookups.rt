@@ -3,7 +3,7 @@
 ghost use Rattle.std.specs.Prelude.{◌≡◌, ◌++◌, ◌∷◌, OnOk, [], Result, Ok, IfOk, IfErr, map, option_map};
 ghost use Rattle.serde_json.specs.View.{view};
 ghost use Rattle.mad_json.specs.Faults.{TellsSkin, TellsValue, ValueFault};
-ghost use Rattle.mad_page_json.specs.Lookups.{IsWrongType, at_fault, headings_under, part_under, parts_under, rule_count, rules_found, sign_choice, signs_found};
+ghost use Rattle.mad_page_json.specs.Lookups.{IsWrongType, at_fault, choice, choice_found, column_count, columns_found, headings_under, part_under, parts_under, room_under, rule_count, rules_found};
 ghost use Rattle.mad_page_json.specs.Named.{named_said};
 
 use crate::named::Named;
@@ -11,6 +11,7 @@ use mad_dressing::HeadingMarks;
 use mad_json::SkinError;
 use mad_json::errors::ValueError;
 use mad_json::texts::{FromTokens, read_style};
+use mad_page_skin::TextRoom;
 use serde_json::Value;
 use std::alloc::{AllocError, Global};
 
@@ -71,7 +72,8 @@ fn error_at<S>(alloc: Global, key: &str, error: ValueError) -> SkinError
     }
 }
 
-/// Which headings have rules and signs, as an object says it: `rules` is a number below 256, `signs` is true or false.
+/// Which headings have rules and signs, and whether marks stand at words, as an object says it: `rules` is a number below 256, `signs` and `marks`
+/// are true or false.
 ///
 /// # Errors
 ///
@@ -85,8 +87,13 @@ pub fn read_headings(
     ensures err { IfErr result (λ e. TellsSkin e (headings_under (view value.now) old)) }
 {
     let rules = rules_of(alloc, value.get("rules"), old.rules)?;
-    let signs = signs_of(alloc, value.get("signs"), old.signs)?;
-    Ok(HeadingMarks { rules, signs })
+    let signs = choice_of(alloc, "signs", value.get("signs"), old.signs)?;
+    let words = choice_of(alloc, "marks", value.get("marks"), old.words)?;
+    Ok(HeadingMarks {
+        rules,
+        signs,
+        words,
+    })
 }
 
 // How many levels of headings have rules.
@@ -115,26 +122,66 @@ fn rule_count(alloc: Global, count: Option<u64>) -> Result<u8, SkinError>
     }
 }
 
-// Whether other headings have signs.
-fn signs_of(alloc: Global, found: Option<&Value>, old: bool) -> Result<bool, SkinError>
-    ensures ok { IfOk result (λ signs. signs_found (option_map (λ value. view value.now) found.entry) old ≡ Ok signs) }
-    ensures err { IfErr result (λ e. TellsSkin e (signs_found (option_map (λ value. view value.now) found.entry) old)) }
+// True or false, as the member of this key says it, or as it was.
+fn choice_of(alloc: Global, key: &str, found: Option<&Value>, old: bool) -> Result<bool, SkinError>
+    ensures ok { IfOk result (λ chosen. choice_found key.now (option_map (λ value. view value.now) found.entry) old ≡ Ok chosen) }
+    ensures err { IfErr result (λ e. TellsSkin e (choice_found key.now (option_map (λ value. view value.now) found.entry) old)) }
 {
     match found {
-        Some(value) => sign_choice(alloc, value.as_bool()),
+        Some(value) => choice(alloc, key, value.as_bool()),
         None => Ok(old),
     }
 }
 
-// True or false, if a value says it.
-fn sign_choice(alloc: Global, choice: Option<bool>) -> Result<bool, SkinError>
-    ensures ok { IfOk result (λ signs. sign_choice choice ≡ Ok signs) }
-    ensures err { IfErr result (λ e. TellsSkin e (sign_choice choice)) }
+// True or false, if the value of this key says it.
+fn choice(alloc: Global, key: &str, said: Option<bool>) -> Result<bool, SkinError>
+    ensures ok { IfOk result (λ chosen. choice key.now said ≡ Ok chosen) }
+    ensures err { IfErr result (λ e. TellsSkin e (choice key.now said)) }
 {
-    let Some(signs) = choice else {
-        return Err(wrong_type(alloc, "signs"));
+    let Some(chosen) = said else {
+        return Err(wrong_type(alloc, key));
     };
-    Ok(signs)
+    Ok(chosen)
+}
+
+/// The columns that a pager gives the text, as an object says it: `margin` and `columns` are numbers below 65,536.
+///
+/// # Errors
+///
+/// The first fault, or out of memory.
+pub fn read_room(alloc: Global, value: &Value, old: TextRoom) -> Result<TextRoom, SkinError>
+    ensures ok { IfOk result (λ read. room_under (view value.now) old ≡ Ok read) }
+    ensures err { IfErr result (λ e. TellsSkin e (room_under (view value.now) old)) }
+{
+    let columns = columns_of(alloc, value.get("columns"), "columns", old.columns)?;
+    let margin = columns_of(alloc, value.get("margin"), "margin", old.margin)?;
+    Ok(TextRoom { margin, columns })
+}
+
+// The columns under a key.
+fn columns_of(alloc: Global, found: Option<&Value>, key: &str, old: u16) -> Result<u16, SkinError>
+    ensures ok { IfOk result (λ columns. columns_found key.now (option_map (λ value. view value.now) found.entry) old ≡ Ok columns) }
+    ensures err { IfErr result (λ e. TellsSkin e (columns_found key.now (option_map (λ value. view value.now) found.entry) old)) }
+{
+    match found {
+        Some(value) => column_count(alloc, value.as_u64(), key),
+        None => Ok(old),
+    }
+}
+
+// A count of columns that a number says.
+fn column_count(alloc: Global, count: Option<u64>, key: &str) -> Result<u16, SkinError>
+    ensures ok { IfOk result (λ columns. column_count key.now count ≡ Ok columns) }
+    ensures err { IfErr result (λ e. TellsSkin e (column_count key.now count)) }
+{
+    let Some(count) = count else {
+        return Err(wrong_type(alloc, key));
+    };
+    if count < 65536 {
+        Ok(count as u16)
+    } else {
+        Err(wrong_type(alloc, key))
+    }
 }
 
 /// The error of a member of another kind than its part.

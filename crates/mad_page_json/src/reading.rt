@@ -5,12 +5,12 @@ ghost use Rattle.serde_json.specs.View.{members_view, view};
 ghost use Rattle.mad_json.specs.Faults.{TellsSkin};
 ghost use Rattle.mad_page_json.specs.PageReading.{is_page_key, others, page_of, page_skin_read, page_under, unknown_in};
 
-use crate::lookups::{read_headings, read_parts, wrong_type};
+use crate::lookups::{read_headings, read_parts, read_room, wrong_type};
 use crate::named::has_key;
 use crate::parts::{char_parts, style_parts, with_chars, with_styles};
 use mad_dressing::HeadingMarks;
 use mad_json::{SkinError, skin_from_value};
-use mad_page_skin::PageSkin;
+use mad_page_skin::{PageSkin, TextRoom};
 use mad_style::{CompoundStyle, StyledChar};
 use serde_json::{Map, Value};
 use std::alloc::{AllocError, Global};
@@ -54,21 +54,27 @@ pub fn page_from_value(alloc: Global, skin: &PageSkin, value: &Value) -> Result<
     ensures err { IfErr result (λ e. TellsSkin e (page_under skin.now (view value.now))) }
 {
     let headings = read_headings(alloc, value, skin.headings)?;
+    let room = read_room(alloc, value, skin.room)?;
     let chars = read_parts(alloc, value, &char_parts(skin))?;
     let styles = read_parts(alloc, value, &style_parts(skin))?;
-    Ok(page_of(*skin, headings, &chars, &styles))
+    Ok(page_of(*skin, headings, room, &chars, &styles))
 }
 
 // A skin with these parts.
 fn page_of(
     skin: PageSkin,
     headings: HeadingMarks,
+    room: TextRoom,
     chars: &[StyledChar],
     styles: &[CompoundStyle],
 ) -> PageSkin
-    ensures { result ≡ page_of skin headings chars.now styles.now }
+    ensures { result ≡ page_of skin headings room chars.now styles.now }
 {
-    let skin = PageSkin { headings, ..skin };
+    let skin = PageSkin {
+        headings,
+        room,
+        ..skin
+    };
     with_styles(with_chars(skin, chars), styles)
 }
 
@@ -107,6 +113,9 @@ fn is_page_key(skin: &PageSkin, key: &str) -> bool
 {
     has_key(&style_parts(skin), key)
         || has_key(&char_parts(skin), key)
+        || key == "columns"
+        || key == "margin"
         || key == "rules"
         || key == "signs"
+        || key == "marks"
 }

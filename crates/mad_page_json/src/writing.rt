@@ -8,13 +8,13 @@ ghost use Rattle.mad_json.specs.Written.{text_data};
 ghost use Rattle.mad_parse.specs.Written.{tokens_text};
 ghost use Rattle.mad_page_json.specs.Named.{named_said};
 ghost use Rattle.mad_page_json.specs.PageReadsBack.{PageReadsBack, PageSkinReadsBack};
-ghost use Rattle.mad_page_json.specs.PageWriting.{IsPageDataOf, page_data, with_headings, with_page, with_parts};
+ghost use Rattle.mad_page_json.specs.PageWriting.{first_members, IsPageDataOf, page_data, with_headings, with_page, with_parts, with_room};
 
 use crate::named::Named;
 use crate::parts::{char_parts, style_parts};
 use mad_dressing::HeadingMarks;
 use mad_json::skin_to_value;
-use mad_page_skin::PageSkin;
+use mad_page_skin::{PageSkin, TextRoom};
 use mad_parse::PushStyleTokens;
 use serde_json::{Map, Value, put};
 use std::alloc::{AllocError, Global};
@@ -57,11 +57,20 @@ pub fn page_to_value(alloc: Global, skin: &PageSkin) -> Result<Value, AllocError
     ensures value { IfOk result (λ value. view value ≡ page_data skin.now) }
     ensures reads_back { IfOk result (λ value. PageReadsBack skin.now (view value)) }
 {
-    let mut members = Map::new(alloc);
-    put_headings(alloc, &mut members, skin.headings)?;
+    let mut members = first_members(alloc, skin)?;
     put_parts(alloc, &mut members, &char_parts(skin))?;
     put_parts(alloc, &mut members, &style_parts(skin))?;
     Ok(object_of(members))
+}
+
+// The members that are neither styles nor signs.
+fn first_members(alloc: Global, skin: &PageSkin) -> Result<Map<String, Value>, AllocError>
+    ensures { IfOk result (λ members. members_view members.entries ≡ first_members skin.now) }
+{
+    let mut members = Map::new(alloc);
+    put_headings(alloc, &mut members, skin.headings)?;
+    put_room(alloc, &mut members, skin.room)?;
+    Ok(members)
 }
 
 fn object_of(members: Map<String, Value>) -> Value
@@ -70,7 +79,7 @@ fn object_of(members: Map<String, Value>) -> Value
     Value::Object(members)
 }
 
-// Which headings have rules and signs.
+// Which headings have rules and signs, and whether marks stand at words.
 fn put_headings(
     alloc: Global,
     members: &mut Map<String, Value>,
@@ -79,7 +88,20 @@ fn put_headings(
     ensures { OnOk result (members_view members.new.entries ≡ with_headings headings (members_view members.old.entries)) }
 {
     put(members, alloc, "rules", Value::from(headings.rules))?;
-    put(members, alloc, "signs", Value::from(headings.signs))
+    put(members, alloc, "signs", Value::from(headings.signs))?;
+    put(members, alloc, "marks", Value::from(headings.words))
+}
+
+// The columns that a pager gives the text.
+fn put_room(
+    alloc: Global,
+    members: &mut Map<String, Value>,
+    room: TextRoom,
+) -> Result<(), AllocError>
+    ensures { OnOk result (members_view members.new.entries ≡ with_room room (members_view members.old.entries)) }
+{
+    put(members, alloc, "columns", Value::from(room.columns))?;
+    put(members, alloc, "margin", Value::from(room.margin))
 }
 
 // Parts under their keys.

@@ -4,7 +4,7 @@ use Rattle.std.specs.List.{last_or}
 use Rattle.std.specs.Option.{option_and_then}
 use Rattle.std.proofs.lemmas.List.{at_drop_more}
 use Rattle.mad_sections.specs.declared.gutters.Gutter.{Gutter}
-use Rattle.mad_page_rows.specs.Faces.{is_code, ends_in_code, level_above, level_of}
+use Rattle.mad_page_rows.specs.Faces.{is_code, ends_in_code, alert_barred, alert_of, level_above, level_of}
 
 -- what the last of gutters is, where it was so before them
 abbrev pub ends_from : Bool → List Gutter → Bool
@@ -32,3 +32,8 @@ last_from g (h ∷ gs) d = last_from h gs d
 pub level_is : (gs : List Gutter) (d : Gutter) → 1 ≤ length gs → level_of (get_or gs (length gs - 1) d) ≡ level_above gs
 level_is [] d some = absurd (omega arith)
 level_is (g ∷ gs) d some = ap (λ (n : ℕ). level_of (get_or (g ∷ gs) n d)) (omega arith) ∙ sym (ap (option_and_then level_of) (last_from g gs d))
+
+-- the alert whose bar a row is behind is what its last gutter says
+pub alert_is : (gs : List Gutter) (d : Gutter) → 1 ≤ length gs → alert_of (get_or gs (length gs - 1) d) ≡ alert_barred gs
+alert_is [] d some = absurd (omega arith)
+alert_is (g ∷ gs) d some = ap (λ (n : ℕ). alert_of (get_or (g ∷ gs) n d)) (omega arith) ∙ sym (ap (option_and_then alert_of) (last_from g gs d))

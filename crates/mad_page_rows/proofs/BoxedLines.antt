@@ -1,4 +1,5 @@
--- Lines in a box, and below a heading, are drawn as they are elsewhere, but for their style and the character of a rule.
+-- Lines in a box, below a heading, of an alert's title and of a table's head are drawn as they are elsewhere, but for their style and the character of a
+-- rule.
 use Rattle.std.proofs.Common.{◌≡◌, ℕ, zero, suc, ◌+◌, List, [], ◌∷◌, ◌++◌, Option, Some, None, map, chars, refl, ap, sym, ◌∙◌, subst, arith, if◌then◌else◌}
 use Rattle.std.specs.List.{AllByRecursion}
 use Rattle.std.specs.Str.{IsUtf8}
@@ -23,11 +24,11 @@ use Rattle.mad_rows.specs.Rows.{prefix_pieces, compound_piece}
 use Rattle.mad_rows.specs.RowStyles.{line_style}
 use Rattle.mad_rows.specs.declared.page_styles.PageStyles.{PageStyles}
 use Rattle.mad_rows.specs.declared.row_skin.RowSkin.{RowSkin}
-use Rattle.mad_layout.specs.Drawable.{FillsItsPlace, IsDrawableLine, AreDrawable}
-use Rattle.mad_sections.specs.declared.gutters.Gutter.{Gutter}
+use Rattle.mad_layout.specs.Drawable.{FillsItsPlace, IsDrawableLine}
+use Rattle.mad_pages.specs.Fronts.{FrontContent}
 use Rattle.mad_sections.proofs.Choices.{by_bool}
 use Rattle.mad_page_rows.specs.FaceLaws.{AreFacesShown, AreSignsShown}
-use Rattle.mad_page_rows.specs.Faces.{below_char, in_box, level_above, line_skin, ruled}
+use Rattle.mad_page_rows.specs.Faces.{below_char, bold_behind, emboldened, in_box, level_above, line_skin, ruled}
 
 -- the texts of pieces
 abbrev texts : List RowPiece → List (List ℕ)
@@ -99,10 +100,6 @@ line_boxed skin width (TableRow row) h = record { fits = h.fits; each = cells_bo
 line_boxed skin width (TableRule rule) h = record { fits = h.fits; chars = record { left = h.chars.left; horizontal = h.chars.horizontal; between = h.chars.between; right = h.chars.right } }
 line_boxed skin width HorizontalRule h = h
 
-all_boxed : (skin : RowSkin) (width : ℕ) (ls : List FmtLine) → AreDrawable skin width ls → AreDrawable (boxed skin) width ls
-all_boxed skin width [] h = tt
-all_boxed skin width (l ∷ ls) h = (line_boxed skin width l h.0, all_boxed skin width ls h.1)
-
 -- ---- rules below headings
 
 -- a skin with another rule
@@ -138,21 +135,54 @@ line_ruled skin rule width (TableRow row) own h = record { fits = h.fits; each =
 line_ruled skin rule width (TableRule r) own h = record { fits = h.fits; chars = record { left = h.chars.left; horizontal = h.chars.horizontal; between = h.chars.between; right = h.chars.right } }
 line_ruled skin rule width HorizontalRule own h = own
 
-all_ruled : (skin : RowSkin) (rule : StyledChar) (width : ℕ) (ls : List FmtLine) → IsColumnPiece (char_piece rule) → AreDrawable skin width ls → AreDrawable (with_rule skin rule) width ls
-all_ruled skin rule width [] own h = tt
-all_ruled skin rule width (l ∷ ls) own h = (line_ruled skin rule width l own h.0, all_ruled skin rule width ls own h.1)
-
 below_column : (page : PageStyles) (level : ℕ) → AreSignsShown page → IsColumnChar (char_alone (below_char page level))
 below_column page zero h = h.below_first
 below_column page (suc level) h = h.below_others
 
-drawable_ruled : (skin : RowSkin) (above : Option ℕ) (width : ℕ) (ls : List FmtLine) → AreSignsShown skin.page → AreDrawable skin width ls → AreDrawable (ruled skin above) width ls
-drawable_ruled skin None width ls signs h = h
-drawable_ruled skin (Some level) width ls signs h = all_ruled skin (below_char skin.page level) width ls (column_piece (below_char skin.page level) (below_column skin.page level signs)) h
+drawable_ruled : (skin : RowSkin) (above : Option ℕ) (width : ℕ) (l : FmtLine) → AreSignsShown skin.page → IsDrawableLine skin width l → IsDrawableLine (ruled skin above) width l
+drawable_ruled skin None width l signs h = h
+drawable_ruled skin (Some level) width l signs h = line_ruled skin (below_char skin.page level) width l (column_piece (below_char skin.page level) (below_column skin.page level signs)) h
 
--- so they are in the skin of a row behind any gutters
-pub drawable_behind : (skin : RowSkin) (gutters : List Gutter) (width : ℕ) (ls : List FmtLine) → AreFacesShown skin → AreDrawable skin width ls → AreDrawable (line_skin skin gutters) width ls
-drawable_behind skin gutters width ls faces h =
-    let above : Option ℕ = level_above gutters in
-    by_bool (λ t. AreDrawable (ruled (if t then boxed skin else skin) above) width ls) (in_box skin gutters)
-    (λ e. drawable_ruled (boxed skin) above width ls faces.page (all_boxed skin width ls h)) (λ e. drawable_ruled skin above width ls faces.page h)
+-- ---- bold text
+
+prefix_bold : (skin : RowSkin) (bold : CompoundStyle) (kind : CompositeKind) → prefix_pieces skin kind ≡ prefix_pieces (emboldened skin bold) kind
+prefix_bold skin bold Paragraph = refl
+prefix_bold skin bold (Header level) = refl
+prefix_bold skin bold (ListItem depth) = refl
+prefix_bold skin bold (ListItemFollowUp depth) = refl
+prefix_bold skin bold (OrderedListItem level index) = refl
+prefix_bold skin bold (OrderedListItemFollowUp level index) = refl
+prefix_bold skin bold Code = refl
+prefix_bold skin bold Quote = refl
+
+bold_compounds : (skin : RowSkin) (bold : CompoundStyle) (style : LineStyle) (ps : List Compound) → texts (map (compound_piece skin style) ps) ≡ texts (map (compound_piece (emboldened skin bold) style) ps)
+bold_compounds skin bold style [] = refl
+bold_compounds skin bold style (p ∷ ps) = ap (λ (ts : List (List ℕ)). p.src.now ∷ ts) (bold_compounds skin bold style ps)
+
+fills_bold : (skin : RowSkin) (bold : CompoundStyle) (l : FmtComposite) → FillsItsPlace skin l → FillsItsPlace (emboldened skin bold) l
+fills_bold skin bold l h = record {
+  measured = h.measured;
+  place = h.place;
+  prefix = subst AreShownPieces (prefix_bold skin bold l.kind) h.prefix;
+  indent_is = sym (ap pieces_columns (prefix_bold skin bold l.kind)) ∙ h.indent_is;
+  text = same_shown (map (compound_piece skin (line_style skin l.kind)) l.compounds.items) (map (compound_piece (emboldened skin bold) (line_style skin l.kind)) l.compounds.items)
+      (bold_compounds skin bold (line_style skin l.kind) l.compounds.items) h.text;
+}
+
+cells_bold : (skin : RowSkin) (bold : CompoundStyle) (ls : List FmtComposite) → AllByRecursion (FillsItsPlace skin) ls → AllByRecursion (FillsItsPlace (emboldened skin bold)) ls
+cells_bold skin bold [] h = tt
+cells_bold skin bold (l ∷ ls) h = (fills_bold skin bold l h.0, cells_bold skin bold ls h.1)
+
+line_bold : (skin : RowSkin) (bold : CompoundStyle) (width : ℕ) (l : FmtLine) → IsDrawableLine skin width l → IsDrawableLine (emboldened skin bold) width l
+line_bold skin bold width (Normal l) h = record { margins = h.margins; margins_are = h.margins_are; fits = h.fits; fills = fills_bold skin bold l h.fills }
+line_bold skin bold width (TableRow row) h = record { fits = h.fits; each = cells_bold skin bold row.cells.items h.each; border = h.border }
+line_bold skin bold width (TableRule r) h = record { fits = h.fits; chars = record { left = h.chars.left; horizontal = h.chars.horizontal; between = h.chars.between; right = h.chars.right } }
+line_bold skin bold width HorizontalRule h = h
+
+-- so it is in the skin of a row behind any front
+pub drawable_behind : (skin : RowSkin) (front : FrontContent) (width : ℕ) (l : FmtLine) → AreFacesShown skin → IsDrawableLine skin width l → IsDrawableLine (line_skin skin front) width l
+drawable_behind skin front width l faces h =
+    let above : Option ℕ = level_above front.gutters in
+    by_bool (λ t. IsDrawableLine (emboldened (ruled (if t then boxed skin else skin) above) (bold_behind skin front)) width l) (in_box skin front.gutters)
+    (λ e. line_bold (ruled (boxed skin) above) (bold_behind skin front) width l (drawable_ruled (boxed skin) above width l faces.page (line_boxed skin width l h)))
+    (λ e. line_bold (ruled skin above) (bold_behind skin front) width l (drawable_ruled skin above width l faces.page h))

@@ -26,7 +26,8 @@ use Rattle.mad_sections.proofs.RoomLemmas.{rooms_last, shown_are_last}
 use Rattle.mad_sections.specs.Unfolded.{unfolded}
 use Rattle.mad_format.specs.Lists.{EachBecomes}
 use Rattle.mad_pages.specs.PageLayouts.{IsSectionAt}
-use Rattle.mad_pages.specs.PageRows.{RowContent, behind, marks_from, number_behind}
+use Rattle.mad_pages.specs.Fronts.{FrontContent, front_of}
+use Rattle.mad_pages.specs.PageRows.{RowContent, behind, heads_behind, is_head, marks_from, number_behind}
 use Rattle.mad_page_rows.specs.FaceLaws.{AreFacesShown, IsTypedGutter}
 use Rattle.mad_page_rows.specs.Faces.{has_ascii_boxes, line_skin, page_row_pieces}
 use Rattle.mad_page_rows.proofs.FillLemmas.{rows_fill}
@@ -49,7 +50,7 @@ typed_shown ascii width gs h =
 pub record IsDrawableBehind (skin : RowSkin) (drawn : ℕ) (row : RowContent) : Type 0 where
   pub typed : AllByRecursion IsTypedGutter row.gutters
   pub fits : columns_of (has_ascii_boxes skin) row.gutters ≤ drawn
-  pub line : IsDrawableLine (line_skin skin row.gutters) (drawn - columns_of (has_ascii_boxes skin) row.gutters) row.line
+  pub line : IsDrawableLine (line_skin skin (front_of row)) (drawn - columns_of (has_ascii_boxes skin) row.gutters) row.line
 
 -- such rows
 abbrev pub AreDrawableBehind : RowSkin → ℕ → List RowContent → Type 0
@@ -58,7 +59,7 @@ AreDrawableBehind skin drawn rows = AllByRecursion (IsDrawableBehind skin drawn)
 -- such a row fills the columns in which it is drawn
 pub row_fills : (skin : RowSkin) (drawn : ℕ) (row : RowContent) → AreFacesShown skin → IsDrawableBehind skin drawn row → FillsRow drawn (page_row_pieces skin (Some drawn) true row)
 row_fills skin drawn row faces h =
-    let inner : RowSkin = line_skin skin row.gutters in
+    let inner : RowSkin = line_skin skin (front_of row) in
     let rest : ℕ = drawn - columns_of (has_ascii_boxes skin) row.gutters in
     rows_fill skin drawn row faces h.typed h.fits
     (toned_fills rest row.marks (tone_styles skin) row.number inner (Some rest) true row.line (record { shown = any_shown inner rest row.line h.line; columns = any_columns inner rest row.line h.line }))
@@ -67,21 +68,23 @@ all_fill : (skin : RowSkin) (drawn : ℕ) (rows : List RowContent) → AreFacesS
 all_fill skin drawn [] faces h = tt
 all_fill skin drawn (row ∷ rows) faces h = (row_fills skin drawn row faces h.0, all_fill skin drawn rows faces h.1)
 
-layout_drawable : (skin : RowSkin) (gutters : List Gutter) (room drawn : ℕ) (text : List LineContent) (lines : List FmtLine) → AreFacesShown skin → 3 ≤ room → room ≤ drawn → drawn < 2 ^ 64 - 1 → KeepsPremises skin room (lines_in_parts text)
-    → IsLayoutAt (line_rules skin) (Some room) text lines → AreDrawable (line_skin skin gutters) drawn lines
-layout_drawable skin gutters room drawn text lines faces three wider bound keeps layout =
+layout_drawable : (skin : RowSkin) (room drawn : ℕ) (text : List LineContent) (lines : List FmtLine) → 3 ≤ room → room ≤ drawn → drawn < 2 ^ 64 - 1 → KeepsPremises skin room (lines_in_parts text)
+    → IsLayoutAt (line_rules skin) (Some room) text lines → AreDrawable skin drawn lines
+layout_drawable skin room drawn text lines three wider bound keeps layout =
     let n : ℕ = length lines in
     let fitting : IsFittingLayout (line_rules skin) room text lines = layout_fitting (line_rules skin) (Some room) text lines layout three in
     let sound : AreSoundLines skin room (take n (lines_in_parts text)) = laid_sound skin room (wrap_width (Some room)) room n text lines layout (all_taken _ n (lines_in_parts text) keeps) in
-    let first : AreDrawable skin drawn (take n lines) = fitting_is_drawable skin room drawn n text lines wider bound sound fitting in
-    drawable_behind skin gutters drawn lines faces (subst (AreDrawable skin drawn) (take-length lines) first)
+    subst (AreDrawable skin drawn) (take-length lines) (fitting_is_drawable skin room drawn n text lines wider bound sound fitting)
 
 -- lines behind gutters
-lines_drawable : (skin : RowSkin) (drawn : ℕ) (gs : List Gutter) (fresh : ℕ) (marks : List MarkRun) (n : ℕ) (lines : List FmtLine) → AllByRecursion IsTypedGutter gs → columns_of (has_ascii_boxes skin) gs ≤ drawn
-    → AreDrawable (line_skin skin gs) (drawn - columns_of (has_ascii_boxes skin) gs) lines → AreDrawableBehind skin drawn (behind gs fresh marks n lines)
-lines_drawable skin drawn gs fresh marks n [] typed fits h = tt
-lines_drawable skin drawn gs fresh marks n (l ∷ lines) typed fits h =
-    (record { typed = typed; fits = fits; line = h.0 }, lines_drawable skin drawn gs 0 (marks_from marks (number_behind marks n l)) (number_behind marks n l) lines typed fits h.1)
+lines_drawable : (skin : RowSkin) (drawn : ℕ) (gs : List Gutter) (fresh : ℕ) (marks : List MarkRun) (n : ℕ) (heads : Bool) (lines : List FmtLine) → AreFacesShown skin → AllByRecursion IsTypedGutter gs
+    → columns_of (has_ascii_boxes skin) gs ≤ drawn → AreDrawable skin (drawn - columns_of (has_ascii_boxes skin) gs) lines → AreDrawableBehind skin drawn (behind gs fresh marks n heads lines)
+lines_drawable skin drawn gs fresh marks n heads [] faces typed fits h = tt
+lines_drawable skin drawn gs fresh marks n heads (l ∷ lines) faces typed fits h =
+    let front : FrontContent = record { gutters = gs; fresh = fresh; marks = marks; number = n; head = is_head heads l } in (
+      record { typed = typed; fits = fits; line = drawable_behind skin front (drawn - columns_of (has_ascii_boxes skin) gs) l faces h.0 },
+      lines_drawable skin drawn gs 0 (marks_from marks (number_behind marks n l)) (number_behind marks n l) (heads_behind heads l) lines faces typed fits h.1,
+    )
 
 -- from three columns on each row of a section is drawn exactly, in the columns of its layout and in more
 section_drawable : (skin : RowSkin) (width drawn : ℕ) (section : SectionContent) (rows : List RowContent) → 3 ≤ width → width ≤ drawn → drawn < 2 ^ 64 - 1 → AreFacesShown skin → KeepsRoom skin width section
@@ -91,8 +94,8 @@ section_drawable skin width drawn section rows three wider bound faces keeps s =
     let gs : List Gutter = shown_at ascii width section.gutters in
     let whole : columns_of ascii gs + room_at ascii width section.gutters ≡ width = (shown_are_last ascii width section.gutters).whole in
     let some : 3 ≤ room_at ascii width section.gutters = rooms_last ascii width section.gutters three in
-    let lines = layout_drawable skin gs (room_at ascii width section.gutters) (drawn - columns_of ascii gs) section.lines s.lines faces some (omega (arith, whole, wider)) (omega (arith, bound)) keeps.premises s.layout in
-    subst (AreDrawableBehind skin drawn) (sym s.rows_are) (lines_drawable skin drawn gs section.fresh section.marks 0 s.lines (typed_shown ascii width section.gutters keeps.gutters) (omega (arith, whole, wider)) lines)
+    let lines = layout_drawable skin (room_at ascii width section.gutters) (drawn - columns_of ascii gs) section.lines s.lines some (omega (arith, whole, wider)) (omega (arith, bound)) keeps.premises s.layout in
+    subst (AreDrawableBehind skin drawn) (sym s.rows_are) (lines_drawable skin drawn gs section.fresh section.marks 0 true s.lines faces (typed_shown ascii width section.gutters keeps.gutters) (omega (arith, whole, wider)) lines)
 
 -- so is each row of sections, one after the other
 pub shown_drawable : (skin : RowSkin) (width drawn : ℕ) (sections : List SectionContent) (rows : List RowContent) → 3 ≤ width → width ≤ drawn → drawn < 2 ^ 64 - 1 → AreFacesShown skin → AllByRecursion (KeepsRoom skin width) sections

@@ -28,7 +28,7 @@ use Rattle.mad_marked_rows.specs.Told.{told_chars, TellsNothing}
 use Rattle.mad_marked_rows.proofs.LawLemmas.{chars_told, line_fills, shown_left, shown_right, told_after, told_before}
 use Rattle.mad_marked_rows.proofs.ToldLemmas.{same_cells}
 use Rattle.mad_marked_rows.proofs.LinkLawLemmas.{KeepsKnown, line_known}
-use Rattle.mad_pages.specs.Fronts.{FrontContent, row_behind}
+use Rattle.mad_pages.specs.Fronts.{FrontContent, front_of, row_behind}
 use Rattle.mad_page_rows.specs.Faces.{backs, behind_pieces, columns_behind, faces, has_ascii_boxes, in_box, line_skin, page_row_pieces, toned_pieces}
 use Rattle.mad_page_rows.specs.ToneLaws.{TonesChangeNothing, without_marks}
 use Rattle.mad_sections.specs.Gutters.{columns_of}
@@ -87,7 +87,7 @@ pub row_told : TonesChangeNothing
 row_told tell skin outer filled row nothing h =
     let gutters = row.gutters in
     let front : List RowPiece = faces skin gutters row.fresh in
-    let inner : RowSkin = line_skin skin gutters in
+    let inner : RowSkin = line_skin skin (front_of row) in
     let columns : Option ℕ = columns_behind (has_ascii_boxes skin) outer gutters in
     let plain : List RowPiece = line_pieces inner columns (filled || in_box skin gutters) row.line in
     let toned : List RowPiece = behind_pieces skin outer filled row in
@@ -122,6 +122,6 @@ toned_known (run ∷ runs) (tone ∷ tones) n skin outer filled HorizontalRule k
 
 -- so are those of a row's line
 pub behind_known : (skin : RowSkin) (front : FrontContent) (line : FmtLine) (width : ℕ) → AreKnownStyles skin
-    → AreKnown (line_pieces (line_skin skin front.gutters) (Some (width - columns_of (has_ascii_boxes skin) front.gutters)) true line) → AreKnown (behind_pieces skin (Some width) true (row_behind front line))
+    → AreKnown (line_pieces (line_skin skin front) (Some (width - columns_of (has_ascii_boxes skin) front.gutters)) true line) → AreKnown (behind_pieces skin (Some width) true (row_behind front line))
 behind_known skin front line width styles h =
-    toned_known front.marks (tone_styles skin) front.number (line_skin skin front.gutters) (Some (width - columns_of (has_ascii_boxes skin) front.gutters)) true line styles.tones h
+    toned_known front.marks (tone_styles skin) front.number (line_skin skin front) (Some (width - columns_of (has_ascii_boxes skin) front.gutters)) true line styles.tones h

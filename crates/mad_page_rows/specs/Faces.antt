@@ -1,5 +1,5 @@
 -- What is written of a page's rows, piece by piece.
-use Rattle.std.specs.Prelude.{ℕ, zero, suc, ◌+◌, ◌-◌, nat_lt, is_some, ◌&&◌, ◌||◌, Bool, true, false, List, [], ◌∷◌, ◌++◌, take, drop, length, Option, Some, None, if◌then◌else◌}
+use Rattle.std.specs.Prelude.{ℕ, zero, suc, ◌+◌, ◌-◌, nat_lt, is_some, ◌&&◌, ◌||◌, ◌==◌, Bool, true, false, List, [], ◌∷◌, ◌++◌, take, drop, length, Option, Some, None, if◌then◌else◌}
 use Rattle.std.specs.List.{flat_map, last_or}
 use Rattle.std.specs.Option.{option_and_then}
 use Rattle.mad_format.specs.declared.line.FmtLine.{FmtLine}
@@ -8,6 +8,7 @@ use Rattle.mad_mark_runs.specs.declared.mark_runs.MarkRun.{MarkRun}
 use Rattle.mad_marked_rows.specs.MarkedRows.{marked_line}
 use Rattle.mad_marked_rows.specs.Paints.{paint_by}
 use Rattle.mad_marks.specs.LineMarks.{has_mark}
+use Rattle.mad_style.specs.CompoundStyles.{overwritten}
 use Rattle.mad_style.specs.StyledChars.{char_style, char_alone, styled_char}
 use Rattle.mad_style.specs.declared.compound_styles.CompoundStyle.{CompoundStyle}
 use Rattle.mad_style.specs.declared.styled_chars.StyledChar.{StyledChar}
@@ -15,12 +16,14 @@ use Rattle.mad_draw.specs.Pieces.{RowPiece, pieces_bytes, char_piece, char_repea
 use Rattle.mad_rows.specs.Rows.{number_piece, line_pieces}
 use Rattle.mad_rows.specs.RowStyles.{header_style, ordered_item_style, tone_styles}
 use Rattle.mad_rows.specs.declared.page_styles.PageStyles.{PageStyles}
+use Rattle.mad_rows.specs.declared.page_styles.TitleStyles.{TitleStyles}
 use Rattle.mad_rows.specs.declared.row_skin.RowSkin.{RowSkin}
 use Rattle.mad_sections.specs.Gutters.{gutter_columns, columns_of}
 use Rattle.mad_sections.specs.declared.gutters.Gutter.{Gutter}
 use Rattle.mad_sections.specs.declared.gutters.Gutter.TheVariants.{Bar, AlertBar, Bullet, Number, Task, Code, Signs, Below}
 use Rattle.mad_sections.specs.declared.gutters.Alert.{Alert}
 use Rattle.mad_sections.specs.declared.gutters.Alert.TheVariants.{Note, Tip, Important, Warning, Caution}
+use Rattle.mad_pages.specs.Fronts.{FrontContent, front_of}
 use Rattle.mad_pages.specs.PageRows.{RowContent, row_content}
 use Rattle.mad_pages.specs.declared.page_rows.PageRow.{PageRow}
 
@@ -147,9 +150,45 @@ abbrev pub ruled : RowSkin → Option ℕ → RowSkin
 ruled skin None = skin
 ruled skin (Some level) = record skin { horizontal_rule = below_char skin.page level }
 
--- the skin of a row's line: in a box what is beside its text looks as code, and below a heading a rule as those there
-abbrev pub line_skin : RowSkin → List Gutter → RowSkin
-line_skin skin gs = ruled (if in_box skin gs then record skin { paragraph = skin.code_block } else skin) (level_above gs)
+-- what the title of an alert adds to bold text
+abbrev pub title_style : TitleStyles → Alert → CompoundStyle
+title_style titles Note = titles.note
+title_style titles Tip = titles.tip
+title_style titles Important = titles.important
+title_style titles Warning = titles.warning
+title_style titles Caution = titles.caution
+
+-- the alert that a gutter is the bar of, if it is one's
+abbrev pub alert_of : Gutter → Option Alert
+alert_of (AlertBar alert) = Some alert
+alert_of g = None
+
+-- the alert that the last gutter is the bar of, if it is one's
+abbrev pub alert_barred : List Gutter → Option Alert
+alert_barred gs = option_and_then alert_of (last_or None gs)
+
+-- the alert whose title a row is: the first row behind its bar, if the bar is the last gutter
+abbrev pub alert_titled : FrontContent → Option Alert
+alert_titled front = if front.fresh == 0 then None else alert_barred front.gutters
+
+-- what bold text adds, and over it what it adds in the title of this alert
+abbrev pub titled : RowSkin → Option Alert → CompoundStyle
+titled skin None = skin.bold
+titled skin (Some alert) = overwritten skin.bold (title_style skin.titles alert)
+
+-- what bold text adds in a row: over it comes what the heads of tables add, or the title of an alert
+abbrev pub bold_behind : RowSkin → FrontContent → CompoundStyle
+bold_behind skin front = if front.head then overwritten skin.bold skin.head else titled skin (alert_titled front)
+
+-- a skin in which bold text adds this
+abbrev pub emboldened : RowSkin → CompoundStyle → RowSkin
+emboldened skin bold = record skin { bold = bold }
+
+-- the skin of a row's line: in a box what is beside its text looks as code, and below a heading a rule as those there; bold text of titles and heads has
+-- their styles
+abbrev pub line_skin : RowSkin → FrontContent → RowSkin
+line_skin skin front =
+    emboldened (ruled (if in_box skin front.gutters then record skin { paragraph = skin.code_block } else skin) (level_above front.gutters)) (bold_behind skin front)
 
 -- A line with its marks. Where marks are left, and there are tones, a composite's text is cut where its mark changes, and each part is in the style that its
 -- tone makes of the text's. All else is as without marks. So many counted characters stand before the line.
@@ -160,7 +199,7 @@ toned_pieces runs tones n skin outer filled line = line_pieces skin outer filled
 -- the pieces of a row's line, in the columns that its gutters leave; in a box it fills them
 abbrev pub behind_pieces : RowSkin → Option ℕ → Bool → RowContent → List RowPiece
 behind_pieces skin outer filled row =
-    toned_pieces row.marks (tone_styles skin) row.number (line_skin skin row.gutters) (columns_behind (has_ascii_boxes skin) outer row.gutters) (filled || in_box skin row.gutters) row.line
+    toned_pieces row.marks (tone_styles skin) row.number (line_skin skin (front_of row)) (columns_behind (has_ascii_boxes skin) outer row.gutters) (filled || in_box skin row.gutters) row.line
 
 -- the pieces of a row at an outer width: the faces of its gutters, its line in the columns that they leave, and the other sides of boxes
 abbrev pub page_row_pieces : RowSkin → Option ℕ → Bool → RowContent → List RowPiece

@@ -98,5 +98,5 @@ fn know_behind(skin: &RowSkin, front: Front, line: &FmtLine, width: usize)
 {
     know_styles(skin);
     let rest = columns_left(skin, front.gutters, width);
-    know_row(&line_skin(skin, front.gutters), Some(line), rest);
+    know_row(&line_skin(skin, front), Some(line), rest);
 }

@@ -3,14 +3,17 @@
 ghost use Rattle.std.specs.Prelude.{◌≡◌, ◌≤◌, ◌-◌, ◌||◌, length, Some};
 ghost use Rattle.mad_draw.specs.Pieces.{pieces_bytes, spaces};
 ghost use Rattle.mad_sections.specs.Gutters.{columns_of, gutter_columns};
-ghost use Rattle.mad_page_rows.specs.Faces.{backs, alert_bar, ascii_box, below_char, code_face, codes, columns_behind, ends_in_code, face, has_ascii_boxes, has_boxes, heading_sign, in_box, is_code, level_above, level_of, line_skin, ruled, task_box};
+ghost use Rattle.mad_pages.specs.Fronts.{front_content};
+ghost use Rattle.mad_style.specs.CompoundStyles.{overwritten};
+ghost use Rattle.mad_page_rows.specs.Faces.{alert_barred, alert_of, alert_titled, bold_behind, emboldened, title_style, titled, backs, alert_bar, ascii_box, below_char, code_face, codes, columns_behind, ends_in_code, face, has_ascii_boxes, has_boxes, heading_sign, in_box, is_code, level_above, level_of, line_skin, ruled, task_box};
 ghost use Rattle.mad_rows.specs.RowStyles.{ordered_item_style};
 
 use mad_draw::{CharRepeat, Spaces};
-use mad_rows::{PageStyles, RowSkin};
+use mad_pages::Front;
+use mad_rows::{PageStyles, RowSkin, TitleStyles};
 use mad_sections::gutters::gutter_columns;
 use mad_sections::{Alert, Gutter};
-use mad_style::StyledChar;
+use mad_style::{CompoundStyle, StyledChar};
 use mad_term::StyledNumber;
 use std::fmt::{self, Display};
 
@@ -365,10 +368,93 @@ fn ruled(skin: RowSkin, level: Option<u8>) -> RowSkin
     }
 }
 
-/// The skin of a row's line: in a box what is beside its text looks as code, and below a heading a rule as those there.
-pub fn line_skin(skin: &RowSkin, gutters: &[Gutter]) -> RowSkin
-    ensures { result ≡ line_skin skin.now gutters.now }
+// What the title of an alert adds to bold text.
+fn title_style(titles: &TitleStyles, alert: Alert) -> CompoundStyle
+    ensures { result ≡ title_style titles.now alert }
 {
+    match alert {
+        Alert::Note => titles.note,
+        Alert::Tip => titles.tip,
+        Alert::Important => titles.important,
+        Alert::Warning => titles.warning,
+        Alert::Caution => titles.caution,
+    }
+}
+
+// The alert that a gutter is the bar of, if it is one's.
+fn alert_of(gutter: Gutter) -> Option<Alert>
+    ensures { result ≡ alert_of gutter }
+{
+    match gutter {
+        Gutter::AlertBar(alert) => Some(alert),
+        _ => None,
+    }
+}
+
+// The alert that the last gutter is the bar of, if it is one's.
+fn alert_barred(gutters: &[Gutter]) -> Option<Alert>
+    ensures { result ≡ alert_barred gutters.now }
+{
+    match gutters {
+        [.., gutter] => alert_of(*gutter),
+        [] => None,
+    }
+}
+
+/// The alert whose title a row is: the first row behind its bar, if the bar is the last gutter.
+pub fn alert_titled(front: Front) -> Option<Alert>
+    ensures { result ≡ alert_titled (front_content front.entry) }
+{
+    if front.fresh == 0 {
+        None
+    } else {
+        alert_barred(front.gutters)
+    }
+}
+
+// What bold text adds, and over it what it adds in the title of this alert.
+fn titled(skin: &RowSkin, alert: Option<Alert>) -> CompoundStyle
+    ensures { result ≡ titled skin.now alert }
+{
+    match alert {
+        Some(alert) => overwritten(skin.bold, &title_style(&skin.titles, alert)),
+        None => skin.bold,
+    }
+}
+
+// A style, over which another comes.
+fn overwritten(style: CompoundStyle, other: &CompoundStyle) -> CompoundStyle
+    ensures { result ≡ overwritten style other.now }
+{
+    let mut style = style;
+    style.overwrite_with(other);
+    style
+}
+
+// What bold text adds in a row.
+fn bold_behind(skin: &RowSkin, front: Front) -> CompoundStyle
+    ensures { result ≡ bold_behind skin.now (front_content front.entry) }
+{
+    if front.head {
+        overwritten(skin.bold, &skin.head)
+    } else {
+        titled(skin, alert_titled(front))
+    }
+}
+
+// A skin in which bold text adds this.
+fn emboldened(skin: RowSkin, bold: CompoundStyle) -> RowSkin
+    ensures { result ≡ emboldened skin bold }
+{
+    RowSkin { bold, ..skin }
+}
+
+/// The skin of a row's line: in a box what is beside its text looks as code, and below a heading a rule as those there. The bold text of an alert's title
+/// and of a table's head has the style of these.
+pub fn line_skin(skin: &RowSkin, front: Front) -> RowSkin
+    ensures { result ≡ line_skin skin.now (front_content front.entry) }
+{
+    let gutters = front.gutters;
     let beside = if in_box(skin, gutters) {
         RowSkin {
             paragraph: skin.code_block,
@@ -377,7 +463,8 @@ pub fn line_skin(skin: &RowSkin, gutters: &[Gutter]) -> RowSkin
     } else {
         *skin
     };
-    ruled(beside, level_above(gutters))
+    let drawn = ruled(beside, level_above(gutters));
+    emboldened(drawn, bold_behind(skin, front))
 }
 
 /// Faces of gutters, all the first ones or all the others.

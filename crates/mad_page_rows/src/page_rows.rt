@@ -84,7 +84,7 @@ impl fmt::Display for LineBehind<'_, '_> {
 
     fn fmt<W: fmt::Write>(&self, f: &mut fmt::Formatter<W>) -> fmt::Result {
         let gutters = self.front.gutters;
-        let skin = line_skin(self.skin, gutters);
+        let skin = line_skin(self.skin, self.front);
         let line = TonedLine {
             skin: &skin,
             tones: self.skin.tone_styles(),

@@ -6,10 +6,11 @@ use Rattle.mad_style.specs.LineStyles.{unmargined}
 use Rattle.mad_rows.specs.declared.page_styles.PageStyles.{PageStyles}
 use Rattle.mad_layout.specs.declared.skin.MadSkin.{MadSkin}
 use Rattle.mad_page_skin.specs.Inks.{attributed, colored, colored_as, drawn, drawn_bar, headers_in, item_in, on, on_as}
+use Rattle.mad_page_skin.specs.PageSkins.{readable_room}
 use Rattle.mad_page_skin.specs.PlainSkins.{plain_text}
 use Rattle.mad_page_skin.specs.declared.page_skin.PageSkin.{PageSkin}
 use Rattle.mad_page_skin.specs.declared.part_styles.CodeStyles.{CodeStyles}
-use Rattle.mad_page_skin.specs.declared.part_styles.TitleStyles.{TitleStyles}
+use Rattle.mad_rows.specs.declared.page_styles.TitleStyles.{TitleStyles}
 
 -- the styles of a text's parts
 abbrev pub dark_text : MadSkin
@@ -75,7 +76,7 @@ dark_page_skin =
     record {
       text = dark_text;
       page = dark_signs;
-      headings = record { rules = 2; signs = false };
+      headings = record { rules = 2; signs = false; words = false };
       link = colored_as 75 attribute.Underlined;
       sign = drawn 248 0x25A3;
       picture = colored 248;
@@ -85,4 +86,5 @@ dark_page_skin =
       number = on_as 16 221 attribute.Bold;
       hit = on 16 221;
       status = on 252 239;
+      room = readable_room;
     }

@@ -4,18 +4,14 @@ use Rattle.mad_term.specs.declared.attribute.Attribute.TheVariants as attribute
 use Rattle.mad_style.specs.CompoundStyles.{unstyled}
 use Rattle.mad_style.specs.declared.compound_styles.CompoundStyle.{CompoundStyle}
 use Rattle.mad_style.specs.StyledChars.{styled_char}
-use Rattle.mad_rows.specs.RowStyles.{sets_nothing, with_links}
+use Rattle.mad_rows.specs.RowStyles.{sets_nothing, unstyled_titles, with_links}
 use Rattle.mad_rows.specs.declared.row_skin.RowSkin.{RowSkin}
 use Rattle.mad_layout.specs.RowSkins.{page_styles, row_skin}
 use Rattle.mad_layout.specs.declared.skin.MadSkin.{MadSkin}
 use Rattle.mad_page_skin.specs.Inks.{attributed}
 use Rattle.mad_page_skin.specs.declared.page_skin.PageSkin.{PageSkin}
 use Rattle.mad_page_skin.specs.declared.part_styles.CodeStyles.{CodeStyles}
-use Rattle.mad_page_skin.specs.declared.part_styles.TitleStyles.{TitleStyles}
-
--- titles in which nothing is set
-abbrev pub unstyled_titles : TitleStyles
-unstyled_titles = record { note = unstyled; tip = unstyled; important = unstyled; warning = unstyled; caution = unstyled }
+use Rattle.mad_page_skin.specs.declared.text_room.TextRoom.{TextRoom}
 
 -- tones in which nothing is set
 abbrev pub unstyled_code : CodeStyles
@@ -44,16 +40,24 @@ code_tones code =
 
 -- what rows show of the skin of a page: they keep words whole
 abbrev pub page_row_skin : PageSkin → RowSkin
-page_row_skin skin = record (row_skin skin.text) { link = skin.link; whole_words = true; page = skin.page; tones = code_tones skin.code }
+page_row_skin skin = record (row_skin skin.text) { link = skin.link; whole_words = true; page = skin.page; head = skin.head; titles = skin.titles; tones = code_tones skin.code }
 
--- The skin of a page by that of the smaller grammar: links look as there, headings have neither rules nor signs, and what is new has no style. In a
--- pager numbers of links, hits and the last row are reversed.
+-- as many columns as there are
+abbrev pub whole_room : TextRoom
+whole_room = record { margin = 0; columns = 0 }
+
+-- 100 columns at most, and two free ones on each side
+abbrev pub readable_room : TextRoom
+readable_room = record { margin = 2; columns = 100 }
+
+-- The skin of a page by that of the smaller grammar: links look as there, headings have neither rules nor signs, words have no marks, and what is new
+-- has no style. In a pager numbers of links, hits and the last row are reversed, and the text has as many columns as there are.
 abbrev pub page_skin_of : MadSkin → PageSkin
 page_skin_of text =
     record {
       text = text;
       page = page_styles text;
-      headings = record { rules = 0; signs = false };
+      headings = record { rules = 0; signs = false; words = false };
       link = (with_links (row_skin text)).link;
       sign = styled_char unstyled 0x25A3;
       picture = unstyled;
@@ -63,4 +67,5 @@ page_skin_of text =
       number = attributed attribute.Reverse;
       hit = attributed attribute.Reverse;
       status = attributed attribute.Reverse;
+      room = whole_room;
     }

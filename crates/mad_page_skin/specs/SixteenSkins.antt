@@ -6,10 +6,11 @@ use Rattle.mad_style.specs.StyledChars.{styled_char}
 use Rattle.mad_rows.specs.declared.page_styles.PageStyles.{PageStyles}
 use Rattle.mad_layout.specs.declared.skin.MadSkin.{MadSkin}
 use Rattle.mad_page_skin.specs.Inks.{attributed, colored, colored_as, drawn, headers_in, item_in}
+use Rattle.mad_page_skin.specs.PageSkins.{readable_room}
 use Rattle.mad_page_skin.specs.PlainSkins.{plain_text}
 use Rattle.mad_page_skin.specs.declared.page_skin.PageSkin.{PageSkin}
 use Rattle.mad_page_skin.specs.declared.part_styles.CodeStyles.{CodeStyles}
-use Rattle.mad_page_skin.specs.declared.part_styles.TitleStyles.{TitleStyles}
+use Rattle.mad_rows.specs.declared.page_styles.TitleStyles.{TitleStyles}
 
 -- the styles of a text's parts
 abbrev pub sixteen_text : MadSkin
@@ -71,7 +72,7 @@ sixteen_page_skin =
     record {
       text = sixteen_text;
       page = sixteen_signs;
-      headings = record { rules = 2; signs = false };
+      headings = record { rules = 2; signs = false; words = false };
       link = attributed attribute.Underlined;
       sign = drawn 6 0x25A3;
       picture = attributed attribute.Italic;
@@ -81,4 +82,5 @@ sixteen_page_skin =
       number = attributed attribute.Reverse;
       hit = attributed attribute.Reverse;
       status = attributed attribute.Reverse;
+      room = readable_room;
     }

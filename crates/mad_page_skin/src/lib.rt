@@ -2,7 +2,7 @@
 //!
 //! In the order of the work:
 //!
-//! 1. [`part_styles`]: the styles of alerts' titles and of code's tones.
+//! 1. [`part_styles`]: the styles of code's tones. [`text_room`]: the columns that a pager gives the text.
 //! 2. [`page_skin`]: the skin of a page, and what rows show of it.
 //! 3. [`inks`]: styles by the numbers of their colors.
 //! 4. [`plain`], [`dark`], [`light`], [`sixteen`]: the skins that are made.
@@ -15,6 +15,9 @@ pub mod page_skin;
 pub mod part_styles;
 pub mod plain;
 pub mod sixteen;
+pub mod text_room;
 
+pub use mad_rows::TitleStyles;
 pub use page_skin::PageSkin;
-pub use part_styles::{CodeStyles, TitleStyles};
+pub use part_styles::CodeStyles;
+pub use text_room::TextRoom;

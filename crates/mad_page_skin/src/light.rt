@@ -7,11 +7,12 @@ use crate::inks::{
     attributed, colored, colored_as, drawn, drawn_bar, headers_in, item_in, on, on_as,
 };
 use crate::page_skin::PageSkin;
-use crate::part_styles::{CodeStyles, TitleStyles};
+use crate::part_styles::CodeStyles;
 use crate::plain::plain_text;
+use crate::text_room::TextRoom;
 use mad_dressing::HeadingMarks;
 use mad_layout::MadSkin;
-use mad_rows::PageStyles;
+use mad_rows::{PageStyles, TitleStyles};
 use mad_style::{LineStyle, MAX_ORDERED_LIST_DEPTH};
 use mad_term::Attribute;
 
@@ -26,6 +27,7 @@ impl PageSkin {
             headings: HeadingMarks {
                 rules: 2,
                 signs: false,
+                words: false,
             },
             link: colored_as(26, Attribute::Underlined),
             sign: drawn(240, '▣'),
@@ -36,6 +38,7 @@ impl PageSkin {
             number: on_as(16, 221, Attribute::Bold),
             hit: on(16, 221),
             status: on(236, 251),
+            room: TextRoom::READABLE,
         }
     }
 }

@@ -5,10 +5,11 @@ ghost use Rattle.mad_layout.specs.RowSkins.{page_styles, row_skin};
 ghost use Rattle.mad_rows.specs.RowStyles.{with_links};
 ghost use Rattle.mad_page_skin.specs.PageSkins.{page_row_skin, page_skin_of};
 
-use crate::part_styles::{CodeStyles, TitleStyles};
+use crate::part_styles::CodeStyles;
+use crate::text_room::TextRoom;
 use mad_dressing::HeadingMarks;
 use mad_layout::MadSkin;
-use mad_rows::{PageStyles, RowSkin};
+use mad_rows::{PageStyles, RowSkin, TitleStyles};
 use mad_style::{CompoundStyle, StyledChar};
 use mad_term::Attribute;
 
@@ -22,7 +23,7 @@ pub struct PageSkin {
     pub text: MadSkin,
     /// How what a page shows beside its text looks.
     pub page: PageStyles,
-    /// Which headings have rules below, and which have signs in front.
+    /// Which headings have rules below, and which have signs in front; and whether marks stand at words.
     pub headings: HeadingMarks,
     /// What the text of a link adds to its line's style.
     pub link: CompoundStyle,
@@ -30,9 +31,9 @@ pub struct PageSkin {
     pub sign: StyledChar,
     /// What the words of a picture add to their line's style.
     pub picture: CompoundStyle,
-    /// What the heads of a table add to their line's style.
+    /// What the heads of a table add to bold text.
     pub head: CompoundStyle,
-    /// The words that say what an alert is.
+    /// What the words add to bold text that say what an alert is.
     pub titles: TitleStyles,
     /// The tones of code.
     pub code: CodeStyles,
@@ -42,11 +43,13 @@ pub struct PageSkin {
     pub hit: CompoundStyle,
     /// The last row of a pager.
     pub status: CompoundStyle,
+    /// The columns that a pager gives the text.
+    pub room: TextRoom,
 }
 
 impl PageSkin {
-    /// The skin of a page that looks as a skin of the smaller grammar does: links are underlined, where a flag of a compound adds anything, and
-    /// headings have neither rules nor signs.
+    /// The skin of a page that looks as a skin of the smaller grammar does: links are underlined, where a flag of a compound adds anything.
+    /// Headings have neither rules nor signs, and words no marks.
     pub fn of(text: &MadSkin) -> PageSkin
         ensures skin { result ≡ page_skin_of text.now }
         ensures rows { page_row_skin result ≡ with_links (record (row_skin text.now) { whole_words = true }) }
@@ -60,6 +63,7 @@ impl PageSkin {
             headings: HeadingMarks {
                 rules: 0,
                 signs: false,
+                words: false,
             },
             link: rows.link,
             sign: StyledChar::nude(PICTURE),
@@ -70,6 +74,7 @@ impl PageSkin {
             number: reversed,
             hit: reversed,
             status: reversed,
+            room: TextRoom::WHOLE,
         }
     }
 
@@ -81,6 +86,8 @@ impl PageSkin {
             link: self.link,
             whole_words: true,
             page: self.page,
+            head: self.head,
+            titles: self.titles,
             tones: self.code.tones(),
             ..self.text.row_skin()
         }

@@ -11,7 +11,8 @@ use mad_rows::PageStyles;
 use mad_style::{ROUNDED_TABLE_BORDER_CHARS, ScrollBarStyle, StyledChar};
 
 impl PageSkin {
-    /// The skin without styles: rules below the first two levels of headings, signs in front of all others. Code has no tones in it.
+    /// The skin without styles: rules below the first two levels of headings, signs in front of all others, and marks at words. Code has no tones
+    /// in it.
     pub fn plain() -> PageSkin
         ensures skin { result ≡ plain_skin }
         ensures toneless { (page_row_skin result).tones ≡ None }
@@ -21,6 +22,7 @@ impl PageSkin {
             headings: HeadingMarks {
                 rules: 2,
                 signs: true,
+                words: true,
             },
             ..PageSkin::of(&plain_text())
         }

@@ -5,11 +5,12 @@ ghost use Rattle.mad_page_skin.specs.SixteenSkins.{sixteen_code, sixteen_page_sk
 
 use crate::inks::{attributed, colored, colored_as, drawn, headers_in, item_in};
 use crate::page_skin::PageSkin;
-use crate::part_styles::{CodeStyles, TitleStyles};
+use crate::part_styles::CodeStyles;
 use crate::plain::plain_text;
+use crate::text_room::TextRoom;
 use mad_dressing::HeadingMarks;
 use mad_layout::MadSkin;
-use mad_rows::PageStyles;
+use mad_rows::{PageStyles, TitleStyles};
 use mad_style::{CompoundStyle, MAX_ORDERED_LIST_DEPTH, StyledChar};
 use mad_term::Attribute;
 
@@ -24,6 +25,7 @@ impl PageSkin {
             headings: HeadingMarks {
                 rules: 2,
                 signs: false,
+                words: false,
             },
             link: attributed(Attribute::Underlined),
             sign: drawn(6, '▣'),
@@ -34,6 +36,7 @@ impl PageSkin {
             number: attributed(Attribute::Reverse),
             hit: attributed(Attribute::Reverse),
             status: attributed(Attribute::Reverse),
+            room: TextRoom::READABLE,
         }
     }
 }

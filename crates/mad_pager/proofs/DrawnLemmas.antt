@@ -19,7 +19,7 @@ use Rattle.mad_measure.proofs.AllLemmas.{all_each}
 use Rattle.mad_edit_lines.specs.TextLines.{is_newline}
 use Rattle.mad_field.specs.Shown.{IsShowable}
 use Rattle.mad_draw.specs.DrawnRows.{AreRowsShown, FillArea}
-use Rattle.mad_draw.specs.Pieces.{IsColumnChar}
+use Rattle.mad_draw.specs.Pieces.{IsColumnChar, char_piece}
 use Rattle.mad_draw.proofs.CharLemmas.{single_columns, single_shown}
 use Rattle.mad_characters.proofs.CharColumns.{char_columns-ascii}
 use Rattle.mad_style.specs.CompoundStyles.{unstyled}
@@ -38,11 +38,12 @@ use Rattle.mad_page_skin.specs.declared.page_skin.PageSkin.{PageSkin}
 use Rattle.mad_rows.specs.declared.row_skin.RowSkin.{RowSkin}
 use Rattle.mad_hits.specs.FrontHits.{AreRowsMarked}
 use Rattle.mad_hits.specs.Panes.{ArePageRowsDrawn}
+use Rattle.mad_hits.specs.declared.rooms.RowRoom.{RowRoom}
 use Rattle.mad_pages.specs.declared.fronts.Front.{Front}
 use Rattle.mad_pager.proofs.PageFills.{text_fills}
 use Rattle.std.proofs.lemmas.Bool.{ltb-false}
 use Rattle.std.proofs.lemmas.Bool.Decides.{nat_tests}
-use Rattle.mad_pager.specs.Screens.{status_skin, is_small, area_of, bar_of, text_pane, field_pane, prompt_pane, prompt_row, status_pane, status_words, AreHitsDrawn, ArePanesDrawn, IsFieldShown, IsLineIn, IsStatusLine, AreLinesShown, IsFieldRow, IsLastRow, IsStatus, IsDrawing, IsPicture, IsTypingShown, IsStatusShown, IsFieldInRow, IsShowing, IsShown, IsUnshown, WritesStatus, question}
+use Rattle.mad_pager.specs.Screens.{status_skin, is_small, area_of, bar_of, text_pane, field_pane, prompt_pane, prompt_row, status_pane, status_words, AreHitsDrawn, ArePanesDrawn, IsFieldShown, IsLineIn, IsStatusLine, AreLinesShown, IsFieldRow, IsLastRow, IsStatus, IsDrawing, IsPicture, IsTypingShown, IsStatusShown, IsFieldInRow, IsShowing, IsShown, IsUnshown, WritesStatus, question, room_of}
 use Rattle.mad_pager.specs.Sessions.{State, paged_skin, field_row, last_row, prompt_cell, text_area}
 
 -- ---- what is shown
@@ -73,15 +74,18 @@ pub both_shown : (p q : Pane) (a b : List ℕ) → AreApart p.area q.area → Ar
 both_shown p q a b apart here there =
     panes_shown (p ∷ q ∷ []) (a ++ b) ((apart, tt), (tt, tt)) (a, b, refl, here, (b, [], sym (append-nil b), there, refl))
 
--- the slash fills its cell
-pub prompt_fills : (area : Area) (rows : ℕ) → area ≡ prompt_cell rows → FillArea prompt_row area
-prompt_fills area rows is y inside =
-    let slash = styled_char unstyled 47 in
-    let one : IsColumnChar 47 = record { scalar = refl; one = char_columns-ascii 47 (omega arith) (omega arith) } in
-    record { shown = single_shown slash 1 one; columns = single_columns slash 1 one ∙ sym (ap (λ (a : Area). a.width) is) }
+-- a sign of one column fills its cell
+sign_fills : (c : ℕ) (area : Area) (rows : ℕ) → IsColumnChar c → area ≡ prompt_cell rows → FillArea (λ y. char_piece (styled_char unstyled c) ∷ []) area
+sign_fills c area rows one is y inside =
+    let sign = styled_char unstyled c in record { shown = single_shown sign 1 one; columns = single_columns sign 1 one ∙ sym (ap (λ (a : Area). a.width) is) }
 
--- the slash and the field, drawn in turn
-pub typed_shown : (s : State) (a b : List ℕ) → AreRowsShown prompt_row (prompt_cell s.page.rows) a → IsFieldShown s b → IsFieldRow s (a ++ b)
+-- the sign before what is typed fills its cell
+pub prompt_fills : (back : Bool) (area : Area) (rows : ℕ) → area ≡ prompt_cell rows → FillArea (prompt_row back) area
+prompt_fills true area rows is = sign_fills 63 area rows (record { scalar = refl; one = char_columns-ascii 63 (omega arith) (omega arith) }) is
+prompt_fills false area rows is = sign_fills 47 area rows (record { scalar = refl; one = char_columns-ascii 47 (omega arith) (omega arith) }) is
+
+-- the sign and the field, drawn in turn
+pub typed_shown : (s : State) (a b : List ℕ) → AreRowsShown (prompt_row s.types_back) (prompt_cell s.page.rows) a → IsFieldShown s b → IsFieldRow s (a ++ b)
 typed_shown s a b prompt field wide row = (a, b, refl, prompt, (b, [], sym (append-nil b), field wide row, refl))
 
 -- whether two areas are the same, as it is tested
@@ -234,27 +238,28 @@ unshown_exit skin name asks s old new r e is h =
     subst (λ (t : Result Unit Error). MatchResult t (λ _. IsShown skin name asks s old new) (λ d. IsUnshown skin name asks s old d new)) (sym (p.1 ∙ ap Err p.2)) h
 
 -- the hits of the rows on the screen, along what is equal
-pub hits_along : (skin dress : RowSkin) (style : CompoundStyle) (width columns height rows top : ℕ) (text sought : List ℕ) (shown lines : List FmtLine) (front fronts : List Front) (given starts : List ℕ) (old new : Trace) → dress ≡ skin → width ≡ columns → height ≡ rows → text ≡ sought
-    → shown ≡ lines → front ≡ fronts → given ≡ starts → TookWith old new (AreRowsMarked dress style width text shown front given 0 (range_with_len top (min height (length shown - top))))
-    → TookWith old new (AreRowsMarked skin style columns sought lines fronts starts 0 (range_with_len top (min rows (length lines - top))))
-hits_along skin dress style width columns height rows top text sought shown lines front fronts given starts old new a b d e f g i h =
-    let of : RowSkin → ℕ → ℕ → List ℕ → List FmtLine → List Front → List ℕ → Type 0 = λ k n r s ls fs ts. TookWith old new (AreRowsMarked k style n s ls fs ts 0 (range_with_len top (min r (length ls - top)))) in
-    subst (λ (k : RowSkin). of k columns rows sought lines fronts starts) a
-    (subst (λ (n : ℕ). of dress n rows sought lines fronts starts) b
-    (subst (λ (r : ℕ). of dress width r sought lines fronts starts) d
-    (subst (λ (s : List ℕ). of dress width height s lines fronts starts) e
-    (subst (λ (ls : List FmtLine). of dress width height text ls fronts starts) f
-    (subst (λ (fs : List Front). of dress width height text shown fs starts) g (subst (λ (ts : List ℕ). of dress width height text shown front ts) i h))))))
+pub hits_along : (skin dress : RowSkin) (style : CompoundStyle) (given_room room : RowRoom) (height rows top : ℕ) (text sought : List ℕ) (shown lines : List FmtLine) (front fronts : List Front) (given starts : List ℕ) (old new : Trace) → dress ≡ skin → given_room ≡ room → height ≡ rows → text ≡ sought
+    → shown ≡ lines → front ≡ fronts → given ≡ starts → TookWith old new (AreRowsMarked dress style given_room text shown front given 0 (range_with_len top (min height (length shown - top))))
+    → TookWith old new (AreRowsMarked skin style room sought lines fronts starts 0 (range_with_len top (min rows (length lines - top))))
+hits_along skin dress style given_room room height rows top text sought shown lines front fronts given starts old new a b d e f g i h =
+    let of : RowSkin → RowRoom → ℕ → List ℕ → List FmtLine → List Front → List ℕ → Type 0 = λ k n r s ls fs ts. TookWith old new (AreRowsMarked k style n s ls fs ts 0 (range_with_len top (min r (length ls - top)))) in
+    subst (λ (k : RowSkin). of k room rows sought lines fronts starts) a
+    (subst (λ (n : RowRoom). of dress n rows sought lines fronts starts) b
+    (subst (λ (r : ℕ). of dress given_room r sought lines fronts starts) d
+    (subst (λ (s : List ℕ). of dress given_room height s lines fronts starts) e
+    (subst (λ (ls : List FmtLine). of dress given_room height text ls fronts starts) f
+    (subst (λ (fs : List Front). of dress given_room height text shown fs starts) g (subst (λ (ts : List ℕ). of dress given_room height text shown front ts) i h))))))
 
 -- the rows of the text beside its bar, along what is equal
-pub lines_along : (skin : PageSkin) (s : State) (dress : RowSkin) (bar : Option ScrollBar) (shown : List FmtLine) (front : List Front) (height : ℕ) (old new : Trace) → is_small s ≡ false → s.page.columns < 2 ^ 16 → dress ≡ paged_skin skin → bar ≡ bar_of skin s
-    → shown ≡ s.laid.lines.items → front ≡ s.laid.fronts.items → height ≡ s.page.rows - 1 → TookWith old new (ArePageRowsDrawn dress bar shown front s.page.top s.page.columns height) → TookWith old new (AreLinesShown skin s)
-lines_along skin s dress bar shown front height old new large narrow a b d e f h =
-    let of : RowSkin → Option ScrollBar → List FmtLine → List Front → ℕ → Type 0 = λ k bar ls fs n. TookWith old new (ArePageRowsDrawn k bar ls fs s.page.top s.page.columns n) in
+pub lines_along : (skin : PageSkin) (s : State) (dress : RowSkin) (bar : Option ScrollBar) (shown : List FmtLine) (front : List Front) (room : RowRoom) (height : ℕ) (old new : Trace) → is_small s ≡ false → s.page.columns < 2 ^ 16 → dress ≡ paged_skin skin → bar ≡ bar_of skin s
+    → shown ≡ s.laid.lines.items → front ≡ s.laid.fronts.items → room ≡ room_of skin s → height ≡ s.page.rows - 1 → TookWith old new (ArePageRowsDrawn dress bar shown front s.page.top room s.page.columns height) → TookWith old new (AreLinesShown skin s)
+lines_along skin s dress bar shown front room height old new large narrow a b d e i f h =
+    let of : RowSkin → Option ScrollBar → List FmtLine → List Front → RowRoom → ℕ → Type 0 = λ k bar ls fs r n. TookWith old new (ArePageRowsDrawn k bar ls fs s.page.top r s.page.columns n) in
     let lines = s.laid.lines.items in
     let fronts = s.laid.fronts.items in
-    took_so old new (ArePageRowsDrawn (paged_skin skin) (bar_of skin s) lines fronts s.page.top s.page.columns (s.page.rows - 1)) (AreLinesShown skin s) (λ text drawn keeps. drawn (text_fills skin s (not_small s large) narrow keeps))
-    (subst (λ (k : RowSkin). of k (bar_of skin s) lines fronts (s.page.rows - 1)) a
-    (subst (λ (x : Option ScrollBar). of dress x lines fronts (s.page.rows - 1)) b
-    (subst (λ (ls : List FmtLine). of dress bar ls fronts (s.page.rows - 1)) d
-    (subst (λ (fs : List Front). of dress bar shown fs (s.page.rows - 1)) e (subst (λ (n : ℕ). of dress bar shown front n) f h)))))
+    took_so old new (ArePageRowsDrawn (paged_skin skin) (bar_of skin s) lines fronts s.page.top (room_of skin s) s.page.columns (s.page.rows - 1)) (AreLinesShown skin s) (λ text drawn keeps. drawn (text_fills skin s (not_small s large) narrow keeps))
+    (subst (λ (k : RowSkin). of k (bar_of skin s) lines fronts (room_of skin s) (s.page.rows - 1)) a
+    (subst (λ (x : Option ScrollBar). of dress x lines fronts (room_of skin s) (s.page.rows - 1)) b
+    (subst (λ (ls : List FmtLine). of dress bar ls fronts (room_of skin s) (s.page.rows - 1)) d
+    (subst (λ (fs : List Front). of dress bar shown fs (room_of skin s) (s.page.rows - 1)) e
+    (subst (λ (r : RowRoom). of dress bar shown front r (s.page.rows - 1)) i (subst (λ (n : ℕ). of dress bar shown front room n) f h))))))

@@ -1,6 +1,5 @@
 -- What a session keeps, whatever events say.
-use Rattle.std.proofs.Common.{◌≡◌, ℕ, ◌+◌, ◌-◌, ◌*◌, ◌<◌, ◌==◌, Option, Some, None, inl, inr, Bool, true, false, List, [], ◌∷◌, ◌++◌, take, drop, nat_lt, length, min, refl, ap, sym, ◌∙◌, subst, arith, if◌then◌else◌}
-use Rattle.std.specs.Prelude.{encode_utf8_all}
+use Rattle.std.proofs.Common.{◌≡◌, ℕ, ◌+◌, ◌-◌, ◌*◌, ◌<◌, ◌==◌, Option, Some, None, inl, inr, Bool, true, false, List, [], ◌∷◌, ◌++◌, take, drop, nat_lt, length, min, refl, ap, sym, ◌∙◌, subst, arith, not, if◌then◌else◌}
 use Rattle.std.proofs.lemmas.List.{take-append-drop}
 use Rattle.std.proofs.lemmas.Bool.{cases_eq}
 use Rattle.std.proofs.lemmas.Bool.Decides.{nat_tests}
@@ -24,13 +23,13 @@ use Rattle.mad_field.specs.Edits.{Outcome, edited, edited_if, is_wide, moved_dow
 use Rattle.mad_field.specs.Keys.{key_outcome, moved_by, removal, selecting_if}
 use Rattle.mad_field.specs.Keys as keys
 use Rattle.mad_page.specs.PageKeys.{after_command, after_key, after_kind, command_of, moved}
-use Rattle.mad_page.specs.Pages.{in_sight, is_on_bar, shows_row}
+use Rattle.mad_page.specs.Pages.{begun_at, in_sight, is_on_bar, shows_row}
 use Rattle.mad_page.specs.declared.commands.Command.{Command}
-use Rattle.mad_page.specs.declared.commands.Command.TheVariants.{Moves, Counts, Colon, Asks}
+use Rattle.mad_page.specs.declared.commands.Command.TheVariants.{Moves, Counts, Colon, Tells, Asks}
 use Rattle.mad_page.specs.declared.commands.Motion.{Motion}
 use Rattle.mad_page.specs.declared.commands.Motion.TheVariants as motion
 use Rattle.mad_page.specs.declared.commands.Ask.{Ask}
-use Rattle.mad_page.specs.declared.commands.Ask.TheVariants.{Search, Next, Previous, NextHeader, PreviousHeader, Forget}
+use Rattle.mad_page.specs.declared.commands.Ask.TheVariants.{Search, SearchBack, Next, Previous, NextHeader, PreviousHeader, Forget}
 use Rattle.mad_search.specs.Headers.{next_header, previous_header}
 use Rattle.mad_pager.specs.declared.sizes.ScreenSize.{ScreenSize}
 use Rattle.mad_page.specs.declared.page.Files.{Files}
@@ -39,7 +38,7 @@ use Rattle.mad_pages.specs.declared.paged.PagedPage.{PagedPage}
 use Rattle.mad_page_skin.specs.declared.page_skin.PageSkin.{PageSkin}
 use Rattle.mad_pager.proofs.PagerSteps.{turn_after}
 use Rattle.mad_pager.specs.Screens.{IsFieldInRow, IsOrderly, TakeColumns}
-use Rattle.mad_pager.specs.Sessions.{State, at_found, at_header, IsAnyKeyStep, IsAsked, IsEventStep, IsKeyStep, IsLaidAnew, IsLaidFor, IsMovedTo, IsResized, IsSettled, IsStart, IsTypeStep, field_row, typed}
+use Rattle.mad_pager.specs.Sessions.{State, at_found, at_header, begun_search, pasted, pasted_code, seeking, wanted, IsAnyKeyStep, IsFound, IsAsked, IsEventStep, IsKeyStep, IsLaidAnew, IsLaidFor, IsMovedTo, IsResized, IsSettled, IsStart, IsTypeStep, field_row, typed}
 
 -- ---- what is typed
 
@@ -152,10 +151,11 @@ command_place : (command : Command) (p : Page) → IsSamePlace p (after_command 
 command_place (Moves motion) p = let h = motion_place motion p in record { columns = h.columns; rows = h.rows }
 command_place (Counts digit) p = record { columns = refl; rows = refl }
 command_place Colon p = record { columns = refl; rows = refl }
+command_place Tells p = record { columns = refl; rows = refl }
 command_place (Asks ask) p = record { columns = refl; rows = refl }
 
 key_place : (key : KeyEvent) (p : Page) → IsSamePlace p (after_key key p).page
-key_place key p = elim p.has_colon as (λ (b : Bool). IsSamePlace p (turn_after b key p).page) [ true ↦ record { columns = refl; rows = refl } | false ↦ command_place (command_of key) p ]
+key_place key p = elim p.has_colon as (λ (b : Bool). IsSamePlace p (turn_after b key p).page) [ true ↦ record { columns = refl; rows = refl } | false ↦ let h = command_place (command_of key) (record p { tells = false }) in record { columns = h.columns; rows = h.rows } ]
 
 mouse_place : (kind : MouseEventKind) (x y : ℕ) (p : Page) → IsSamePlace p (after_kind kind x y p)
 mouse_place (mouse.Down button.Left) x y p = either_place (is_on_bar p x y) p _ _ (record { columns = refl; rows = refl }) (record { columns = refl; rows = refl })
@@ -192,10 +192,20 @@ pub header_order : (skin : PageSkin) (text : List (List SectionContent)) (row : 
 header_order skin text None s new e h = same_order skin text s _ new e refl (still s.page) (stays s.field h.field.typed) h
 header_order skin text (Some row) s new e h = same_order skin text s _ new e refl (record { columns = refl; rows = refl }) (stays s.field h.field.typed) h
 
+-- on whatever way
+found_way : (skin : PageSkin) (text : List (List SectionContent)) (backward : Bool) (s new : State) → IsFound backward s new → IsOrderly skin text s → IsOrderly skin text new
+found_way skin text false s new (row, next, e) h = found_order skin text row s new e h
+found_way skin text true s new (row, previous, e) h = found_order skin text row s new e h
+
+-- nor does an empty field
+begun_order : (skin : PageSkin) (text : List (List SectionContent)) (backward : Bool) (s new : State) → new ≡ begun_search backward s → IsOrderly skin text s → IsOrderly skin text new
+begun_order skin text backward s new e h = subst (λ (x : State). IsOrderly skin text x) (sym e) (record { laid = h.laid; field = record { area = refl; typed = tt } })
+
 asked_order : (skin : PageSkin) (text : List (List SectionContent)) (ask : Ask) (s new : State) → IsAsked ask s new → IsOrderly skin text s → IsOrderly skin text new
-asked_order skin text Search s new e h = subst (λ (x : State). IsOrderly skin text x) (sym e) (record { laid = h.laid; field = record { area = refl; typed = tt } })
-asked_order skin text Next s new (row, next, e) h = found_order skin text row s new e h
-asked_order skin text Previous s new (row, previous, e) h = found_order skin text row s new e h
+asked_order skin text Search s new e h = begun_order skin text false s new e h
+asked_order skin text SearchBack s new e h = begun_order skin text true s new e h
+asked_order skin text Next s new step h = found_way skin text s.is_backward s new step h
+asked_order skin text Previous s new step h = found_way skin text (not s.is_backward) s new step h
 asked_order skin text NextHeader s new e h = header_order skin text (next_header s.laid.lines.items s.laid.starts.items s.page.top) s new e h
 asked_order skin text PreviousHeader s new e h = header_order skin text (previous_header s.laid.lines.items s.laid.starts.items s.page.top) s new e h
 asked_order skin text Forget s new e h = same_order skin text s _ new e refl (still s.page) (stays s.field h.field.typed) h
@@ -221,7 +231,7 @@ takes_some c e = grind (arith, nat_tests)
 
 type_order : (skin : PageSkin) (text : List (List SectionContent)) (code : KeyCode) (key : KeyEvent) (s new : State) → key.code ≡ code → IsTypeStep code key s new → IsOrderly skin text s → IsOrderly skin text new
 type_order skin text Enter key s new is step h =
-    asked_order skin text Next (record s { is_typing = false; sought = encode_utf8_all s.field.content.text; found = None }) new step (record { laid = h.laid; field = record { area = h.field.area; typed = h.field.typed } })
+    found_way skin text s.types_back (seeking (wanted s) s) new step (record { laid = h.laid; field = record { area = h.field.area; typed = h.field.typed } })
 type_order skin text Esc key s new is e h = same_order skin text s _ new e refl (still s.page) (stays s.field h.field.typed) h
 type_order skin text (Char c) key s new is e h =
     same_order skin text s _ new e refl (still s.page) (char_field c key s.field (char_columns c == 0) is (takes_some c) h.field.typed) h
@@ -240,6 +250,20 @@ type_order skin text PageUp key s new is e h = other_order skin text PageUp key 
 type_order skin text PageDown key s new is e h = other_order skin text PageDown key s new (λ c at. cc) is e h
 type_order skin text (F n) key s new is e h = other_order skin text (F n) key s new (λ c at. cc) is e h
 type_order skin text Null key s new is e h = other_order skin text Null key s new (λ c at. cc) is e h
+
+-- so does a key of a pasted text
+pasted_key_order : (skin : PageSkin) (text : List (List SectionContent)) (code : KeyCode) (key : KeyEvent) (s : State) → key.code ≡ code → IsOrderly skin text s → IsOrderly skin text (pasted_code code key s)
+pasted_key_order skin text (Char c) key s is h = type_order skin text (Char c) key s _ is refl h
+pasted_key_order skin text _ key s is h = h
+
+pasted_typing : (skin : PageSkin) (text : List (List SectionContent)) (key : KeyEvent) (s : State) (b : Bool) → IsOrderly skin text s → IsOrderly skin text (if b then pasted_code key.code key s else s)
+pasted_typing skin text key s true h = pasted_key_order skin text key.code key s refl h
+pasted_typing skin text key s false h = h
+
+-- and an event of one
+pub pasted_order : (skin : PageSkin) (text : List (List SectionContent)) (event : Event) (s : State) → IsOrderly skin text s → IsOrderly skin text (pasted event s)
+pasted_order skin text (Key key) s h = pasted_typing skin text key s s.is_typing h
+pasted_order skin text _ s h = h
 
 any_key_order : (skin : PageSkin) (text : List (List SectionContent)) (key : KeyEvent) (s new : State) (b : Bool) → s.is_typing ≡ b → IsAnyKeyStep key s new → IsOrderly skin text s → IsOrderly skin text new
 any_key_order skin text key s new true is step h = type_order skin text key.code key s new refl (step.typing is) h
@@ -298,6 +322,10 @@ event_order skin text (Mouse m) s new e h = same_order skin text s _ new e refl 
 event_order skin text (Resize columns rows) s new e h = heard_order skin text (nat_lt 1000000 (columns * rows)) columns rows s new e h
 event_order skin text FocusGained s new e h = same_order skin text s s new e refl (still s.page) (stays s.field h.field.typed) h
 event_order skin text FocusLost s new e h = same_order skin text s s new e refl (still s.page) (stays s.field h.field.typed) h
+
+-- so does a row that is put on top
+pub row_order : (skin : PageSkin) (text : List (List SectionContent)) (number : ℕ) (s : State) → IsOrderly skin text s → IsOrderly skin text (record s { page = begun_at number s.page })
+row_order skin text number s h = kept_order skin text s (record s { page = begun_at number s.page }) refl (record { columns = refl; rows = refl }) (stays s.field h.field.typed) h
 
 -- a session is so from its start on
 pub start_order : (skin : PageSkin) (text : List (List SectionContent)) (columns rows : ℕ) (files : Files) (s : State) → IsStart skin text columns rows files s → IsOrderly skin text s

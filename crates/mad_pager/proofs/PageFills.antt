@@ -9,11 +9,13 @@ use Rattle.std.proofs.lemmas.Grind.{flat_map-append}
 use Rattle.mad_measure.proofs.AllLemmas.{all_front, all_back, all_joined}
 use Rattle.mad_draw.specs.BarsApart.{FillBeside}
 use Rattle.mad_draw.specs.BesideBar.{columns_beside}
-use Rattle.mad_draw.specs.Pieces.{FillsRow, RowPiece}
+use Rattle.mad_draw.specs.Pieces.{FillsRow, IsShownPiece, RowPiece}
 use Rattle.mad_draw.specs.declared.scroll_bars.ScrollBar.{ScrollBar}
-use Rattle.mad_draw.proofs.PieceLemmas.{shown_spaces, spaces_columns}
+use Rattle.mad_draw.proofs.PieceLemmas.{columns-both, shown_spaces, spaces_columns}
 use Rattle.mad_format.specs.declared.line.FmtLine.{FmtLine}
 use Rattle.mad_hits.specs.FrontRows.{row_shown}
+use Rattle.mad_hits.specs.Rooms.{in_room, room_columns}
+use Rattle.mad_hits.specs.declared.rooms.RowRoom.{RowRoom}
 use Rattle.mad_page_skin.specs.declared.page_skin.PageSkin.{PageSkin}
 use Rattle.mad_rows.specs.RowStyles.{line_rules}
 use Rattle.mad_rows.specs.declared.row_skin.RowSkin.{RowSkin}
@@ -29,8 +31,10 @@ use Rattle.mad_page_rows.specs.FaceLaws.{AreFacesShown}
 use Rattle.mad_page_rows.specs.Faces.{blanks, has_ascii_boxes}
 use Rattle.mad_page_rows.specs.PageFits.{KeepsRoom, sections_at}
 use Rattle.mad_page_rows.proofs.FitLemmas.{AreDrawableBehind, IsDrawableBehind, row_fills, shown_drawable}
-use Rattle.mad_pager.specs.Screens.{KeepsTextPremises, area_of, bar_of, count_begun, text_columns, text_rows}
+use Rattle.mad_pager.specs.Screens.{KeepsTextPremises, area_of, bar_of, count_begun, room_of, text_rows}
+use Rattle.mad_pager.specs.Rooms.{room_width}
 use Rattle.mad_pager.specs.Sessions.{State, layout_width, paged_skin}
+use Rattle.mad_pager.proofs.RoomLemmas.{left_over, room_bounded, room_wider, three_wide}
 
 -- ---- rows by their numbers
 
@@ -109,13 +113,43 @@ begun_drawable skin width drawn end row (group ∷ page) rows ends three wider b
 
 -- ---- the screen
 
-wide_enough : (bar : Option ScrollBar) (width : ℕ) → width - 1 ≤ columns_beside bar width
-wide_enough None width = omega arith
-wide_enough (Some bar) width = omega arith
+-- the bar leaves all columns but one
+left_beside : (bar : Option ScrollBar) (width : ℕ) → width - 1 ≤ columns_beside bar width
+left_beside None width = omega arith
+left_beside (Some bar) width = omega arith
 
-narrow_enough : (bar : Option ScrollBar) (width : ℕ) → width < 2 ^ 16 → columns_beside bar width < 2 ^ 64 - 1
-narrow_enough None width h = omega (arith, h)
-narrow_enough (Some bar) width h = omega (arith, h)
+pub most_beside : (bar : Option ScrollBar) (width : ℕ) → columns_beside bar width ≤ width
+most_beside None width = omega arith
+most_beside (Some bar) width = omega arith
+
+-- the columns of the text's room
+abbrev pub text_columns : PageSkin → State → ℕ
+text_columns skin s = room_columns (room_of skin s)
+
+-- they are those that it has of what the bar leaves
+columns_are : (skin : PageSkin) (s : State) → text_columns skin s ≡ room_width skin.room s.page.columns (columns_beside (bar_of skin s) s.page.columns)
+columns_are skin s = omega arith
+
+wide_enough : (skin : PageSkin) (s : State) → layout_width skin.room s.page.columns ≤ text_columns skin s
+wide_enough skin s =
+    let is = columns_are skin s in
+    let more = room_wider skin.room s.page.columns (columns_beside (bar_of skin s) s.page.columns) (left_beside (bar_of skin s) s.page.columns) in
+    omega (arith, is, more)
+
+pub narrow_enough : (skin : PageSkin) (s : State) → s.page.columns < 2 ^ 16 → text_columns skin s < 2 ^ 16
+narrow_enough skin s narrow =
+    let is = columns_are skin s in
+    let fits = room_bounded skin.room s.page.columns (columns_beside (bar_of skin s) s.page.columns) in
+    let most = most_beside (bar_of skin s) s.page.columns in
+    omega (arith, is, fits, most, narrow)
+
+-- the room ends within what the bar leaves
+pub room_ends : (skin : PageSkin) (s : State) → 5 ≤ s.page.columns → (room_of skin s).end ≤ columns_beside (bar_of skin s) s.page.columns
+room_ends skin s wide =
+    let fits = room_bounded skin.room s.page.columns (columns_beside (bar_of skin s) s.page.columns) in
+    let left = left_over skin.room s.page.columns wide in
+    let beside = left_beside (bar_of skin s) s.page.columns in
+    omega (arith, fits, left, beside)
 
 -- the front of a row from one on
 pub front_behind : (fronts : List Front) (top y : ℕ) → front_at (drop top fronts) y ≡ front_at fronts (top + y)
@@ -130,19 +164,39 @@ pub drawable_on_screen : (skin : PageSkin) (s : State) (y : ℕ) (line : FmtLine
     → IsDrawableBehind (paged_skin skin) (text_columns skin s) (row_behind (front_at s.laid.fronts.items (s.page.top + y)) line)
 drawable_on_screen skin s y line wide narrow keeps inside is =
     let dress : RowSkin = paged_skin skin in
-    let width : ℕ = layout_width s.page.columns in
+    let width : ℕ = layout_width skin.room s.page.columns in
     let end : ℕ = s.page.top + (area_of s).height in
     let row : ℕ = s.page.top + y in
     let groups = keeps.laid.groups_begin in
-    begun_drawable dress width (text_columns skin s) end 0 keeps.page keeps.laid.rows groups.0 (omega (arith, wide)) (wide_enough (bar_of skin s) s.page.columns) (narrow_enough (bar_of skin s) s.page.columns narrow) keeps.faces groups.2
+    begun_drawable dress width (text_columns skin s) end 0 keeps.page keeps.laid.rows groups.0 (three_wide skin.room s.page.columns wide) (wide_enough skin s) (let short = narrow_enough skin s narrow in omega (arith, short)) keeps.faces groups.2
     (subst (λ (l : List ℕ). AllByRecursion (KeepsRoom dress width) (sections_at dress width (sections_in (take (count_by (λ start. nat_lt start end) l) keeps.page)))) groups.1 keeps.keeps) row
     (row_behind (front_at s.laid.fronts.items row) line) (rows_are (line_rules dress) (has_ascii_boxes dress) (Some width) keeps.page s.laid keeps.laid row line is) (omega (arith, inside))
 
+-- a row that fills its room fills the columns that the bar leaves
+room_fills : (skin : PageSkin) (s : State) (row : List RowPiece) → 5 ≤ s.page.columns → FillsRow (text_columns skin s) row → FillsRow (columns_beside (bar_of skin s) s.page.columns) (in_room (paged_skin skin) (room_of skin s) (columns_beside (bar_of skin s) s.page.columns) row)
+room_fills skin s row wide fills =
+    let dress : RowSkin = paged_skin skin in
+    let room : RowRoom = room_of skin s in
+    let all : ℕ = columns_beside (bar_of skin s) s.page.columns in
+    let before = blanks_fill dress room.left in
+    let behind = blanks_fill dress (all - room.end) in
+    let first = columns-both (blanks dress room.left) (row ++ blanks dress (all - room.end)) in
+    let rest = columns-both row (blanks dress (all - room.end)) in
+    let ends = room_ends skin s wide in
+    let one = before.columns in
+    let two = fills.columns in
+    let three = behind.columns in
+    record {
+      shown = all_joined IsShownPiece (blanks dress room.left) _ before.shown (all_joined IsShownPiece row _ fills.shown behind.shown);
+      columns = omega (arith, first, rest, ends, one, two, three);
+    }
+
 -- each row of the screen fills the columns that the bar leaves
 pub text_fills : (skin : PageSkin) (s : State) → 5 ≤ s.page.columns → s.page.columns < 2 ^ 16 → KeepsTextPremises skin s → FillBeside (bar_of skin s) (text_rows skin s) (area_of s)
-text_fills skin s wide narrow keeps = record { column = keeps.bar; rows = λ y inside. row_full y inside (slice_get (drop s.page.top s.laid.lines.items) y) refl }
+text_fills skin s wide narrow keeps = record { column = keeps.bar; rows = λ y inside. room_fills skin s _ wide (row_full y inside (slice_get (drop s.page.top s.laid.lines.items) y) refl) }
   where
-    row_full : (y : ℕ) → y < (area_of s).height → (o : Option FmtLine) → slice_get (drop s.page.top s.laid.lines.items) y ≡ o → FillsRow (columns_beside (bar_of skin s) (area_of s).width) (text_rows skin s y)
+    row_full : (y : ℕ) → y < (area_of s).height → (o : Option FmtLine) → slice_get (drop s.page.top s.laid.lines.items) y ≡ o
+        → FillsRow (text_columns skin s) (row_shown (paged_skin skin) (text_columns skin s) (front_at (drop s.page.top s.laid.fronts.items) y) (slice_get (drop s.page.top s.laid.lines.items) y))
     row_full y inside None is =
         subst (λ (o : Option FmtLine). FillsRow (text_columns skin s) (row_shown (paged_skin skin) (text_columns skin s) (front_at (drop s.page.top s.laid.fronts.items) y) o)) (sym is) (blanks_fill (paged_skin skin) (text_columns skin s))
     row_full y inside (Some line) is =

@@ -1,5 +1,5 @@
 -- The sessions of a pager stay orderly.
-use Rattle.std.proofs.Common.{◌≡◌, ℕ, List, Option, Some, None, ap, refl, sym, subst}
+use Rattle.std.proofs.Common.{◌≡◌, ℕ, List, Option, Some, None, option_map, ap, refl, sym, subst}
 use Rattle.std.specs.Prelude.{slice_index}
 use Rattle.mad_sections.specs.Sections.{SectionContent}
 use Rattle.mad_page_skin.specs.declared.page_skin.PageSkin.{PageSkin}
@@ -8,15 +8,15 @@ use Rattle.mad_term.specs.declared.events.Event.TheVariants.{Key, Mouse, Resize,
 use Rattle.mad_term.specs.declared.keys.KeyEvent.{KeyEvent}
 use Rattle.mad_page.specs.declared.page.Files.{Files}
 use Rattle.mad_pager.specs.Screens.{IsOrderly}
-use Rattle.mad_pager.specs.Sessions.{State, HasSameText, IsEventStep, IsSettled, hears_size, state_of}
+use Rattle.mad_pager.specs.Sessions.{State, HasSameText, IsEventStep, IsSettled, hears_size, pasted, state_of}
 use Rattle.mad_outline.specs.Sources.{Content, TextSaid, a_text, addresses, headers, content_page, content_of, said_of, source_page}
-use Rattle.mad_pager.specs.Pagers.{Leaf, View, IsAnswered, IsChoice, IsCovered, IsLeafSettled, IsLeafStep, IsOpened, IsOrderlyLeaf, IsOrderlyOver, IsOrderlyView, IsOverSettled, IsOverStart, IsPageStart, IsSameLeaf, IsStep, IsStepIn, IsViewSettled, contents_name, contents_page, header_row, help_name, help_page, hearing, leaf_page, leaf_of, links_name, links_page, over_answer, sighted}
+use Rattle.mad_pager.specs.Pagers.{Leaf, View, IsAnswered, IsChoice, IsCovered, IsLeafSettled, IsLeafStep, IsOpened, IsOrderlyLeaf, IsOrderlyOver, IsOrderlyView, IsOverSettled, IsOverStart, IsPageStart, IsSameLeaf, IsStep, IsStepIn, IsViewSettled, contents_name, contents_page, header_row, help_name, help_page, hearing, leaf_page, leaf_of, links_name, links_page, over_answer, sighted, begun, pasted_at, pasted_in, pasted_leaf}
 use Rattle.mad_pager.specs.declared.over.Answer.{Answer}
 use Rattle.mad_pager.specs.declared.over.Answer.TheVariants.{Closes, Takes, Chooses, Passes}
 use Rattle.mad_pager.specs.declared.session.Overlay.{Overlay}
 use Rattle.mad_pager.specs.declared.session.Overlay.TheVariants as overlay
 use Rattle.mad_pager.specs.declared.session.Session.{Session}
-use Rattle.mad_pager.proofs.OrderLemmas.{event_order, header_order, resized_order, settled_order, sight_order, start_order}
+use Rattle.mad_pager.proofs.OrderLemmas.{event_order, header_order, pasted_order, resized_order, row_order, settled_order, sight_order, start_order}
 
 -- ---- leaves
 
@@ -27,6 +27,20 @@ same_leaf old new h = record { skin = h.skin; name = h.name; content = ap conten
 -- a session of which only the state is another
 pub leaf_with : (old new : Session) (s : State) → HasSameText old new → state_of new ≡ s → leaf_of new ≡ record (leaf_of old) { state = s }
 leaf_with old new s h e = cc (h.skin, h.name, h.source, e)
+
+-- a key of a pasted text is typed on the page over the text, while one is open
+pub pasted_over : (event : Event) (over : Option Session) (page new : Session) (text : Leaf) → over ≡ Some page → HasSameText page new → state_of new ≡ pasted event (state_of page)
+    → record { text = text; over = Some (leaf_of new) } ≡ pasted_at (option_map leaf_of over) event text
+pasted_over event over page new text is same e =
+    subst (λ (o : Option Session). record { text = text; over = Some (leaf_of new) } ≡ pasted_at (option_map leaf_of o) event text) (sym is)
+    (ap (λ (l : Leaf). let v : View = record { text = text; over = Some l } in v) (leaf_with page new (pasted event (state_of page)) same e))
+
+-- it is typed on the text, while none is open
+pub pasted_below : (event : Event) (over : Option Session) (old new : Session) → over ≡ None → HasSameText old new → state_of new ≡ pasted event (state_of old)
+    → record { text = leaf_of new; over = option_map leaf_of over } ≡ pasted_at (option_map leaf_of over) event (leaf_of old)
+pasted_below event over old new is same e =
+    subst (λ (o : Option Session). record { text = leaf_of new; over = option_map leaf_of o } ≡ pasted_at (option_map leaf_of o) event (leaf_of old)) (sym is)
+    (ap (λ (l : Leaf). let v : View = record { text = l; over = None } in v) (leaf_with old new (pasted event (state_of old)) same e))
 
 -- a session that was laid out anew
 pub settled_leaf : (old new : Session) → HasSameText old new → IsSettled old.skin.now (source_page old.source) (state_of old) (state_of new) → IsLeafSettled (leaf_of old) (leaf_of new)
@@ -105,6 +119,17 @@ step_in_order (Some over) event text new step h k = answered_order (over_answer 
 pub step_order : (event : Event) (old new : View) → IsStep event old new → IsOrderlyView old → IsOrderlyView new
 step_order event old new step h = step_in_order old.over event old.text new step h.text h.over
 
+pasted_leaf_order : (event : Event) (l : Leaf) → IsOrderlyLeaf l → IsOrderlyLeaf (pasted_leaf event l)
+pasted_leaf_order event l h = pasted_order l.skin (leaf_page l) event l.state h
+
+pasted_at_order : (over : Option Leaf) (event : Event) (text : Leaf) → IsOrderlyLeaf text → IsOrderlyOver over → IsOrderlyView (pasted_at over event text)
+pasted_at_order None event text h k = record { text = pasted_leaf_order event text h; over = tt }
+pasted_at_order (Some over) event text h k = record { text = h; over = pasted_leaf_order event over k }
+
+-- so does an event of a pasted text
+pub pasted_view_order : (event : Event) (v : View) → IsOrderlyView v → IsOrderlyView (pasted_in event v)
+pasted_view_order event v h = pasted_at_order v.over event v.text h.text h.over
+
 settled_leaf_order : (old new : Leaf) → IsLeafSettled old new → IsOrderlyLeaf old → IsOrderlyLeaf new
 settled_leaf_order old new h k = order_at old.skin old.content new h.same.skin h.same.content (settled_order old.skin (leaf_page old) old.state new.state h.settled k)
 
@@ -128,3 +153,7 @@ opened_order skin name text columns rows files v h = record {
   text = order_at skin (a_text text) v.text h.dress h.content (start_order skin text.shown columns rows files v.text.state h.start);
   over = subst IsOrderlyOver (sym h.over) tt;
 }
+
+-- and where a row is put on top
+pub begun_order : (number : ℕ) (v : View) → IsOrderlyView v → IsOrderlyView (begun number v)
+begun_order number v h = record { text = row_order v.text.skin (leaf_page v.text) number v.text.state h.text; over = h.over }

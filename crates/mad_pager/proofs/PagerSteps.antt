@@ -52,7 +52,8 @@ key_answer key typing choice = if typing then Passes else key_over key choice
 
 -- a page after a key, by whether a colon was typed
 abbrev pub turn_after : Bool → KeyEvent → Page → page.Turn
-turn_after colon key p = if colon then record { page = record p { has_colon = false }; ask = file_ask p.files key } else after_command (command_of key) p
+turn_after colon key p =
+    if colon then record { page = record p { has_colon = false; tells = false }; ask = file_ask p.files key } else after_command (command_of key) (record p { tells = false })
 
 -- ---- pages
 

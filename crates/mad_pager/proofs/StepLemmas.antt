@@ -20,11 +20,10 @@ use Rattle.mad_page_skin.specs.declared.page_skin.PageSkin.{PageSkin}
 use Rattle.mad_rows.specs.RowStyles.{line_rules}
 use Rattle.mad_page.specs.PageKeys.{after_key}
 use Rattle.mad_page.specs.declared.commands.Ask.{Ask}
-use Rattle.mad_page.specs.declared.commands.Ask.TheVariants.{Next}
 use Rattle.mad_page.specs.declared.page.Page.{Page}
 use Rattle.mad_search.specs.Searches.{IsNextRowIn, IsPreviousRowIn}
-use Rattle.mad_pager.specs.Screens.{sought_words}
-use Rattle.mad_pager.specs.Sessions.{State, IsAsked, IsKeyStep, IsLaidAnew, IsLaidFor, IsMovedTo, IsResized, paged_skin}
+use Rattle.mad_pager.specs.Screens.{sought_sign, sought_words}
+use Rattle.mad_pager.specs.Sessions.{State, seeking, IsAsked, IsFound, IsKeyStep, IsLaidAnew, IsLaidFor, IsMovedTo, IsResized, layout_width, paged_skin}
 use Rattle.mad_pager.specs.declared.sizes.ScreenSize.{ScreenSize}
 
 -- a key that asks for something
@@ -33,8 +32,11 @@ asked_step key s page ask new same is h =
     subst (λ (a : Ask). IsAsked a (record s { page = (after_key key s.page).page }) new) is (subst (λ (p : Page). IsAsked ask (record s { page = p }) new) same h)
 
 -- what was typed is sought
-pub sought_step : (s new : State) (bytes text : List ℕ) → bytes ≡ text → IsAsked Next (record s { is_typing = false; sought = bytes; found = None }) new → IsAsked Next (record s { is_typing = false; sought = text; found = None }) new
-sought_step s new bytes text e h = subst (λ (b : List ℕ). IsAsked Next (record s { is_typing = false; sought = b; found = None }) new) e h
+pub sought_step : (s new : State) (backward : Bool) (bytes copy text : List ℕ) → bytes ≡ text → copy ≡ bytes
+    → IsFound backward (record s { is_typing = false; sought = bytes; is_backward = s.types_back; last = copy; found = None }) new → IsFound backward (seeking text s) new
+sought_step s new backward bytes copy text e same h =
+    subst (λ (b : List ℕ). IsFound backward (seeking b s) new) e
+    (subst (λ (b : List ℕ). IsFound backward (record s { is_typing = false; sought = bytes; is_backward = s.types_back; last = b; found = None }) new) same h)
 
 -- the next row, along what is equal
 pub same_next : (a b : List ℕ) (l m : List FmtLine) (t u : List ℕ) (from to : ℕ) (row : Option ℕ) → a ≡ b → l ≡ m → t ≡ u → from ≡ to → IsNextRowIn a l t from row → IsNextRowIn b m u to row
@@ -47,7 +49,7 @@ same_previous a b l m t u end to row e k i f h =
     subst (λ (n : ℕ). IsPreviousRowIn b m u n row) f (subst (λ (y : List ℕ). IsPreviousRowIn b m y end row) i (subst (λ (x : List FmtLine). IsPreviousRowIn b x t end row) k (subst (λ (x : List ℕ). IsPreviousRowIn x l t end row) e h)))
 
 -- a text laid out at the width of a screen is so for the screen
-pub laid_at : (skin : PageSkin) (page : List (List SectionContent)) (columns width : ℕ) (dress : RowSkin) (ascii : Bool) (laid : PagedPage) → dress ≡ paged_skin skin → ascii ≡ has_ascii_boxes dress → width ≡ columns - 1 → IsPagedAt (line_rules dress) ascii (Some width) page laid
+pub laid_at : (skin : PageSkin) (page : List (List SectionContent)) (columns width : ℕ) (dress : RowSkin) (ascii : Bool) (laid : PagedPage) → dress ≡ paged_skin skin → ascii ≡ has_ascii_boxes dress → width ≡ layout_width skin.room columns → IsPagedAt (line_rules dress) ascii (Some width) page laid
     → IsLaidFor skin page columns laid
 laid_at skin page columns width dress ascii laid dressed boxes e h =
     subst (λ (n : ℕ). IsPagedAt (line_rules (paged_skin skin)) (has_ascii_boxes (paged_skin skin)) (Some n) page laid) e
@@ -75,7 +77,7 @@ fitted_along rules align width columns before fitted after a w same h =
     rw same (subst (λ (n : ℕ). IsCompositeFitted rules Left n before fitted) w (subst (λ (x : Alignment). IsCompositeFitted rules x width before fitted) a h))
 
 -- what is said of what is sought and wasn't found
-pub said_missing : (words sought : List ℕ) (b : Bool) → b ≡ (length sought == 0) → b ≡ false → words ++ codes "  /" ++ sought ++ codes "  not found" ≡ words ++ sought_words true sought
-said_missing words [] b is h = let e : true ≡ false = sym is ∙ h in absurd (cc)
-said_missing words (c ∷ cs) b is h =
-    ap (λ (l : List ℕ). l ++ codes "  not found") (append_assoc words (codes "  /") (c ∷ cs)) ∙ append_assoc words (codes "  /" ++ (c ∷ cs)) (codes "  not found")
+pub said_missing : (words sought : List ℕ) (back b : Bool) → b ≡ (length sought == 0) → b ≡ false → words ++ sought_sign back ++ sought ++ codes "  not found" ≡ words ++ sought_words back true sought
+said_missing words [] back b is h = let e : true ≡ false = sym is ∙ h in absurd (cc)
+said_missing words (c ∷ cs) back b is h =
+    ap (λ (l : List ℕ). l ++ codes "  not found") (append_assoc words (sought_sign back) (c ∷ cs)) ∙ append_assoc words (sought_sign back ++ (c ∷ cs)) (codes "  not found")

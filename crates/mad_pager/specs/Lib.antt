@@ -1,5 +1,6 @@
 pub mod Pagers
 pub mod Pictures
+pub mod Rooms
 pub mod ScreenLaws
 pub mod Screens
 pub mod Sessions

@@ -4,8 +4,8 @@ use Rattle.std.specs.List.{flat_map}
 use Rattle.mad_sections.specs.Sections.{SectionContent}
 use Rattle.mad_page_skin.specs.declared.page_skin.PageSkin.{PageSkin}
 use Rattle.mad_page.specs.PageKeys.{after_key, command_of, is_break, uncounted}
-use Rattle.mad_page.specs.Pages.{body_rows, in_sight}
-use Rattle.mad_page.specs.declared.commands.Ask.TheVariants.{Forget, Help, Links, Contents, Quit}
+use Rattle.mad_page.specs.Pages.{begun_at, body_rows, in_sight}
+use Rattle.mad_page.specs.declared.commands.Ask.TheVariants.{Forget, Help, Links, Contents, Reload, Edit, Quit}
 use Rattle.mad_page.specs.declared.commands.Command.{Command}
 use Rattle.mad_page.specs.declared.commands.Command.TheVariants.{Asks, Moves}
 use Rattle.mad_page.specs.declared.page.Files.{Files}
@@ -20,7 +20,7 @@ use Rattle.mad_term.specs.declared.keys.KeyCode.TheVariants.{Enter}
 use Rattle.mad_term.specs.declared.keys.KeyEvent.{KeyEvent}
 use Rattle.markdown_reader.specs.MarkdownSays.{LinkSaid}
 use Rattle.mad_pager.specs.Screens.{IsOrderly, IsShown, IsUnshown}
-use Rattle.mad_pager.specs.Sessions.{State, IsEventStep, IsResized, IsSettled, IsStart, at_header, hears, opens, state_of, turn_of}
+use Rattle.mad_pager.specs.Sessions.{State, IsEventStep, IsResized, IsSettled, IsStart, at_header, hears, opens, pasted, state_of, turn_of}
 use Rattle.mad_outline.specs.Sources.{Content, LinksIn, TextSaid, a_text, addresses, headers, content_page, content_of, count_below, header_numbers, next, plain_said, said_of}
 use Rattle.mad_pager.specs.declared.over.Answer.{Answer}
 use Rattle.mad_pager.specs.declared.over.Answer.TheVariants.{Closes, Takes, Chooses, Passes}
@@ -75,6 +75,10 @@ pub record IsOpened (skin : PageSkin) (name : List ℕ) (text : TextSaid) (colum
   pub start : IsStart skin text.shown columns rows files v.text.state
   pub over : v.over ≡ None
 
+-- the same with the row of this number on top, counted from 1, or the text's last one; for 0 the first
+abbrev pub begun : ℕ → View → View
+begun number v = record v { text = record v.text { state = record v.text.state { page = begun_at number v.text.state.page } } }
+
 -- ---- what events do on a text
 
 -- the text, its name and its skin stay
@@ -117,7 +121,7 @@ abbrev pub help_lines : List (List ℕ)
 help_lines =
     codes "# Keys" ∷
     [] ∷
-    codes "These close this page: **q**, **Esc**, **?** and **h**." ∷
+    codes "**q**, **Esc** and **h** close this page, and **space** shows its rest." ∷
     [] ∷
     codes "|:-|:-|" ∷
     codes "|**keys**|**what they do**|" ∷
@@ -129,14 +133,17 @@ help_lines =
     codes "|d, u|half a page on, and back|" ∷
     codes "|g, Home; G, End|the start; the end|" ∷
     codes "|a number|before j or k: so many rows; before g: that row|" ∷
+    codes "|%|behind a number: to that per cent|" ∷
+    codes "|=|tells the row, how many there are, and the per cent|" ∷
     codes "|}, ]; {, [|the next header; the one before|" ∷
     codes "|t|the contents: j and k choose a header, Enter goes there|" ∷
-    codes "|/|asks for a text: Enter seeks it, Esc gives it up|" ∷
+    codes "|/; ?|asks for a text, to seek it on or back: Enter, or Esc|" ∷
     codes "|n, N|the next row that has it; the one before|" ∷
-    codes "|Esc|forgets it|" ∷
+    codes "|Esc, Alt-U|forgets it|" ∷
     codes "|l|the addresses of the links on the screen|" ∷
     codes "|:n, :p|the next file; the one before|" ∷
-    codes "|?, h|this page|" ∷
+    codes "|R; v|reads the file again; opens an editor of it here|" ∷
+    codes "|h, F1|this page|" ∷
     codes "|Control-L|draws anew|" ∷
     codes "|Control-Z|stops; fg brings it back|" ∷
     codes "|q, Control-C|ends|" ∷
@@ -211,13 +218,15 @@ is_enter_code code = false
 abbrev pub is_enter : KeyEvent → Bool
 is_enter key = key.modifiers.0 == 0 && is_enter_code key.code
 
--- `q`, Esc, and the keys that open a page, close it; those that scroll choose a header, where one is chosen
+-- `q`, Esc, and the keys that open a page, or read the file anew, close it; those that scroll choose a header, where one is chosen
 abbrev pub command_over : KeyEvent → Bool → Command → Answer
 command_over key choice (Asks Quit) = Closes
 command_over key choice (Asks Forget) = Closes
 command_over key choice (Asks Help) = Closes
 command_over key choice (Asks Links) = Closes
 command_over key choice (Asks Contents) = Closes
+command_over key choice (Asks Reload) = Closes
+command_over key choice (Asks Edit) = Closes
 command_over key choice (Moves motion) = if choice then Chooses key else Passes
 command_over key choice command = Passes
 
@@ -233,7 +242,7 @@ over_answer event over = Passes
 -- the header that is chosen after a key: each has one row of a page that shows one row
 abbrev pub choice_after : KeyEvent → State → ℕ → ℕ
 choice_after key s chosen =
-    (after_key key (record { columns = s.page.columns; rows = 2; height = length s.laid.starts.items - 1; top = chosen; count = s.page.count; holds_bar = false; has_colon = false; files = s.page.files })).page.top
+    (after_key key (record { columns = s.page.columns; rows = 2; height = length s.laid.starts.items - 1; top = chosen; count = s.page.count; holds_bar = false; has_colon = false; tells = false; files = s.page.files })).page.top
 
 -- the content after a key that chooses: another header is chosen, where it has headers
 abbrev pub content_chosen : KeyEvent → State → Content → Content
@@ -332,6 +341,21 @@ turn_at (Some over) event text = turn_over event over
 -- how it goes on after an event
 abbrev pub turn_in : Event → View → Turn
 turn_in event v = turn_at v.over event v.text
+
+-- ---- what is pasted
+
+-- what an event of a pasted text does on it
+abbrev pub pasted_leaf : Event → Leaf → Leaf
+pasted_leaf event l = record l { state = pasted event l.state }
+
+-- what it does on a text, or on the page over it, while one is open
+abbrev pub pasted_at : Option Leaf → Event → Leaf → View
+pasted_at None event text = record { text = pasted_leaf event text; over = None }
+pasted_at (Some over) event text = record { text = text; over = Some (pasted_leaf event over) }
+
+-- what it does
+abbrev pub pasted_in : Event → View → View
+pasted_in event v = pasted_at v.over event v.text
 
 -- ---- sizes
 

@@ -7,14 +7,14 @@ use Rattle.mad_page_rows.specs.FaceLaws.{fronts}
 use Rattle.mad_pages.specs.Fronts.{front_at}
 use Rattle.mad_wrap.specs.WrapLines.{capped}
 use Rattle.mad_page_skin.specs.declared.page_skin.PageSkin.{PageSkin}
-use Rattle.mad_pager.specs.Screens.{AreHitsDrawn, KeepsTextPremises, is_small, rows_shown, text_columns, text_rows}
+use Rattle.mad_pager.specs.Screens.{AreHitsDrawn, KeepsTextPremises, is_small, room_of, rows_shown, text_rows}
 use Rattle.mad_pager.specs.Sessions.{State, paged_skin}
 
 -- each of the hits that these bytes show, from row y of the screen on, stands in the text's row there
-abbrev pub StandOnScreen : (skin : PageSkin) (s : State) (y : ℕ) (rows bytes : List ℕ) → AreRowsMarked (paged_skin skin) skin.hit (text_columns skin s) s.sought s.laid.lines.items s.laid.fronts.items s.laid.parts.items y rows bytes → Type 0
+abbrev pub StandOnScreen : (skin : PageSkin) (s : State) (y : ℕ) (rows bytes : List ℕ) → AreRowsMarked (paged_skin skin) skin.hit (room_of skin s) s.sought s.laid.lines.items s.laid.fronts.items s.laid.parts.items y rows bytes → Type 0
 StandOnScreen skin s y [] bytes marked = Unit {0}
 StandOnScreen skin s y (row ∷ rows) bytes marked =
-    AllByRecursion (StandsWithin (text_columns skin s) (text_rows skin s y)) (map (hit_behind skin.hit (capped (fronts (paged_skin skin) (front_at s.laid.fronts.items row).gutters))) marked.3.hits) × StandOnScreen skin s (y + 1) rows marked.1 marked.4
+    AllByRecursion (StandsWithin (room_of skin s).end (text_rows skin s y)) (map (hit_behind skin.hit (capped ((room_of skin s).left + fronts (paged_skin skin) (front_at s.laid.fronts.items row).gutters))) marked.3.hits) × StandOnScreen skin s (y + 1) rows marked.1 marked.4
 
 -- Marking what is sought changes no character of any cell: each hit that is drawn stands in the text's row that is drawn there.
 abbrev pub ScreenHitsStand : Type 0

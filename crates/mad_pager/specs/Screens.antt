@@ -17,11 +17,13 @@ use Rattle.mad_format.specs.declared.line.FmtLine.TheVariants.{Normal}
 use Rattle.mad_wrap.specs.WrapLines.{capped}
 use Rattle.mad_hits.specs.FrontHits.{AreRowsMarked}
 use Rattle.mad_hits.specs.Panes.{page_rows}
+use Rattle.mad_hits.specs.declared.rooms.RowRoom.{RowRoom}
 use Rattle.mad_page_rows.specs.FaceLaws.{AreFacesShown}
 use Rattle.mad_page_rows.specs.PageFits.{KeepsRoom, sections_at}
 use Rattle.mad_pages.specs.PagedPages.{sections_in}
 use Rattle.mad_rows.specs.RowStyles.{line_rules}
-use Rattle.mad_page.specs.Pages.{percent}
+use Rattle.mad_page.specs.declared.page.Page.{Page}
+use Rattle.mad_page.specs.Pages.{percent, row_number}
 use Rattle.mad_search.specs.Searches.{composite_text}
 use Rattle.mad_term.specs.Draws.{DrawsSome}
 use Rattle.mad_term.specs.Trace.{Trace, after, flushed, CutShort}
@@ -45,6 +47,7 @@ use Rattle.mad_page_skin.specs.declared.page_skin.PageSkin.{PageSkin}
 use Rattle.mad_rows.specs.declared.row_skin.RowSkin.{RowSkin}
 use Rattle.std.specs.List.{AllByRecursion}
 use Rattle.mad_characters.specs.Columns.{char_columns}
+use Rattle.mad_pager.specs.Rooms.{room_on}
 use Rattle.mad_pager.specs.Sessions.{State, IsLaidFor, paged_skin, field_row, last_row, layout_width, prompt_cell, text_area}
 
 -- a screen that shows nothing: it has under five columns or under two rows
@@ -59,13 +62,13 @@ area_of s = text_area s.page.columns s.page.rows
 abbrev pub bar_of : PageSkin → State → Option ScrollBar
 bar_of skin s = bar_beside (area_of s) s.page.top (length s.laid.lines.items) skin.text.scrollbar
 
--- the columns that the bar leaves to the text, if there is a bar
-abbrev pub text_columns : PageSkin → State → ℕ
-text_columns skin s = columns_beside (bar_of skin s) (area_of s).width
+-- where the text's rows are, in the columns that the bar leaves, if there is a bar
+abbrev pub room_of : PageSkin → State → RowRoom
+room_of skin s = room_on skin.room s.page.columns (columns_beside (bar_of skin s) (area_of s).width)
 
--- the text's rows from the top one on, in these columns
+-- the text's rows from the top one on, each in that room
 abbrev pub text_rows : PageSkin → State → ℕ → List RowPiece
-text_rows skin s = page_rows (paged_skin skin) (bar_of skin s) s.laid.lines.items s.laid.fronts.items s.page.top (area_of s).width
+text_rows skin s = page_rows (paged_skin skin) (bar_of skin s) s.laid.lines.items s.laid.fronts.items s.page.top (room_of skin s) (area_of s).width
 
 -- the text's rows beside the bar
 abbrev pub text_pane : PageSkin → State → Pane
@@ -79,13 +82,13 @@ status_area s = last_row s.page.columns s.page.rows
 abbrev pub status_pane : RowSkin → FmtLine → State → Pane
 status_pane skin line s = record { area = status_area s; row = area_row skin None (line ∷ []) (status_area s) 0 }
 
--- the slash before what is being typed
-abbrev pub prompt_row : ℕ → List RowPiece
-prompt_row y = char_piece (styled_char unstyled 47) ∷ []
+-- the sign before what is being typed: a slash (47), or, backwards, a question mark (63)
+abbrev pub prompt_row : Bool → ℕ → List RowPiece
+prompt_row backward y = char_piece (styled_char unstyled (if backward then 63 else 47)) ∷ []
 
--- that slash, in the first cell of the last row
+-- that sign, in the first cell of the last row
 abbrev pub prompt_pane : State → Pane
-prompt_pane s = record { area = prompt_cell s.page.rows; row = prompt_row }
+prompt_pane s = record { area = prompt_cell s.page.rows; row = prompt_row s.types_back }
 
 -- what is being typed, in the last row
 abbrev pub field_pane : State → Pane
@@ -93,16 +96,26 @@ field_pane s = record { area = s.field.area; row = row_pieces s.field }
 
 -- ---- the status
 
--- what is said of what is sought, where anything is; where the last search found no row, that too
-abbrev pub sought_words : Bool → List ℕ → List ℕ
-sought_words missing [] = []
-sought_words missing (c ∷ cs) = codes "  /" ++ (c ∷ cs) ++ (if missing then codes "  not found" else [])
+-- what stands before what is sought, backwards or not
+abbrev pub sought_sign : Bool → List ℕ
+sought_sign backward = if backward then codes "  ?" else codes "  /"
 
--- what the status says: how much of the text was shown, its name, what is sought, and whether it wasn't found; after a colon that alone
+-- what is said of what is sought, backwards or not, where anything is; where the last search found no row, that too
+abbrev pub sought_words : Bool → Bool → List ℕ → List ℕ
+sought_words backward missing [] = []
+sought_words backward missing (c ∷ cs) = sought_sign backward ++ (c ∷ cs) ++ (if missing then codes "  not found" else [])
+
+-- where in the text the page is, if that is to be told: the number of the row on top, and how many rows there are
+abbrev pub place_words : Page → List ℕ
+place_words page = if page.tells then codes "row " ++ decimal (row_number page) ++ codes " of " ++ decimal page.height ++ codes "  " else []
+
+-- what the status says: where the page is, if that is to be told, how much of the text was shown, its name, what is sought, and whether it wasn't found;
+-- after a colon that alone, and after digits their number
 abbrev pub status_words : List ℕ → State → List ℕ
 status_words name s =
     if s.page.has_colon then codes ":"
-    else decimal (percent s.page) ++ codes "%  " ++ name ++ sought_words s.is_missing s.sought
+    else if nat_lt 0 s.page.count then decimal s.page.count
+    else place_words s.page ++ decimal (percent s.page) ++ codes "%  " ++ name ++ sought_words s.is_backward s.is_missing s.sought
 
 -- the skin of the status: no style but this one, which its characters have
 abbrev pub status_skin : CompoundStyle → MadSkin
@@ -173,7 +186,7 @@ count_begun s = count_by (λ start. nat_lt start (s.page.top + (area_of s).heigh
 pub record KeepsTextPremises (skin : PageSkin) (s : State) : Type 0 where
   pub page : List (List SectionContent)
   pub laid : IsLaidFor skin page s.page.columns s.laid
-  pub keeps : AllByRecursion (KeepsRoom (paged_skin skin) (layout_width s.page.columns)) (sections_at (paged_skin skin) (layout_width s.page.columns) (sections_in (take (count_begun s) page)))
+  pub keeps : AllByRecursion (KeepsRoom (paged_skin skin) (layout_width skin.room s.page.columns)) (sections_at (paged_skin skin) (layout_width skin.room s.page.columns) (sections_in (take (count_begun s) page)))
   pub faces : AreFacesShown (paged_skin skin)
   pub bar : IfSome (bar_of skin s) (IsBarShown (area_of s).width)
 
@@ -186,7 +199,7 @@ AreLinesShown skin s bytes = KeepsTextPremises skin s → AreShownBeside (bar_of
 abbrev pub IsFieldShown : State → List ℕ → Type 0
 IsFieldShown s bytes = 1 < s.page.columns → IsFieldInRow s → AreRowsShown (row_pieces s.field) s.field.area bytes
 
--- these bytes show the slash, and what is being typed after it, on a screen that has columns for both
+-- these bytes show the sign, and what is being typed after it, on a screen that has columns for both
 abbrev pub IsFieldRow : State → List ℕ → Type 0
 IsFieldRow s bytes = 1 < s.page.columns → IsFieldInRow s → ShowsEach (prompt_pane s ∷ field_pane s ∷ []) bytes
 
@@ -195,7 +208,7 @@ pub record IsLastRow (skin : PageSkin) (name : List ℕ) (s : State) (bytes : Li
   pub typing : s.is_typing ≡ true → IsFieldRow s bytes
   pub status : s.is_typing ≡ false → IsStatus skin name s bytes
 
--- These bytes show a session while something is being typed: the text from its top row on, its bar, and in the last row a slash and the field. Every
+-- These bytes show a session while something is being typed: the text from its top row on, its bar, and in the last row its sign and the field. Every
 -- other cell is as before.
 abbrev pub IsTypingShown : PageSkin → State → List ℕ → Type 0
 IsTypingShown skin s bytes = KeepsTextPremises skin s → IsFieldInRow s → ArePanesShown (text_pane skin s ∷ prompt_pane s ∷ field_pane s ∷ []) bytes
@@ -221,9 +234,9 @@ pub record ArePanesDrawn (skin : PageSkin) (name : List ℕ) (s : State) (bytes 
 abbrev pub rows_shown : State → List ℕ
 rows_shown s = range_with_len s.page.top (min (area_of s).height (length s.laid.lines.items - s.page.top))
 
--- these bytes mark what is sought in these rows, which have the columns that the text is drawn in, by the style of hits
+-- these bytes mark what is sought in these rows, which are in the room that the text is drawn in, by the style of hits
 abbrev pub AreHitsDrawn : PageSkin → State → List ℕ → Type 0
-AreHitsDrawn skin s bytes = AreRowsMarked (paged_skin skin) skin.hit (text_columns skin s) s.sought s.laid.lines.items s.laid.fronts.items s.laid.parts.items 0 (rows_shown s) bytes
+AreHitsDrawn skin s bytes = AreRowsMarked (paged_skin skin) skin.hit (room_of skin s) s.sought s.laid.lines.items s.laid.fronts.items s.laid.parts.items 0 (rows_shown s) bytes
 
 -- These bytes show a session: first the text and the last row, and then, over the text, what is sought. Each byte of a hit is written in the cells of
 -- the hit alone.

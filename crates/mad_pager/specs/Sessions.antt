@@ -17,17 +17,19 @@ use Rattle.mad_field.specs.Keys.{key_outcome}
 use Rattle.mad_field.specs.Scrolls.{rescrolled}
 use Rattle.mad_page_skin.specs.PageSkins.{page_row_skin}
 use Rattle.mad_page_skin.specs.declared.page_skin.PageSkin.{PageSkin}
+use Rattle.mad_page_skin.specs.declared.text_room.TextRoom.{TextRoom}
 use Rattle.mad_rows.specs.RowStyles.{line_rules}
 use Rattle.mad_rows.specs.declared.row_skin.RowSkin.{RowSkin}
 use Rattle.mad_page.specs.PageKeys.{after_key, after_mouse, is_break}
-use Rattle.mad_page.specs.Pages.{in_sight, shows_row}
+use Rattle.mad_page.specs.Pages.{in_sight, row_number, shows_row}
 use Rattle.mad_page.specs.declared.commands.Ask.{Ask}
-use Rattle.mad_page.specs.declared.commands.Ask.TheVariants.{Search, Next, Previous, NextHeader, PreviousHeader, Forget, Help, Links, Contents, NextFile, PreviousFile, Size, Quit}
+use Rattle.mad_page.specs.declared.commands.Ask.TheVariants.{Search, SearchBack, Next, Previous, NextHeader, PreviousHeader, Forget, Help, Links, Contents, NextFile, PreviousFile, Reload, Edit, Size, Quit}
 use Rattle.mad_page.specs.declared.page.Files.{Files}
 use Rattle.mad_page.specs.declared.page.Page.{Page}
 use Rattle.mad_search.specs.Headers.{next_header, previous_header}
 use Rattle.mad_search.specs.KeptRows.{row_in_parts}
 use Rattle.mad_search.specs.Searches.{IsNextRowIn, IsPreviousRowIn}
+use Rattle.mad_pager.specs.Rooms.{room_width}
 use Rattle.mad_pager.specs.declared.session.Session.{Session}
 use Rattle.mad_pager.specs.declared.session.End.{End}
 use Rattle.mad_pager.specs.declared.session.End.TheVariants as end
@@ -39,14 +41,17 @@ use Rattle.mad_pager.specs.declared.sizes.ScreenSize.{ScreenSize}
 
 -- ---- what it is of
 
--- What is shown and sought: which row is on top of which page, what is being typed, if it is, and what is sought. Then which row the last search found,
--- or that it found none, and the size that the terminal told, until the text is laid out for it.
+-- What is shown and sought: which row is on top of which page, what is being typed, if it is, and what is sought, each of them backwards or not, and what
+-- was sought last. Then which row the last search found, or that it found none, and the size that the terminal told, until the text is laid out for it.
 pub record State : Type 0 where
   pub page : Page
   pub laid : PagedPage
   pub field : Field
   pub is_typing : Bool
+  pub types_back : Bool
   pub sought : List ℕ
+  pub is_backward : Bool
+  pub last : List ℕ
   pub found : Option ℕ
   pub is_missing : Bool
   pub told : Option ScreenSize
@@ -58,7 +63,10 @@ state_of s = record {
   laid = s.laid;
   field = s.field;
   is_typing = s.is_typing;
+  types_back = s.types_back;
   sought = string_bytes s.sought;
+  is_backward = s.is_backward;
+  last = string_bytes s.last;
   found = s.found;
   is_missing = s.is_missing;
   told = s.told;
@@ -86,9 +94,9 @@ prompt_cell rows = record { left = 0; top = rows - 1; width = 1; height = 1 }
 abbrev pub field_row : ℕ → ℕ → Area
 field_row columns rows = record { left = 1; top = rows - 1; width = columns - 1; height = 1 }
 
--- the width that a text is laid out at for a screen of these columns: one is left for a bar
-abbrev pub layout_width : ℕ → ℕ
-layout_width columns = columns - 1
+-- the width that a text is laid out at for a screen of these columns, also where there is no bar: that of its room beside one
+abbrev pub layout_width : TextRoom → ℕ → ℕ
+layout_width room columns = room_width room columns (columns - 1)
 
 -- what rows show of the skin; words stay whole where those of its text do
 abbrev pub paged_skin : PageSkin → RowSkin
@@ -96,15 +104,18 @@ paged_skin skin = record (page_row_skin skin) { whole_words = skin.text.whole_wo
 
 -- sections are laid out in groups for a screen of these columns
 abbrev pub IsLaidFor : PageSkin → List (List SectionContent) → ℕ → PagedPage → Type 0
-IsLaidFor skin page columns laid = IsPagedAt (line_rules (paged_skin skin)) (has_ascii_boxes (paged_skin skin)) (Some (layout_width columns)) page laid
+IsLaidFor skin page columns laid = IsPagedAt (line_rules (paged_skin skin)) (has_ascii_boxes (paged_skin skin)) (Some (layout_width skin.room columns)) page laid
 
 -- the start of a text on a screen of this size: its first row is on top, nothing is being typed and nothing is sought; these files are beside it
 pub record IsStart (skin : PageSkin) (text : List (List SectionContent)) (columns rows : ℕ) (files : Files) (s : State) : Type 0 where
   pub laid : IsLaidFor skin text columns s.laid
-  pub page : s.page ≡ record { columns = columns; rows = rows; height = length s.laid.lines.items; top = 0; count = 0; holds_bar = false; has_colon = false; files = files }
+  pub page : s.page ≡ record { columns = columns; rows = rows; height = length s.laid.lines.items; top = 0; count = 0; holds_bar = false; has_colon = false; tells = false; files = files }
   pub field : s.field ≡ new_field (field_row columns rows)
   pub is_typing : s.is_typing ≡ false
+  pub types_back : s.types_back ≡ false
   pub sought : s.sought ≡ []
+  pub is_backward : s.is_backward ≡ false
+  pub last : s.last ≡ []
   pub found : s.found ≡ None
   pub is_missing : s.is_missing ≡ false
   pub told : s.told ≡ None
@@ -143,11 +154,21 @@ at_header (Some row) s = record s { page = record s.page { top = row } }
 abbrev pub forgotten : State → State
 forgotten s = record s { sought = []; found = None; is_missing = false }
 
--- What is asked for is done.
+-- the next row that has what is sought is in sight, or, backwards, the row before
+abbrev pub IsFound : Bool → State → State → Type 0
+IsFound false s new = (row : Option ℕ) × IsNextRowIn s.sought s.laid.lines.items s.laid.parts.items (search_start s) row × (new ≡ at_found row s)
+IsFound true s new = (row : Option ℕ) × IsPreviousRowIn s.sought s.laid.lines.items s.laid.parts.items (search_end s) row × (new ≡ at_found row s)
+
+-- an empty field is there to type in what is to be sought, backwards or not
+abbrev pub begun_search : Bool → State → State
+begun_search backward s = record s { field = new_field (field_row s.page.columns s.page.rows); is_typing = true; types_back = backward }
+
+-- What is asked for is done. The next row and the one before are so on the way of the search.
 abbrev pub IsAsked : Ask → State → State → Type 0
-IsAsked Search s new = new ≡ record s { field = new_field (field_row s.page.columns s.page.rows); is_typing = true }
-IsAsked Next s new = (row : Option ℕ) × IsNextRowIn s.sought s.laid.lines.items s.laid.parts.items (search_start s) row × (new ≡ at_found row s)
-IsAsked Previous s new = (row : Option ℕ) × IsPreviousRowIn s.sought s.laid.lines.items s.laid.parts.items (search_end s) row × (new ≡ at_found row s)
+IsAsked Search s new = new ≡ begun_search false s
+IsAsked SearchBack s new = new ≡ begun_search true s
+IsAsked Next s new = IsFound s.is_backward s new
+IsAsked Previous s new = IsFound (not s.is_backward) s new
 IsAsked NextHeader s new = new ≡ at_header (next_header s.laid.lines.items s.laid.starts.items s.page.top) s
 IsAsked PreviousHeader s new = new ≡ at_header (previous_header s.laid.lines.items s.laid.starts.items s.page.top) s
 IsAsked Forget s new = new ≡ forgotten s
@@ -164,16 +185,38 @@ typed key f =
     else if modifier_bits key.modifiers == 1 then (key_outcome key.code true f).field
     else f
 
--- what was typed is sought from now on, and the next row that has it is in sight
+-- what is to be sought: what is typed, or, where nothing is, what was sought last
+abbrev pub wanted : State → List ℕ
+wanted s = if length (encode_utf8_all s.field.content.text) == 0 then s.last else encode_utf8_all s.field.content.text
+
+-- this is sought from now on, on the way that was asked for
+abbrev pub seeking : List ℕ → State → State
+seeking text s = record s { is_typing = false; sought = text; is_backward = s.types_back; last = text; found = None }
+
+-- what was typed is sought from now on, and the next row on that way that has it is in sight
 abbrev pub IsSought : State → State → Type 0
-IsSought s new = IsAsked Next (record s { is_typing = false; sought = encode_utf8_all s.field.content.text; found = None }) new
+IsSought s new = IsFound s.types_back (seeking (wanted s) s) new
+
+-- a character is typed; one that takes no column is dropped
+abbrev pub char_typed : ℕ → KeyEvent → State → State
+char_typed c key s = record s { field = if char_columns c == 0 then s.field else typed key s.field }
 
 -- what a key does while something is being typed: Enter seeks it, Esc gives it up, and a character that takes no column is dropped
 abbrev pub IsTypeStep : KeyCode → KeyEvent → State → State → Type 0
 IsTypeStep Enter key s new = IsSought s new
 IsTypeStep Esc key s new = new ≡ record s { is_typing = false }
-IsTypeStep (Char c) key s new = new ≡ record s { field = if char_columns c == 0 then s.field else typed key s.field }
+IsTypeStep (Char c) key s new = new ≡ char_typed c key s
 IsTypeStep code key s new = new ≡ record s { field = typed key s.field }
+
+-- what a key of a pasted text does while something is being typed: a character is typed, and another key does nothing
+abbrev pub pasted_code : KeyCode → KeyEvent → State → State
+pasted_code (Char c) key s = char_typed c key s
+pasted_code code key s = s
+
+-- a session after an event of a pasted text: that, while something is being typed, and else nothing
+abbrev pub pasted : Event → State → State
+pasted (Key key) s = if s.is_typing then pasted_code key.code key s else s
+pasted event s = s
 
 -- ---- what events do
 
@@ -192,7 +235,10 @@ pub record IsResized (skin : PageSkin) (text : List (List SectionContent)) (colu
   pub page : new.page ≡ record old.page { columns = columns; rows = rows; height = length new.laid.lines.items; top = kept_row old.page.columns columns old.laid.starts.items new.laid.starts.items old.page.top }
   pub field : IsMovedTo (field_row columns rows) old.field new.field
   pub is_typing : new.is_typing ≡ old.is_typing
+  pub types_back : new.types_back ≡ old.types_back
   pub sought : new.sought ≡ old.sought
+  pub is_backward : new.is_backward ≡ old.is_backward
+  pub last : new.last ≡ old.last
   pub found : new.found ≡ None
   pub is_missing : new.is_missing ≡ old.is_missing
   pub told : new.told ≡ None
@@ -227,16 +273,18 @@ IsEventStep skin text (Mouse mouse) s new = new ≡ record s { page = after_mous
 IsEventStep skin text (Resize columns rows) s new = new ≡ hears_size columns rows s
 IsEventStep skin text event s new = new ≡ s
 
--- how the session goes on after what is asked for
-abbrev pub turn_asked : Ask → Turn
-turn_asked Size = AsksSize
-turn_asked Quit = Ends end.Quits
-turn_asked NextFile = Ends end.NextFile
-turn_asked PreviousFile = Ends end.PreviousFile
-turn_asked Help = Opens overlay.Help
-turn_asked Links = Opens overlay.Links
-turn_asked Contents = Opens overlay.Contents
-turn_asked ask = Goes
+-- how the session goes on after what is asked for on this page
+abbrev pub turn_asked : Page → Ask → Turn
+turn_asked page Size = AsksSize
+turn_asked page Quit = Ends end.Quits
+turn_asked page NextFile = Ends end.NextFile
+turn_asked page PreviousFile = Ends end.PreviousFile
+turn_asked page Reload = Ends (end.Reload (row_number page))
+turn_asked page Edit = Ends (end.Edit (row_number page))
+turn_asked page Help = Opens overlay.Help
+turn_asked page Links = Opens overlay.Links
+turn_asked page Contents = Opens overlay.Contents
+turn_asked page ask = Goes
 
 -- how it goes on after a key while something is being typed: Control with `c` ends it then too
 abbrev pub turn_typed : KeyEvent → Turn
@@ -244,7 +292,7 @@ turn_typed key = if is_break key then Ends end.Quits else Goes
 
 -- how it goes on after a key
 abbrev pub turn_of_key : KeyEvent → State → Turn
-turn_of_key key s = if s.is_typing then turn_typed key else turn_asked (after_key key s.page).ask
+turn_of_key key s = if s.is_typing then turn_typed key else turn_asked (after_key key s.page).page (after_key key s.page).ask
 
 -- how it goes on after an event
 abbrev pub turn_of : Event → State → Turn

@@ -4,14 +4,14 @@ ghost use Rattle.std.specs.Prelude.{◌≡◌, OnOk, IfOk, MatchResult, ℕ, Lis
 ghost use Rattle.mad_term.specs.Trace.{TookWith, Writes};
 ghost use Rattle.mad_pager.specs.Pictures.{picture_trace};
 ghost use Rattle.mad_pager.specs.Sessions.{state_of};
-ghost use Rattle.mad_pager.specs.Screens.{AreHitsDrawn, AreLinesShown, ArePanesDrawn, IsDrawing, IsFieldRow, IsFieldShown, IsLastRow, IsPicture, IsShown, IsUnshown, bar_of, is_small, question};
+ghost use Rattle.mad_pager.specs.Screens.{AreHitsDrawn, AreLinesShown, ArePanesDrawn, IsDrawing, IsFieldRow, IsFieldShown, IsLastRow, IsPicture, IsShown, IsUnshown, bar_of, is_small, question, room_of};
 
 use crate::picture::Picture;
-use crate::places::{field_row, prompt_cell, text_area};
+use crate::places::{field_row, prompt_cell, room_on, text_area};
 use crate::session::Session;
 use crate::sizes::{height_of, paged_skin};
 use mad_draw::{Rows, ScrollBar, draw_rows};
-use mad_hits::{draw_page_rows, draw_row_hits, left_columns};
+use mad_hits::{RowRoom, draw_page_rows, draw_row_hits, left_columns};
 use mad_style::StyledChar;
 use mad_term::{Error, Out, put_all};
 use std::alloc::{AllocError, Global};
@@ -99,7 +99,7 @@ impl Session<'_> {
             self.laid.fronts.as_slice(),
             self.laid.parts.as_slice(),
             self.page.top,
-            left_columns(self.bar(), self.page.columns),
+            self.room(),
             self.page.body_rows(),
             self.sought.as_str(),
         )?;
@@ -119,6 +119,14 @@ impl Session<'_> {
         )
     }
 
+    // Where the text's rows are, in the columns that the bar leaves.
+    fn room(&self) -> RowRoom
+        ensures { result ≡ room_of self.now.skin.now (state_of self.now) }
+    {
+        let left = left_columns(self.bar(), self.page.columns);
+        room_on(self.skin.room, self.page.columns, left)
+    }
+
     // Draws the text from its top row on in the skin of pages, and its bar by moves of its own.
     fn draw_lines<O: Out>(&self, alloc: Global, out: &mut O) -> Result<(), Error>
         requires { is_small (state_of self.now) ≡ false }
@@ -132,6 +140,7 @@ impl Session<'_> {
             self.laid.lines.as_slice(),
             self.laid.fronts.as_slice(),
             self.page.top,
+            self.room(),
             self.page.columns,
             self.page.body_rows(),
         )?;
@@ -151,11 +160,14 @@ impl Session<'_> {
         Ok(())
     }
 
-    // Draws a slash without a style, and what is typed after it in the styles of its field.
+    // Draws a slash or a question mark without a style, and what is typed after it in the styles of its field.
     fn draw_typed<O: Out>(&self, alloc: Global, out: &mut O) -> Result<(), Error>
         ensures { OnOk result (TookWith (O.seen out.old) (O.seen out.new) (IsFieldRow (state_of self.now))) }
     {
-        draw_rows(alloc, out, &Prompt, &prompt_cell(self.page.rows))?;
+        let prompt = Prompt {
+            backward: self.types_back,
+        };
+        draw_rows(alloc, out, &prompt, &prompt_cell(self.page.rows))?;
         self.draw_field(out)?;
         Ok(())
     }
@@ -175,17 +187,20 @@ impl Session<'_> {
     }
 }
 
-// The slash before what is typed.
-struct Prompt;
+// The sign before what is typed: a slash, or, backwards, a question mark.
+#[derive(Clone, Copy)]
+struct Prompt {
+    backward: bool,
+}
 
 impl Rows for Prompt {
     ghost use Rattle.mad_pager.specs.Screens.{prompt_row};
 
-    ghost pieces = { λ _ y. prompt_row y };
+    ghost pieces = { λ prompt y. prompt_row prompt.backward y };
 
     fn push_row(&self, bytes: &mut String, _y: u16) -> Result<(), AllocError> {
-        let slash = StyledChar::nude('/');
-        write!(bytes, "{slash}")
+        let sign = StyledChar::nude(if self.backward { '?' } else { '/' });
+        write!(bytes, "{sign}")
     }
 }
 

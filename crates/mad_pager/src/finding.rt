@@ -1,9 +1,8 @@
 //! What is sought in a text, and its headers.
 
 ghost use Rattle.std.specs.Prelude.{◌≡◌, IfOk, OnOk, Option, string_bytes};
-ghost use Rattle.mad_page.specs.declared.commands.Ask.TheVariants.{Next, Previous};
 ghost use Rattle.mad_search.specs.Searches.{IsNextRowIn, IsPreviousRowIn};
-ghost use Rattle.mad_pager.specs.Sessions.{at_found, at_header, forgotten, search_end, search_start, state_of, HasSameText, IsAsked};
+ghost use Rattle.mad_pager.specs.Sessions.{at_found, at_header, forgotten, search_end, search_start, state_of, HasSameText, IsFound};
 ghost use Rattle.mad_search.specs.Headers.{next_header, previous_header};
 
 use crate::session::Session;
@@ -11,22 +10,17 @@ use mad_search::{next_header, next_row_in, previous_header, previous_row_in};
 use std::alloc::{AllocError, Global};
 
 impl Session<'_> {
-    // Shows the next row that has what is sought.
-    pub(crate) fn find_next(&mut self, alloc: Global) -> Result<(), AllocError>
-        ensures found { OnOk result (IsAsked Next (state_of self.old) (state_of self.new)) }
+    // Shows the next row that has what is sought, or, backwards, the row before.
+    pub(crate) fn find(&mut self, alloc: Global, backward: bool) -> Result<(), AllocError>
+        ensures found { OnOk result (IsFound backward (state_of self.old) (state_of self.new)) }
         ensures text { OnOk result (HasSameText self.old self.new) }
     {
+        if backward {
+            let row = self.row_before(alloc)?;
+            self.show_found(row);
+            return Ok(());
+        }
         let row = self.row_after(alloc)?;
-        self.show_found(row);
-        Ok(())
-    }
-
-    // Shows the row before that has it.
-    pub(crate) fn find_previous(&mut self, alloc: Global) -> Result<(), AllocError>
-        ensures found { OnOk result (IsAsked Previous (state_of self.old) (state_of self.new)) }
-        ensures text { OnOk result (HasSameText self.old self.new) }
-    {
-        let row = self.row_before(alloc)?;
         self.show_found(row);
         Ok(())
     }

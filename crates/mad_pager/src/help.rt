@@ -6,7 +6,7 @@ pub const HELP_NAME: &str = "help";
 /// Its text, each of whose lines stands for itself.
 pub const HELP: &str = "# Keys
 
-These close this page: **q**, **Esc**, **?** and **h**.
+**q**, **Esc** and **h** close this page, and **space** shows its rest.
 
 |:-|:-|
 |**keys**|**what they do**|
@@ -18,14 +18,17 @@ These close this page: **q**, **Esc**, **?** and **h**.
 |d, u|half a page on, and back|
 |g, Home; G, End|the start; the end|
 |a number|before j or k: so many rows; before g: that row|
+|%|behind a number: to that per cent|
+|=|tells the row, how many there are, and the per cent|
 |}, ]; {, [|the next header; the one before|
 |t|the contents: j and k choose a header, Enter goes there|
-|/|asks for a text: Enter seeks it, Esc gives it up|
+|/; ?|asks for a text, to seek it on or back: Enter, or Esc|
 |n, N|the next row that has it; the one before|
-|Esc|forgets it|
+|Esc, Alt-U|forgets it|
 |l|the addresses of the links on the screen|
 |:n, :p|the next file; the one before|
-|?, h|this page|
+|R; v|reads the file again; opens an editor of it here|
+|h, F1|this page|
 |Control-L|draws anew|
 |Control-Z|stops; fg brings it back|
 |q, Control-C|ends|

@@ -40,6 +40,7 @@ fn key_over(key: KeyEvent, has_choice: bool) -> Answer
         Command::Asks(Ask::Quit | Ask::Forget | Ask::Help | Ask::Links | Ask::Contents) => {
             Answer::Closes
         }
+        Command::Asks(Ask::Reload | Ask::Edit) => Answer::Closes,
         Command::Moves(_) if has_choice => Answer::Chooses(key),
         _ => Answer::Passes,
     }
@@ -107,6 +108,7 @@ impl<'s> Session<'s> {
             count: self.page.count,
             holds_bar: false,
             has_colon: false,
+            tells: false,
             files: self.page.files,
         };
         page.apply_key(key);

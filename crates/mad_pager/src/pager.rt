@@ -1,7 +1,7 @@
 //! A pager: a text, and a page over it while one is open.
 
 ghost use Rattle.std.specs.Prelude.{◌≡◌, IfOk, OnErr, OnOk, MatchResult, None, option_map};
-ghost use Rattle.mad_pager.specs.Pagers.{leaf_of, turn_in, turn_over, view_of, IsDoneOver, IsOpened, IsOverSettled, IsOverStart, IsOverStep, IsPageStart, IsStep, IsTextStep, IsViewSettled, IsViewShown, IsViewUnshown};
+ghost use Rattle.mad_pager.specs.Pagers.{begun, leaf_of, pasted_in, turn_in, turn_over, view_of, IsDoneOver, IsOpened, IsOverSettled, IsOverStart, IsOverStep, IsPageStart, IsStep, IsTextStep, IsViewSettled, IsViewShown, IsViewUnshown};
 ghost use Rattle.mad_pager.specs.Sessions.{state_of, turn_of};
 ghost use Rattle.mad_outline.specs.Sources.{content_of, text_said};
 
@@ -46,6 +46,13 @@ impl<'s> Pager<'s> {
         Ok(Pager { text, over: None })
     }
 
+    /// Puts the row of this number on top of the text, counted from 1, or the text's last one; for 0 the first.
+    pub fn begin_at(&mut self, number: usize)
+        ensures { view_of self.new ≡ begun number (view_of self.old) }
+    {
+        self.text.page.begin_at(number);
+    }
+
     /// Does what an event says: on the page over the text, while one is open, and else on the text.
     ///
     /// # Errors
@@ -65,6 +72,26 @@ impl<'s> Pager<'s> {
             None => {
                 let turn = self.apply_to_text(alloc, event)?;
                 Ok(turn)
+            }
+        }
+    }
+
+    /// Does what an event of a pasted text says, on the page over the text, while one is open, and else on the text: see [`Session::paste`].
+    ///
+    /// # Errors
+    ///
+    /// Out of memory is the only error.
+    pub fn paste(&mut self, event: Event) -> Result<(), AllocError>
+        ensures { OnOk result (view_of self.new ≡ pasted_in event (view_of self.old)) }
+    {
+        match &mut self.over {
+            Some(over) => {
+                over.paste(event)?;
+                Ok(())
+            }
+            None => {
+                self.text.paste(event)?;
+                Ok(())
             }
         }
     }

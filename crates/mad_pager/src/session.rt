@@ -35,6 +35,10 @@ pub enum End {
     NextFile,
     /// The file before is to be shown.
     PreviousFile,
+    /// The file is to be read again, and shown from the row of this number on.
+    Reload(usize),
+    /// An editor of the file is to be opened where this row is, and the text then shown again.
+    Edit(usize),
 }
 
 /// How a session goes on after an event.
@@ -96,8 +100,14 @@ pub struct Session<'s> {
     pub field: InputField,
     /// Whether it is being typed.
     pub is_typing: bool,
+    /// Whether it is to be sought backwards.
+    pub types_back: bool,
     /// What is sought; nothing, where it is empty.
     pub sought: String,
+    /// Whether it is sought backwards.
+    pub is_backward: bool,
+    /// What was sought last, also where it was forgotten.
+    pub last: String,
     /// The row that the last search found. None, where it found none, or the text was laid out anew.
     pub found: Option<usize>,
     /// Whether the last search found no row.
@@ -135,6 +145,7 @@ impl<'s> Session<'s> {
             count: 0,
             holds_bar: false,
             has_colon: false,
+            tells: false,
             files,
         };
         let field = InputField::new(alloc, field_row(columns, rows))?;
@@ -146,7 +157,10 @@ impl<'s> Session<'s> {
             page,
             field,
             is_typing: false,
+            types_back: false,
             sought: String::new(alloc),
+            is_backward: false,
+            last: String::new(alloc),
             found: None,
             is_missing: false,
             told: None,
@@ -195,7 +209,7 @@ impl<'s> Session<'s> {
     // Does what a key says while nothing is being typed.
     fn apply_page_key(&mut self, alloc: Global, key: KeyEvent) -> Result<Turn, AllocError>
         ensures step { OnOk result (IsKeyStep key (state_of self.old) (state_of self.new)) }
-        ensures turn { IfOk result (λ turn. turn ≡ turn_asked (after_key key self.old.page).ask) }
+        ensures turn { IfOk result (λ turn. turn ≡ turn_asked (after_key key self.old.page).page (after_key key self.old.page).ask) }
         ensures text { OnOk result (HasSameText self.old self.new) }
     {
         let ask = self.page.apply_key(key);
@@ -206,11 +220,12 @@ impl<'s> Session<'s> {
     // Does what is asked for.
     fn do_asked(&mut self, alloc: Global, ask: Ask) -> Result<Turn, AllocError>
         ensures step { OnOk result (IsAsked ask (state_of self.old) (state_of self.new)) }
-        ensures turn { IfOk result (λ turn. turn ≡ turn_asked ask) }
+        ensures turn { IfOk result (λ turn. turn ≡ turn_asked self.old.page ask) }
         ensures text { OnOk result (HasSameText self.old self.new) }
     {
+        let turn = turn_asked(&self.page, ask);
         self.answer(alloc, ask)?;
-        Ok(turn_asked(ask))
+        Ok(turn)
     }
 
     // Does what is asked for in the session itself.
@@ -219,9 +234,10 @@ impl<'s> Session<'s> {
         ensures text { OnOk result (HasSameText self.old self.new) }
     {
         match ask {
-            Ask::Search => self.begin_search(alloc),
-            Ask::Next => self.find_next(alloc),
-            Ask::Previous => self.find_previous(alloc),
+            Ask::Search => self.begin_search(alloc, false),
+            Ask::SearchBack => self.begin_search(alloc, true),
+            Ask::Next => self.find(alloc, self.is_backward),
+            Ask::Previous => self.find(alloc, !self.is_backward),
             Ask::NextHeader => {
                 self.go_to_next_header();
                 Ok(())
@@ -235,20 +251,23 @@ impl<'s> Session<'s> {
                 Ok(())
             }
             Ask::Size | Ask::Quit | Ask::NextFile | Ask::PreviousFile => Ok(()),
+            Ask::Reload | Ask::Edit => Ok(()),
             Ask::Help | Ask::Links | Ask::Contents | Ask::Nothing => Ok(()),
         }
     }
 }
 
-// How a session goes on after what is asked for.
-fn turn_asked(ask: Ask) -> Turn
-    ensures { result ≡ turn_asked ask }
+// How a session goes on after what is asked for on this page.
+fn turn_asked(page: &Page, ask: Ask) -> Turn
+    ensures { result ≡ turn_asked page.now ask }
 {
     match ask {
         Ask::Size => Turn::AsksSize,
         Ask::Quit => Turn::Ends(End::Quits),
         Ask::NextFile => Turn::Ends(End::NextFile),
         Ask::PreviousFile => Turn::Ends(End::PreviousFile),
+        Ask::Reload => Turn::Ends(End::Reload(page.row_number())),
+        Ask::Edit => Turn::Ends(End::Edit(page.row_number())),
         Ask::Help => Turn::Opens(Overlay::Help),
         Ask::Links => Turn::Opens(Overlay::Links),
         Ask::Contents => Turn::Opens(Overlay::Contents),

@@ -86,6 +86,7 @@ impl<'s> Session<'s> {
             count: self.page.count,
             holds_bar: self.page.holds_bar,
             has_colon: self.page.has_colon,
+            tells: self.page.tells,
             files: self.page.files,
         };
         self.laid = laid;
@@ -120,7 +121,12 @@ pub(crate) fn lay<'s>(
     ensures { IfOk result (IsLaidFor skin.now (source_page source.entry) columns) }
 {
     let rows = paged_skin(skin);
-    let laid = source.lay(alloc, &rows, layout_width(columns), has_ascii_boxes(&rows))?;
+    let laid = source.lay(
+        alloc,
+        &rows,
+        layout_width(skin.room, columns),
+        has_ascii_boxes(&rows),
+    )?;
     Ok(laid)
 }
 

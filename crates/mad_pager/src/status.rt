@@ -1,13 +1,15 @@
-//! The last row of the screen: how much of the text was shown, its name, what is sought, and whether it wasn't found; or a colon that was typed.
+//! The last row of the screen: where the page is, if that is to be told, how much of the text was shown, its name, what is sought, and whether it wasn't
+//! found; or a colon or a number that was typed.
 
-ghost use Rattle.std.specs.Prelude.{◌≡◌, ◌++◌, ◌∷◌, [], IfOk, OnOk, None, string_bytes};
+ghost use Rattle.std.specs.Prelude.{◌≡◌, ◌++◌, ◌∷◌, [], IfOk, OnOk, None, codes, decimal, string_bytes};
 ghost use Rattle.mad_term.specs.Draws.{Draws};
 ghost use Rattle.mad_term.specs.Trace.{TookWith};
 ghost use Rattle.mad_measure.specs.Areas.{IsWithinLimits};
 ghost use Rattle.mad_layout.specs.RowSkins.{row_skin};
 ghost use Rattle.mad_layout.specs.Shown.{area_bytes};
 ghost use Rattle.mad_pager.specs.Sessions.{state_of};
-ghost use Rattle.mad_pager.specs.Screens.{sought_words, status_skin, status_words, IsLineIn, IsStatus, IsStatusLine, WritesStatus};
+ghost use Rattle.mad_page.specs.Pages.{percent};
+ghost use Rattle.mad_pager.specs.Screens.{place_words, sought_sign, sought_words, status_skin, status_words, IsLineIn, IsStatus, IsStatusLine, WritesStatus};
 
 use crate::places::last_row;
 use crate::session::Session;
@@ -44,28 +46,53 @@ impl Session<'_> {
             let words = format!(in alloc; ":")?;
             return Ok(words);
         }
-        let percent = self.page.percent();
-        let mut words = format!(in alloc; "{percent}%  ")?;
+        if self.page.count > 0 {
+            let count = self.page.count;
+            let words = format!(in alloc; "{count}")?;
+            return Ok(words);
+        }
+        let mut words = self.place_words(alloc)?;
         words.push_str(self.name)?;
         self.push_sought(&mut words)?;
         Ok(words)
     }
 
+    // Where the page is, if that is to be told, and how much of the text was shown.
+    fn place_words(&self, alloc: Global) -> Result<String, AllocError>
+        ensures { IfOk result (λ words. string_bytes words ≡ place_words self.now.page ++ decimal (percent self.now.page) ++ codes "%  ") }
+    {
+        let percent = self.page.percent();
+        if self.page.tells {
+            let (row, rows) = (self.page.row_number(), self.page.height);
+            let words = format!(in alloc; "row {row} of {rows}  {percent}%  ")?;
+            return Ok(words);
+        }
+        let words = format!(in alloc; "{percent}%  ")?;
+        Ok(words)
+    }
+
     // Puts what is sought after a text, if anything is, and that the last search didn't find it.
     fn push_sought(&self, words: &mut String) -> Result<(), AllocError>
-        ensures { OnOk result (string_bytes words.new ≡ string_bytes words.old ++ sought_words self.now.is_missing (string_bytes self.now.sought)) }
+        ensures { OnOk result (string_bytes words.new ≡ string_bytes words.old ++ sought_words self.now.is_backward self.now.is_missing (string_bytes self.now.sought)) }
     {
         let sought = self.sought.as_str();
         if sought.is_empty() {
             return Ok(());
         }
-        words.push_str("  /")?;
+        words.push_str(sign_of(self.is_backward))?;
         words.push_str(sought)?;
         if self.is_missing {
             words.push_str("  not found")?;
         }
         Ok(())
     }
+}
+
+// What stands before what is sought, backwards or not.
+fn sign_of(backward: bool) -> &'static str
+    ensures { result.now ≡ sought_sign backward }
+{
+    if backward { "  ?" } else { "  /" }
 }
 
 // Draws a line in a skin, in an area of one row.

@@ -1,5 +1,5 @@
 -- Pages that are laid out as lines and fronts, section by section.
-use Rattle.std.proofs.Common.{◌≡◌, ℕ, suc, ◌+◌, ◌<◌, ◌≤◌, Bool, List, [], ◌∷◌, ◌++◌, drop, drop_at, get_or, map, length, Option, Some, None, refl, ap, sym, ◌∙◌, subst, arith, append_assoc, append-nil, length-append}
+use Rattle.std.proofs.Common.{◌≡◌, ℕ, suc, ◌+◌, ◌<◌, ◌≤◌, Bool, true, List, [], ◌∷◌, ◌++◌, drop, drop_at, get_or, map, length, Option, Some, None, refl, ap, sym, ◌∙◌, subst, arith, append_assoc, append-nil, length-append}
 use Rattle.std.specs.Prelude.{slice_get, option_map}
 use Rattle.std.specs.List.{flat_map}
 use Rattle.std.proofs.lemmas.Option.{same_Some, slice_get-map}
@@ -18,7 +18,7 @@ use Rattle.mad_sections.specs.Sections.{SectionContent}
 use Rattle.mad_sections.specs.Unfolded.{unfolded}
 use Rattle.mad_sections.specs.declared.gutters.Gutter.{Gutter}
 use Rattle.mad_pages.specs.PageLayouts.{IsSectionAt, BecomesAt, IsPageAt}
-use Rattle.mad_pages.specs.PageRows.{RowContent, behind, marks_from, number_behind}
+use Rattle.mad_pages.specs.PageRows.{RowContent, behind, heads_behind, is_head, marks_from, number_behind}
 use Rattle.mad_pages.specs.Fronts.{FrontContent, front_at, front_content, front_of, front_or_none, line_of, row_behind}
 use Rattle.mad_pages.specs.BesideLaws.{IsTextAt, LinesAreTheTexts, RowsAreThePage}
 use Rattle.mad_pages.specs.PagedPages.{AreAdded, ArePartsAdded, BeginIn, EndIn, IsPagedAt, IsPartAt, PlacedPart, page_parts, parts_in, parts_shown, sections_in}
@@ -135,39 +135,44 @@ parts_whole rules width all left old old_starts lines starts h none =
 -- ---- sections that are shown
 
 -- a front more; those of the lines that are left come behind it
-pub front_more : (fronts new : List Front) (front : Front) (whole : List FrontContent) (marks : List MarkRun) (next : ℕ) (lines : List FmtLine) (i : ℕ) (line : FmtLine) → i < length lines → new ≡ fronts ++ front ∷ []
+pub front_more : (fronts new : List Front) (front : Front) (whole : List FrontContent) (marks : List MarkRun) (next : ℕ) (heads below : Bool) (lines : List FmtLine) (i : ℕ) (line : FmtLine) → i < length lines → new ≡ fronts ++ front ∷ []
     → next ≡ number_behind front.marks.now front.number (get_or lines i line) → marks ≡ marks_from front.marks.now next
-    → map front_content fronts ++ map front_of (behind front.gutters.now front.fresh front.marks.now front.number (drop i lines)) ≡ whole
-    → map front_content new ++ map front_of (behind front.gutters.now 0 marks next (drop (i + 1) lines)) ≡ whole
-front_more fronts new front whole marks next lines i line inside pushed next_is marks_are h =
-    let after : List MarkRun → ℕ → List FrontContent = λ m n. map front_of (behind front.gutters.now 0 m n (drop (i + 1) lines)) in
+    → front.head ≡ is_head heads (get_or lines i line) → below ≡ heads_behind heads (get_or lines i line)
+    → map front_content fronts ++ map front_of (behind front.gutters.now front.fresh front.marks.now front.number heads (drop i lines)) ≡ whole
+    → map front_content new ++ map front_of (behind front.gutters.now 0 marks next below (drop (i + 1) lines)) ≡ whole
+front_more fronts new front whole marks next heads below lines i line inside pushed next_is marks_are head_is below_is h =
+    let after : List MarkRun → ℕ → List FrontContent = λ m n. map front_of (behind front.gutters.now 0 m n below (drop (i + 1) lines)) in
+    let here : FmtLine = get_or lines i line in
+    let number : ℕ = number_behind front.marks.now front.number here in
     ap (λ (fs : List Front). map front_content fs ++ after marks next) pushed
     ∙ ap (λ (fs : List FrontContent). fs ++ after marks next) (map-append front_content fronts (front ∷ []))
     ∙ append_assoc (map front_content fronts) (front_content front ∷ []) (after marks next)
     ∙ ap (λ (m : List MarkRun). map front_content fronts ++ front_content front ∷ after m next) marks_are
     ∙ ap (λ (n : ℕ). map front_content fronts ++ front_content front ∷ after (marks_from front.marks.now n) n) next_is
-    ∙ sym (at_drop_more (λ (ls : List FmtLine). map front_content fronts ++ map front_of (behind front.gutters.now front.fresh front.marks.now front.number ls)) lines i line inside)
+    ∙ ap (λ (b : Bool). map front_content fronts ++ record (front_content front) { head = b } ∷ after (marks_from front.marks.now number) number) head_is
+    ∙ ap (λ (b : Bool). map front_content fronts ++ record (front_content front) { head = is_head heads here } ∷ map front_of (behind front.gutters.now 0 (marks_from front.marks.now number) number b (drop (i + 1) lines))) below_is
+    ∙ sym (at_drop_more (λ (ls : List FmtLine). map front_content fronts ++ map front_of (behind front.gutters.now front.fresh front.marks.now front.number heads ls)) lines i line inside)
     ∙ h
 
 -- where no line is left, all fronts are there
-pub fronts_whole : (fronts whole : List FrontContent) (gutters : List Gutter) (fresh : ℕ) (marks : List MarkRun) (n : ℕ) (lines : List FmtLine) (i : ℕ) → length lines ≤ i → fronts ++ map front_of (behind gutters fresh marks n (drop i lines)) ≡ whole → fronts ≡ whole
-fronts_whole fronts whole gutters fresh marks n lines i past h =
-    sym (append-nil fronts) ∙ ap (λ (ls : List FmtLine). fronts ++ map front_of (behind gutters fresh marks n ls)) (sym (drop_all i lines past)) ∙ h
+pub fronts_whole : (fronts whole : List FrontContent) (gutters : List Gutter) (fresh : ℕ) (marks : List MarkRun) (n : ℕ) (heads : Bool) (lines : List FmtLine) (i : ℕ) → length lines ≤ i → fronts ++ map front_of (behind gutters fresh marks n heads (drop i lines)) ≡ whole → fronts ≡ whole
+fronts_whole fronts whole gutters fresh marks n heads lines i past h =
+    sym (append-nil fronts) ∙ ap (λ (ls : List FmtLine). fronts ++ map front_of (behind gutters fresh marks n heads ls)) (sym (drop_all i lines past)) ∙ h
 
 -- one is there, where its parts and its fronts are
 pub section_added : (rules : LineRules) (ascii : Bool) (width : Option ℕ) (section : SectionContent) (old new : PagedPage) (above : ℕ) (below : List FmtLine)
     → ArePartsAdded rules (room ascii width section.gutters) section.lines old.lines.items old.parts.items new.lines.items new.parts.items → above ≡ length old.lines.items → below ≡ drop above new.lines.items
-    → map front_content new.fronts.items ≡ map front_content old.fronts.items ++ map front_of (behind (shown ascii width section.gutters) section.fresh section.marks 0 below) → AreAdded rules ascii width (section ∷ []) old new
+    → map front_content new.fronts.items ≡ map front_content old.fronts.items ++ map front_of (behind (shown ascii width section.gutters) section.fresh section.marks 0 true below) → AreAdded rules ascii width (section ∷ []) old new
 section_added rules ascii width section old new above below h above_is below_is fronts =
-    let own = behind (shown ascii width section.gutters) section.fresh section.marks 0 h.own in
-    let lines : map line_of own ≡ h.own = lines_behind (shown ascii width section.gutters) section.fresh section.marks 0 h.own in
+    let own = behind (shown ascii width section.gutters) section.fresh section.marks 0 true h.own in
+    let lines : map line_of own ≡ h.own = lines_behind (shown ascii width section.gutters) section.fresh section.marks 0 true h.own in
     let here : below ≡ h.own = below_is ∙ ap (λ (n : ℕ). drop n new.lines.items) above_is ∙ ap (λ (l : List FmtLine). drop (length old.lines.items) l) h.lines ∙ drop_at old.lines.items h.own (length old.lines.items) refl in
     record {
       own = own;
       ends = h.ends;
       are = (own, [], sym (append-nil own), record { lines = h.own; layout = h.layout; rows_are = refl }, refl);
       lines = h.lines ∙ ap (λ (l : List FmtLine). old.lines.items ++ l) (sym lines);
-      fronts = fronts ∙ ap (λ (ls : List FmtLine). map front_content old.fronts.items ++ map front_of (behind (shown ascii width section.gutters) section.fresh section.marks 0 ls)) here;
+      fronts = fronts ∙ ap (λ (ls : List FmtLine). map front_content old.fronts.items ++ map front_of (behind (shown ascii width section.gutters) section.fresh section.marks 0 true ls)) here;
       parts = h.starts;
       end =
           subst (λ (ps : List PlacedPart). EndIn (IsPartAt rules) ps (length old.lines.items) (map line_of own) h.ends) (sym (append-nil (parts_in (room ascii width section.gutters) section.lines)))
@@ -350,7 +355,7 @@ rows_are rules ascii width groups paged is row line found =
 
 section_text : (rules : LineRules) (ascii : Bool) (width : Option ℕ) (section : SectionContent) (rows : List RowContent) → IsSectionAt rules ascii width section rows → IsTextAt rules ascii width section (map line_of rows)
 section_text rules ascii width section rows h =
-    subst (λ (lines : List FmtLine). IsTextAt rules ascii width section lines) (sym (ap (map line_of) h.rows_are ∙ lines_behind (shown ascii width section.gutters) section.fresh section.marks 0 h.lines)) h.layout
+    subst (λ (lines : List FmtLine). IsTextAt rules ascii width section lines) (sym (ap (map line_of) h.rows_are ∙ lines_behind (shown ascii width section.gutters) section.fresh section.marks 0 true h.lines)) h.layout
 
 sections_text : (rules : LineRules) (ascii : Bool) (width : Option ℕ) (sections : List SectionContent) (rows : List RowContent) → EachBecomes (IsSectionAt rules ascii width) sections rows → EachBecomes (IsTextAt rules ascii width) sections (map line_of rows)
 sections_text rules ascii width [] rows h = ap (map line_of) h

@@ -1,5 +1,5 @@
 -- Pages laid out section by section.
-use Rattle.std.proofs.Common.{◌≡◌, ℕ, ◌<◌, Bool, List, [], ◌∷◌, ◌++◌, map, length, Option, Some, None, refl, ap, sym, ◌∙◌, subst, arith, append_assoc, append-nil}
+use Rattle.std.proofs.Common.{◌≡◌, ℕ, ◌<◌, Bool, true, List, [], ◌∷◌, ◌++◌, map, length, Option, Some, None, refl, ap, sym, ◌∙◌, subst, arith, append_assoc, append-nil}
 use Rattle.std.specs.List.{AllByRecursion}
 use Rattle.std.proofs.lemmas.List.{map-append}
 use Rattle.mad_md.specs.Lines.{LineContent}
@@ -14,23 +14,26 @@ use Rattle.mad_sections.specs.Sections.{SectionContent}
 use Rattle.mad_sections.specs.declared.gutters.Gutter.{Gutter}
 use Rattle.mad_sections.specs.Unfolded.{unfolded}
 use Rattle.mad_pages.specs.PageCursors.{LaidSection}
-use Rattle.mad_pages.specs.PageLaws.{plain_rows, ArePlain, PlainIsLayout, PagesJoin, SectionsAreLayouts, LaterRowsAreOther}
+use Rattle.mad_pages.specs.PageLaws.{IsPlainAt, PlainIsLayout, PagesJoin, SectionsAreLayouts, LaterRowsAreOther}
 use Rattle.mad_pages.specs.PageLayouts.{IsSectionAt, BecomesAt, IsPageAt}
-use Rattle.mad_pages.specs.PageRows.{RowContent, row_content, behind, marks_from, number_behind}
+use Rattle.mad_pages.specs.PageRows.{RowContent, row_content, behind, heads_behind, is_head, marks_from, number_behind}
 use Rattle.mad_pages.specs.declared.page_rows.PageRow.{PageRow}
 
 -- ---- rows behind gutters
 
 -- a row more; the rows from here on are the same
-pub row_more : (rows new : List PageRow) (row : PageRow) (marks : List MarkRun) (next : ℕ) (rest : List FmtLine) → new ≡ rows ++ row ∷ [] → next ≡ number_behind row.marks.now row.number row.line → marks ≡ marks_from row.marks.now next
-    → map row_content new ++ behind row.gutters.now 0 marks next rest ≡ map row_content rows ++ behind row.gutters.now row.fresh row.marks.now row.number (row.line ∷ rest)
-row_more rows new row marks next rest h next_is marks_are =
-    let after : List MarkRun → ℕ → List RowContent = λ m n. behind row.gutters.now 0 m n rest in
+pub row_more : (rows new : List PageRow) (row : PageRow) (marks : List MarkRun) (next : ℕ) (heads below : Bool) (rest : List FmtLine) → new ≡ rows ++ row ∷ [] → next ≡ number_behind row.marks.now row.number row.line → marks ≡ marks_from row.marks.now next
+    → row.head ≡ is_head heads row.line → below ≡ heads_behind heads row.line
+    → map row_content new ++ behind row.gutters.now 0 marks next below rest ≡ map row_content rows ++ behind row.gutters.now row.fresh row.marks.now row.number heads (row.line ∷ rest)
+row_more rows new row marks next heads below rest h next_is marks_are head_is below_is =
+    let after : List MarkRun → ℕ → List RowContent = λ m n. behind row.gutters.now 0 m n below rest in
     ap (λ (all : List PageRow). map row_content all ++ after marks next) h
     ∙ ap (λ (all : List RowContent). all ++ after marks next) (map-append row_content rows (row ∷ []))
     ∙ append_assoc (map row_content rows) (row_content row ∷ []) (after marks next)
     ∙ ap (λ (m : List MarkRun). map row_content rows ++ row_content row ∷ after m next) marks_are
     ∙ ap (λ (n : ℕ). map row_content rows ++ row_content row ∷ after (marks_from row.marks.now n) n) next_is
+    ∙ ap (λ (b : Bool). map row_content rows ++ record (row_content row) { head = b } ∷ after (marks_from row.marks.now (number_behind row.marks.now row.number row.line)) (number_behind row.marks.now row.number row.line)) head_is
+    ∙ ap (λ (b : Bool). map row_content rows ++ record (row_content row) { head = is_head heads row.line } ∷ behind row.gutters.now 0 (marks_from row.marks.now (number_behind row.marks.now row.number row.line)) (number_behind row.marks.now row.number row.line) b rest) below_is
 
 -- ---- sections
 
@@ -111,40 +114,40 @@ laid_whole rules ascii width all left rows new h none same =
 -- ---- laws
 
 -- lines behind gutters are these lines
-pub lines_behind : (gutters : List Gutter) (fresh : ℕ) (marks : List MarkRun) (n : ℕ) (lines : List FmtLine) → map (λ (row : RowContent). row.line) (behind gutters fresh marks n lines) ≡ lines
-lines_behind gutters fresh marks n [] = refl
-lines_behind gutters fresh marks n (line ∷ lines) = ap (λ (ls : List FmtLine). line ∷ ls) (lines_behind gutters 0 (marks_from marks (number_behind marks n line)) (number_behind marks n line) lines)
+pub lines_behind : (gutters : List Gutter) (fresh : ℕ) (marks : List MarkRun) (n : ℕ) (heads : Bool) (lines : List FmtLine) → map (λ (row : RowContent). row.line) (behind gutters fresh marks n heads lines) ≡ lines
+lines_behind gutters fresh marks n heads [] = refl
+lines_behind gutters fresh marks n heads (line ∷ lines) = ap (λ (ls : List FmtLine). line ∷ ls) (lines_behind gutters 0 (marks_from marks (number_behind marks n line)) (number_behind marks n line) (heads_behind heads line) lines)
 
-gutters_behind : (gutters : List Gutter) (fresh : ℕ) (marks : List MarkRun) (n : ℕ) (lines : List FmtLine) → AllByRecursion (λ (row : RowContent). row.gutters ≡ gutters) (behind gutters fresh marks n lines)
-gutters_behind gutters fresh marks n [] = tt
-gutters_behind gutters fresh marks n (line ∷ lines) = (refl, gutters_behind gutters 0 (marks_from marks (number_behind marks n line)) (number_behind marks n line) lines)
+gutters_behind : (gutters : List Gutter) (fresh : ℕ) (marks : List MarkRun) (n : ℕ) (heads : Bool) (lines : List FmtLine) → AllByRecursion (λ (row : RowContent). row.gutters ≡ gutters) (behind gutters fresh marks n heads lines)
+gutters_behind gutters fresh marks n heads [] = tt
+gutters_behind gutters fresh marks n heads (line ∷ lines) = (refl, gutters_behind gutters 0 (marks_from marks (number_behind marks n line)) (number_behind marks n line) (heads_behind heads line) lines)
 
 -- the lines of a section's rows are a layout, and each row is behind the shown gutters
 pub sections_are_layouts : SectionsAreLayouts
 sections_are_layouts rules ascii width section rows s =
     let ends = shown ascii width section.gutters in
-    let lines : map (λ (row : RowContent). row.line) rows ≡ s.lines = ap (λ (l : List RowContent). map (λ (row : RowContent). row.line) l) s.rows_are ∙ lines_behind ends section.fresh section.marks 0 s.lines in
+    let lines : map (λ (row : RowContent). row.line) rows ≡ s.lines = ap (λ (l : List RowContent). map (λ (row : RowContent). row.line) l) s.rows_are ∙ lines_behind ends section.fresh section.marks 0 true s.lines in
     record {
       layout = subst (IsLayoutAt rules (room ascii width section.gutters) section.lines) (sym lines) s.layout;
-      gutters = subst (AllByRecursion (λ (row : RowContent). row.gutters ≡ ends)) (sym s.rows_are) (gutters_behind ends section.fresh section.marks 0 s.lines);
+      gutters = subst (AllByRecursion (λ (row : RowContent). row.gutters ≡ ends)) (sym s.rows_are) (gutters_behind ends section.fresh section.marks 0 true s.lines);
     }
 
-later_fresh : (gutters : List Gutter) (marks : List MarkRun) (n : ℕ) (lines : List FmtLine) → AllByRecursion (λ (row : RowContent). row.fresh ≡ 0) (behind gutters 0 marks n lines)
-later_fresh gutters marks n [] = tt
-later_fresh gutters marks n (line ∷ lines) = (refl, later_fresh gutters (marks_from marks (number_behind marks n line)) (number_behind marks n line) lines)
+later_fresh : (gutters : List Gutter) (marks : List MarkRun) (n : ℕ) (heads : Bool) (lines : List FmtLine) → AllByRecursion (λ (row : RowContent). row.fresh ≡ 0) (behind gutters 0 marks n heads lines)
+later_fresh gutters marks n heads [] = tt
+later_fresh gutters marks n heads (line ∷ lines) = (refl, later_fresh gutters (marks_from marks (number_behind marks n line)) (number_behind marks n line) (heads_behind heads line) lines)
 
 -- rows of which the first has so many first faces, and the others none
 abbrev OnlyFirst : ℕ → List RowContent → Type 0
 OnlyFirst fresh [] = Unit {0}
 OnlyFirst fresh (row ∷ rows) = (row.fresh ≡ fresh) × AllByRecursion (λ (row : RowContent). row.fresh ≡ 0) rows
 
-only_first : (gutters : List Gutter) (fresh : ℕ) (marks : List MarkRun) (n : ℕ) (lines : List FmtLine) → OnlyFirst fresh (behind gutters fresh marks n lines)
-only_first gutters fresh marks n [] = tt
-only_first gutters fresh marks n (line ∷ lines) = (refl, later_fresh gutters (marks_from marks (number_behind marks n line)) (number_behind marks n line) lines)
+only_first : (gutters : List Gutter) (fresh : ℕ) (marks : List MarkRun) (n : ℕ) (heads : Bool) (lines : List FmtLine) → OnlyFirst fresh (behind gutters fresh marks n heads lines)
+only_first gutters fresh marks n heads [] = tt
+only_first gutters fresh marks n heads (line ∷ lines) = (refl, later_fresh gutters (marks_from marks (number_behind marks n line)) (number_behind marks n line) (heads_behind heads line) lines)
 
 -- no row of a section has first faces but its first one
 pub later_rows : LaterRowsAreOther
-later_rows rules ascii width section first others s = subst (OnlyFirst section.fresh) (sym s.rows_are) (only_first (shown ascii width section.gutters) section.fresh section.marks 0 s.lines)
+later_rows rules ascii width section first others s = subst (OnlyFirst section.fresh) (sym s.rows_are) (only_first (shown ascii width section.gutters) section.fresh section.marks 0 true s.lines)
 
 -- the rows of two pages are those of both together
 pub pages_join : PagesJoin
@@ -158,32 +161,22 @@ whole_room : (ascii : Bool) (width : Option ℕ) → room ascii width [] ≡ wid
 whole_room ascii None = refl
 whole_room ascii (Some width) = ap Some (omega arith)
 
-rows_plain : (lines : List FmtLine) → behind [] 0 [] 0 lines ≡ plain_rows lines
-rows_plain [] = refl
-rows_plain (line ∷ lines) = ap (λ (rows : List RowContent). record { gutters = []; fresh = 0; marks = []; number = 0; line = line } ∷ rows) (rows_plain lines)
-
-plain_joined : (lines others : List FmtLine) → plain_rows (lines ++ others) ≡ plain_rows lines ++ plain_rows others
-plain_joined [] others = refl
-plain_joined (line ∷ lines) others = ap (λ (rows : List RowContent). record { gutters = []; fresh = 0; marks = []; number = 0; line = line } ∷ rows) (plain_joined lines others)
-
 -- a section without gutters, which is told no gutters of a list, is shown as it is
 plain_one : (rules : LineRules) (ascii : Bool) (width : Option ℕ) (text : List LineContent) (own : List RowContent) → BecomesAt rules ascii width (record { gutters = []; fresh = 0; list = None; marks = []; lines = text }) own → EachBecomes (IsSectionAt rules ascii width) (record { gutters = []; fresh = 0; list = None; marks = []; lines = text } ∷ []) own
 plain_one rules ascii None text own h = h
 plain_one rules ascii (Some width) text own h = h
 
-plain_first : (rules : LineRules) (ascii : Bool) (width : Option ℕ) (text : List LineContent) (texts : List (List LineContent)) (rows own others : List RowContent) → rows ≡ own ++ others
-    → EachBecomes (IsSectionAt rules ascii width) (record { gutters = []; fresh = 0; list = None; marks = []; lines = text } ∷ []) own → ArePlain rules width texts others → ArePlain rules width (text ∷ texts) rows
-plain_first rules ascii width text texts rows own others joins (one, none, own_is, s, none_is) rest =
-    let rows_of : one ≡ plain_rows s.lines = s.rows_are ∙ ap (λ (gs : List Gutter). behind gs 0 [] 0 s.lines) (no_gutters ascii width) ∙ rows_plain s.lines in
-    let own_rows : own ≡ plain_rows s.lines = own_is ∙ ap (λ (l : List RowContent). one ++ l) none_is ∙ append-nil one ∙ rows_of in
-    record {
-      lines = s.lines ++ rest.lines;
-      rows_are = joins ∙ ap (λ (l : List RowContent). l ++ others) own_rows ∙ ap (λ (l : List RowContent). plain_rows s.lines ++ l) rest.rows_are ∙ sym (plain_joined s.lines rest.lines);
-      laid = (s.lines, rest.lines, refl, subst (λ (w : Option ℕ). IsLayoutAt rules w text s.lines) (whole_room ascii width) s.layout, rest.laid);
-    }
+-- the rows of such a section are those of its text
+plain_text : (rules : LineRules) (ascii : Bool) (width : Option ℕ) (text : List LineContent) (own : List RowContent)
+    → EachBecomes (IsSectionAt rules ascii width) (record { gutters = []; fresh = 0; list = None; marks = []; lines = text } ∷ []) own → IsPlainAt rules width text own
+plain_text rules ascii width text own (one, none, own_is, s, none_is) = (
+  s.lines,
+  subst (λ (w : Option ℕ). IsLayoutAt rules w text s.lines) (whole_room ascii width) s.layout,
+  own_is ∙ ap (λ (l : List RowContent). one ++ l) none_is ∙ append-nil one ∙ s.rows_are ∙ ap (λ (gs : List Gutter). behind gs 0 [] 0 true s.lines) (no_gutters ascii width),
+)
 
--- a page without gutters has the rows of layouts
+-- a page without gutters has the rows of its texts
 pub plain : PlainIsLayout
-plain rules ascii width [] rows h = record { lines = []; rows_are = h; laid = refl }
+plain rules ascii width [] rows h = h
 plain rules ascii width (text ∷ texts) rows (own, others, joins, becomes, more) =
-    plain_first rules ascii width text texts rows own others joins (plain_one rules ascii width text own becomes) (plain rules ascii width texts others more)
+    (own, others, joins, plain_text rules ascii width text own (plain_one rules ascii width text own becomes), plain rules ascii width texts others more)

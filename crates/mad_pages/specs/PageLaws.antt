@@ -1,5 +1,5 @@
 -- Laws of pages.
-use Rattle.std.specs.Prelude.{◌≡◌, ℕ, Bool, List, [], ◌∷◌, ◌++◌, map, Option, None}
+use Rattle.std.specs.Prelude.{◌≡◌, ℕ, Bool, true, List, [], ◌∷◌, ◌++◌, map, Option, None}
 use Rattle.std.specs.List.{AllByRecursion}
 use Rattle.mad_md.specs.Lines.{LineContent}
 use Rattle.mad_format.specs.LineRules.{LineRules}
@@ -9,26 +9,24 @@ use Rattle.mad_blocks.specs.Layouts.{IsLayoutAt}
 use Rattle.mad_sections.specs.Sections.{SectionContent}
 use Rattle.mad_pages.specs.PageLayouts.{IsSectionAt, IsPageAt}
 use Rattle.mad_sections.specs.Gutters.{room, shown}
-use Rattle.mad_pages.specs.PageRows.{RowContent}
+use Rattle.mad_pages.specs.PageRows.{RowContent, behind}
 
--- rows without gutters: these lines
+-- rows without gutters and marks: these lines
 abbrev pub plain_rows : List FmtLine → List RowContent
-plain_rows lines = map (λ (line : FmtLine). record { gutters = []; fresh = 0; marks = []; number = 0; line = line }) lines
+plain_rows lines = behind [] 0 [] 0 true lines
 
 -- sections without gutters, none of which may be a list: these texts
 abbrev pub plain_sections : List (List LineContent) → List SectionContent
 plain_sections texts = map (λ (lines : List LineContent). record { gutters = []; fresh = 0; list = None; marks = []; lines = lines }) texts
 
--- The rows of a page without gutters are lines without gutters, which are the layouts of its sections' lines one after the other.
-pub record ArePlain (rules : LineRules) (width : Option ℕ) (texts : List (List LineContent)) (rows : List RowContent) : Type 0 where
-  pub lines : List FmtLine
-  pub rows_are : rows ≡ plain_rows lines
-  pub laid : EachBecomes (IsLayoutAt rules width) texts lines
+-- the rows are lines without gutters, which are the layout of a text
+abbrev pub IsPlainAt : LineRules → Option ℕ → List LineContent → List RowContent → Type 0
+IsPlainAt rules width text rows = (lines : List FmtLine) × IsLayoutAt rules width text lines × (rows ≡ plain_rows lines)
 
--- each page without gutters is so
+-- the rows of a page without gutters are those of its sections' texts, one after the other
 abbrev pub PlainIsLayout : Type 0
 PlainIsLayout = (rules : LineRules) (ascii : Bool) (width : Option ℕ) (texts : List (List LineContent)) (rows : List RowContent)
-    → IsPageAt rules ascii width (plain_sections texts) rows → ArePlain rules width texts rows
+    → IsPageAt rules ascii width (plain_sections texts) rows → EachBecomes (IsPlainAt rules width) texts rows
 
 -- The lines of a section's rows are a layout of its lines in its room, so they have all that is said of layouts: each line has its characters
 -- once, in order, on the fewest rows that the room allows. Each row is behind the gutters that are shown.

@@ -1,5 +1,5 @@
 -- The rows of a page at a width.
-use Rattle.std.specs.Prelude.{◌≡◌, ℕ, Bool, List, Option}
+use Rattle.std.specs.Prelude.{◌≡◌, ℕ, Bool, true, List, Option}
 use Rattle.mad_format.specs.LineRules.{LineRules}
 use Rattle.mad_format.specs.Lists.{EachBecomes}
 use Rattle.mad_format.specs.declared.line.FmtLine.{FmtLine}
@@ -14,7 +14,7 @@ use Rattle.mad_pages.specs.PageRows.{RowContent, behind}
 pub record IsSectionAt (rules : LineRules) (ascii : Bool) (width : Option ℕ) (section : SectionContent) (rows : List RowContent) : Type 0 where
   pub lines : List FmtLine
   pub layout : IsLayoutAt rules (room ascii width section.gutters) section.lines lines
-  pub rows_are : rows ≡ behind (shown ascii width section.gutters) section.fresh section.marks 0 lines
+  pub rows_are : rows ≡ behind (shown ascii width section.gutters) section.fresh section.marks 0 true lines
 
 -- what becomes of a section: the rows of those that are shown in its place
 abbrev pub BecomesAt : LineRules → Bool → Option ℕ → SectionContent → List RowContent → Type 0

@@ -1,10 +1,10 @@
 //! What stands in front of the lines of a page.
 
-ghost use Rattle.std.specs.Prelude.{◌≡◌, ◌++◌, OnOk, map};
+ghost use Rattle.std.specs.Prelude.{◌≡◌, ◌++◌, true, OnOk, map};
 ghost use Rattle.mad_pages.specs.Fronts.{front_at, front_content, front_of};
 ghost use Rattle.mad_pages.specs.PageRows.{behind};
 
-use crate::page_rows::{PageRow, marks_from, number_behind};
+use crate::page_rows::{PageRow, heads_behind, is_head, marks_from, number_behind};
 use mad_format::FmtLine;
 use mad_mark_runs::MarkRun;
 use mad_sections::Gutter;
@@ -21,6 +21,8 @@ pub struct Front<'s> {
     pub marks: &'s [MarkRun],
     /// How many counted characters of its section stand before the line.
     pub number: usize,
+    /// Whether the line is of the head of a table.
+    pub head: bool,
 }
 
 /// The front of this number. Past the last one nothing stands in front.
@@ -34,19 +36,21 @@ pub fn front_at<'s>(fronts: &[Front<'s>], row: usize) -> Front<'s>
             fresh: 0,
             marks: &[],
             number: 0,
+            head: false,
         },
     }
 }
 
 /// What stands in front of a row's line.
 pub fn front_of<'s>(row: &PageRow<'s>) -> Front<'s>
-    ensures { result ≡ record { gutters = row.now.gutters; fresh = row.now.fresh; marks = row.now.marks; number = row.now.number } }
+    ensures { result ≡ record { gutters = row.now.gutters; fresh = row.now.fresh; marks = row.now.marks; number = row.now.number; head = row.now.head } }
 {
     Front {
         gutters: row.gutters,
         fresh: row.fresh,
         marks: row.marks,
         number: row.number,
+        head: row.head,
     }
 }
 
@@ -63,21 +67,24 @@ pub(crate) fn push_fronts<'s>(
     marks: &'s [MarkRun],
     lines: &[FmtLine],
 ) -> Result<(), AllocError>
-    ensures { OnOk result (map front_content fronts.new.items ≡ map front_content fronts.old.items ++ map front_of (behind gutters.entry.now fresh marks.entry.now 0 lines.now)) }
+    ensures { OnOk result (map front_content fronts.new.items ≡ map front_content fronts.old.items ++ map front_of (behind gutters.entry.now fresh marks.entry.now 0 true lines.now)) }
 {
     let mut here = fresh;
     let mut left = marks;
     let mut number = 0;
+    let mut heads = true;
     for line in lines {
         fronts.push(Front {
             gutters,
             fresh: here,
             marks: left,
             number,
+            head: is_head(heads, line),
         })?;
         number = number_behind(left, number, line)?;
         left = marks_from(left, number);
         here = 0;
+        heads = heads_behind(heads, line);
     }
     Ok(())
 }

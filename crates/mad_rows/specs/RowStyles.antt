@@ -17,6 +17,7 @@ use Rattle.mad_style.specs.OrderedItems.{unstyled_item}
 use Rattle.mad_style.specs.StyledChars.{char_alone, char_style}
 use Rattle.mad_format.specs.LineRules.{LineRules}
 use Rattle.mad_rows.specs.declared.page_styles.PageStyles.{PageStyles}
+use Rattle.mad_rows.specs.declared.page_styles.TitleStyles.{TitleStyles}
 use Rattle.mad_rows.specs.declared.row_skin.RowSkin.{RowSkin}
 
 -- the style of the header of this level, which is counted from 1, among these; the paragraph's at a level without a header
@@ -71,6 +72,10 @@ adds_nothing skin = sets_nothing skin.bold && sets_nothing skin.italic && sets_n
 abbrev pub with_links : RowSkin → RowSkin
 with_links skin = record skin { link = (if adds_nothing skin then unstyled else text_style None None (only Underlined)) }
 
+-- titles of alerts in which nothing is set
+abbrev pub unstyled_titles : TitleStyles
+unstyled_titles = record { note = unstyled; tip = unstyled; important = unstyled; warning = unstyled; caution = unstyled }
+
 -- the numbers of a line's colors are bytes, as those of every style are that a program has
 abbrev pub IsKnownLine : LineStyle → Type 0
 IsKnownLine s = IsStyle s.compound_style.object_style
@@ -104,6 +109,14 @@ pub record AreKnownSigns (page : PageStyles) : Type 0 where
   pub below_first : IsStyle (char_style page.below_first).object_style
   pub below_others : IsStyle (char_style page.below_others).object_style
 
+-- so are those of the titles of alerts
+pub record AreKnownTitles (titles : TitleStyles) : Type 0 where
+  pub note : IsStyle titles.note.object_style
+  pub tip : IsStyle titles.tip.object_style
+  pub important : IsStyle titles.important.object_style
+  pub warning : IsStyle titles.warning.object_style
+  pub caution : IsStyle titles.caution.object_style
+
 -- so are those of the parts of a skin, but for headers and items
 pub record AreKnownParts (skin : RowSkin) : Type 0 where
   pub paragraph : IsKnownLine skin.paragraph
@@ -119,6 +132,8 @@ pub record AreKnownParts (skin : RowSkin) : Type 0 where
   pub quote_mark : IsStyle (char_style skin.quote_mark).object_style
   pub rule : IsStyle (char_style skin.horizontal_rule).object_style
   pub page : AreKnownSigns skin.page
+  pub head : IsStyle skin.head.object_style
+  pub titles : AreKnownTitles skin.titles
 
 -- so are those of all its parts
 pub record AreKnownStyles (skin : RowSkin) : Type 0 where

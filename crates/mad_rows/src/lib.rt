@@ -20,7 +20,7 @@ pub mod tables;
 
 pub use composites::{CompositeEnd, CompositeFront, FreeComposite, PlacedComposite};
 pub use lines::{PlacedLine, PlacedLines, PlacedRow};
-pub use page_styles::PageStyles;
+pub use page_styles::{PageStyles, TitleStyles};
 pub use row_skin::{
     FlagStyles, HeaderStyles, OrderedItemStyles, RowSkin, ToneStyles, item_style_at, sets_nothing,
     style_of_compound, style_of_kind,

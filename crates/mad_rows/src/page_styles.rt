@@ -1,6 +1,6 @@
-//! How what a page shows beside its text looks.
+//! How what a page shows beside its text looks, and the words that say what an alert is.
 
-use mad_style::StyledChar;
+use mad_style::{CompoundStyle, StyledChar};
 
 /// How what a page shows beside its text looks: the boxes of tasks, the bars of alerts, and the rules below headings.
 #[derive(Clone, Copy, PartialEq, Debug)]
@@ -23,4 +23,38 @@ pub struct PageStyles {
     pub below_first: StyledChar,
     /// The same below a heading of any other level.
     pub below_others: StyledChar,
+}
+
+/// What the word adds to bold text that says what an alert is.
+#[derive(Clone, Copy, PartialEq, Debug)]
+pub struct TitleStyles {
+    /// That of a note.
+    pub note: CompoundStyle,
+    /// That of a tip.
+    pub tip: CompoundStyle,
+    /// That of what is important.
+    pub important: CompoundStyle,
+    /// That of a warning.
+    pub warning: CompoundStyle,
+    /// That of a caution.
+    pub caution: CompoundStyle,
+}
+
+impl Default for TitleStyles {
+    ghost use Rattle.std.specs.Prelude.{◌≡◌};
+    ghost use Rattle.mad_rows.specs.RowStyles.{unstyled_titles};
+
+    ghost is_default = { λ styles. styles ≡ unstyled_titles };
+
+    /// Titles in which nothing is set.
+    fn default() -> Self {
+        let style = CompoundStyle::default();
+        Self {
+            note: style,
+            tip: style,
+            important: style,
+            warning: style,
+            caution: style,
+        }
+    }
 }

@@ -5,7 +5,7 @@ ghost use Rattle.mad_md.specs.Flagged.{run_of};
 ghost use Rattle.std.specs.Str.{bytes_eq};
 ghost use Rattle.mad_rows.specs.RowStyles.{adds_nothing, compound_style, ellipsis_bytes, item_style_at, line_style, ordered_item_style, sets_nothing, style_of_compound, style_of_kind, tone_styles, with_links};
 
-use crate::page_styles::PageStyles;
+use crate::page_styles::{PageStyles, TitleStyles};
 use mad_draw::Spaces;
 use mad_format::LineSkin;
 use mad_md::{Compound, MAX_HEADER_DEPTH};
@@ -66,6 +66,10 @@ pub struct RowSkin {
     pub whole_words: bool,
     /// How what a page shows beside its text looks.
     pub page: PageStyles,
+    /// What the heads of a page's tables add to bold text.
+    pub head: CompoundStyle,
+    /// What the titles of alerts add to bold text.
+    pub titles: TitleStyles,
     /// The tones of code, if it is shown with tones.
     pub tones: Option<ToneStyles>,
 }

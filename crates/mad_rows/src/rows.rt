@@ -5,10 +5,10 @@ ghost use Rattle.std.specs.Option.{option_copied};
 ghost use Rattle.mad_draw.specs.Pieces.{AreKnown};
 ghost use Rattle.std.specs.List.{AllByRecursion, sum_by};
 ghost use Rattle.mad_rows.specs.Rows.{row_pieces, inner_blanks, inner_columns, outer_blanks, blanks_beside, margins_of, row_blanks, line_blanks, composite_blanks, table_blanks, cell_blanks, row_columns, rule_chars};
-ghost use Rattle.mad_rows.specs.RowStyles.{AreKnownParts, AreKnownSigns, AreKnownStyles, IsKnownItem, IsKnownLine, IsKnownTone};
+ghost use Rattle.mad_rows.specs.RowStyles.{AreKnownParts, AreKnownSigns, AreKnownStyles, AreKnownTitles, IsKnownItem, IsKnownLine, IsKnownTone};
 ghost use Rattle.mad_wrap.specs.WrapLines.{capped};
 
-use crate::page_styles::PageStyles;
+use crate::page_styles::{PageStyles, TitleStyles};
 use crate::row_skin::RowSkin;
 use mad_draw::RuleChars;
 use mad_format::{FmtComposite, FmtLine, RelativePosition, rule_columns};
@@ -223,11 +223,17 @@ fn know_parts(skin: RowSkin)
     ensures { AreKnownParts skin }
 {
     know_signs(skin.page);
+    know_titles(skin.titles);
 }
 
 // So they are in the styles of what a page shows beside its text.
 fn know_signs(page: PageStyles)
     ensures { AreKnownSigns page }
+{}
+
+// So they are in the styles of the titles of alerts.
+fn know_titles(titles: TitleStyles)
+    ensures { AreKnownTitles titles }
 {}
 
 // A part of a skin in whose styles the numbers of colors are bytes.

@@ -1,6 +1,6 @@
 -- Steady and printed sections keep what drawing asks of texts.
 use Rattle.std.proofs.Common.{◌≡◌, ◌⊎◌, ℕ, ◌<◌, ◌≤◌, min, nat_lt, nat_le, not, ◌&&◌, ◌==◌, Bool, true, false, cond, if◌then◌else◌, List, [], ◌∷◌, ◌++◌, map, drop, length, Option, Some, None, ⊎_elim, refl, sym, subst, arith, append-nil}
-use Rattle.std.specs.Char.{is_control, is_whitespace}
+use Rattle.std.specs.Char.{IsScalar, is_control, is_whitespace}
 use Rattle.std.specs.List.{AllByRecursion, list_all}
 use Rattle.std.specs.Str.{IsUtf8, NonePass, NoCharPasses}
 use Rattle.std.proofs.lemmas.Bool.{and_from}
@@ -9,7 +9,7 @@ use Rattle.std.proofs.lemmas.Str.{chars-IsAscii, chars_from_encodes}
 use Rattle.std.proofs.lemmas.Str.Ascii.{IsAscii-cons, IsAscii-nil}
 use Rattle.unicode_width.specs.Width.{char_width}
 use Rattle.mad_characters.proofs.CharColumns.{char_columns-three}
-use Rattle.mad_md.specs.Flagged.{Flags, FlaggedChar, Run, flagged}
+use Rattle.mad_md.specs.Flagged.{Flags, FlaggedChar, Run, flagged, unflagged}
 use Rattle.mad_md.specs.Lines.{StyledRuns, LineContent, normal, table_row, table_rule, horizontal_rule}
 use Rattle.mad_steady.specs.Widths.{AreJoinedChars}
 use Rattle.mad_steady.proofs.PieceLemmas.{pieces}
@@ -22,7 +22,7 @@ use Rattle.mad_layout.specs.TableColumns.{kept_widths}
 use Rattle.mad_layout.proofs.ReadParts.{lines_are}
 use Rattle.markdown_lines.specs.Printed.{is_obeyed, IsPrintedRun, IsPrintedCell, IsPrintedLine, ArePrinted}
 use Rattle.markdown_lines.specs.Steady.{IsSteadyRun, AreSteadyRuns, IsSteadyCell, IsSteadyLine, AreSteadyLines}
-use Rattle.std.specs.Prelude.{chars, IfSome, IsSome}
+use Rattle.std.specs.Prelude.{chars, codes, IfSome, IsSome}
 use Rattle.mad_md.specs.TypedLines.{IsTypedRun, IsTypedText, IsTypedLine}
 use Rattle.mad_layout.specs.Premises.{AreJoined, IsPrintableRun, IsPrintableText, ArePrintableIn, IsPrintableContent, KeepsPremises, inner_width, runs_text}
 use Rattle.mad_layout.proofs.SourceLemmas.{three-le}
@@ -37,7 +37,8 @@ use Rattle.mad_sections.specs.Unfolded.{lacks_room, list_sections, as_list, unfo
 use Rattle.mad_sections.specs.declared.gutters.Gutter.{Gutter}
 use Rattle.mad_sections.proofs.Choices.{by_bool}
 use Rattle.mad_sections.proofs.RoomLemmas.{rooms_last}
-use Rattle.mad_dressing.specs.Dressed.{Put, nothing, rule_below, signs_before, dressed, dressed_by, dressed_page, put_with}
+use Rattle.mad_dressing.specs.Dressed.{Beside, Put, nothing, rule_below, signs_before, dressed, dressed_by, dressed_page, placed_by, put_with}
+use Rattle.mad_dressing.specs.WordMarks.{begin_code, beginnings, begins_strong, end_flags, endings, first_flags, is_rule, mark_if, marked_flags, marked_line, marked_lines, marked_runs, marked_text, start_flags, worded, worded_if}
 use Rattle.mad_dressing.specs.declared.heading_marks.HeadingMarks.{HeadingMarks}
 use Rattle.mad_page_rows.specs.FaceLaws.{IsTypedGutter}
 use Rattle.mad_page_rows.specs.Faces.{has_ascii_boxes}
@@ -219,10 +220,112 @@ all_parted : {A : Type 0} (P : A → Type 0) (xs ys : List A) → AllByRecursion
 all_parted P [] ys h = (tt, h)
 all_parted P (x ∷ xs) ys h = let rest = all_parted P xs ys h.1 in ((h.0, rest.0), rest.1)
 
+beside_fine : (beside : Beside) (s : SectionContent) → AllByRecursion IsTypedSection (placed_by beside s) → AllByRecursion IsFine s.lines → AllByRecursion IsFineSection (placed_by beside s)
+beside_fine nothing s t own = (record { gutters = t.0.gutters; list = t.0.list; lines = own }, tt)
+beside_fine (rule_below gutters) s t own = (record { gutters = t.0.gutters; list = t.0.list; lines = own }, (record { gutters = t.1.0.gutters; list = tt; lines = (tt, tt) }, tt))
+beside_fine (signs_before gutters) s t own = (record { gutters = t.0.gutters; list = t.0.list; lines = own }, tt)
+
+lines_typed : (beside : Beside) (s : SectionContent) → AllByRecursion IsTypedSection (placed_by beside s) → AllByRecursion IsTypedLine s.lines
+lines_typed nothing s t = t.0.lines
+lines_typed (rule_below gutters) s t = t.0.lines
+lines_typed (signs_before gutters) s t = t.0.lines
+
+-- ---- marks at words
+
+-- a mark is printable
+mark_fine : (c : ℕ) → IsScalar c → 32 ≤ c → c < 127 → IsPrintableRun (record { flags = unflagged; text = c ∷ [] })
+mark_fine c scalar low high =
+    let cs : chars (c ∷ []) ≡ c ∷ [] = chars-IsAscii (c ∷ []) (IsAscii-cons c [] (omega (arith, high)) IsAscii-nil) in
+    let column = ascii_column c scalar low high in
+    record {
+      printed = subst IsPrinted (sym cs) (printed (c ∷ []) (printed_ascii c low high, tt));
+      joined = subst (λ (text : List ℕ). AreJoined false (flagged unflagged text)) (sym cs) ((λ none. absurd (omega (arith, none, column.one))), tt);
+    }
+  where
+    printed_ascii : (c : ℕ) → 32 ≤ c → c < 127 → is_obeyed c ≡ false
+    printed_ascii c low high = grind (arith, nat_tests, low, high)
+
+there_fine : (there : Bool) (c : ℕ) → IsScalar c → 32 ≤ c → c < 127 → AllByRecursion IsPrintableRun (mark_if there (c ∷ []))
+there_fine true c scalar low high = (mark_fine c scalar low high, tt)
+there_fine false c scalar low high = tt
+
+beginnings_fine : (before own : Flags) → AllByRecursion IsPrintableRun (beginnings before own)
+beginnings_fine before own =
+    let link = own.link && not before.link in
+    let italic = own.italic && not before.italic in
+    let bold = own.bold && not before.bold in
+    let strikeout = own.strikeout && not before.strikeout in
+    let code = own.code && not before.code in
+    all_joined IsPrintableRun (mark_if link (codes "[")) _ (there_fine link 91 refl (omega arith) (omega arith))
+    (all_joined IsPrintableRun (mark_if italic (codes "_")) _ (there_fine italic 95 refl (omega arith) (omega arith))
+    (all_joined IsPrintableRun (mark_if bold (codes "*")) _ (there_fine bold 42 refl (omega arith) (omega arith))
+    (all_joined IsPrintableRun (mark_if strikeout (codes "~")) (mark_if code (codes "`")) (there_fine strikeout 126 refl (omega arith) (omega arith)) (there_fine code 96 refl (omega arith) (omega arith)))))
+
+endings_fine : (own after : Flags) → AllByRecursion IsPrintableRun (endings own after)
+endings_fine own after =
+    let link = own.link && not after.link in
+    let italic = own.italic && not after.italic in
+    let bold = own.bold && not after.bold in
+    let strikeout = own.strikeout && not after.strikeout in
+    let code = own.code && not after.code in
+    all_joined IsPrintableRun (mark_if code (codes "`")) _ (there_fine code 96 refl (omega arith) (omega arith))
+    (all_joined IsPrintableRun (mark_if strikeout (codes "~")) _ (there_fine strikeout 126 refl (omega arith) (omega arith))
+    (all_joined IsPrintableRun (mark_if bold (codes "*")) _ (there_fine bold 42 refl (omega arith) (omega arith))
+    (all_joined IsPrintableRun (mark_if italic (codes "_")) (mark_if link (codes "]")) (there_fine italic 95 refl (omega arith) (omega arith)) (there_fine link 93 refl (omega arith) (omega arith)))))
+
+runs_fine : (strong : Bool) (before after : Flags) (runs : List Run) → AllByRecursion IsPrintableRun runs → AllByRecursion IsPrintableRun (marked_runs strong before after runs)
+runs_fine strong before after [] h = tt
+runs_fine strong before after (run ∷ runs) h =
+    let flags = marked_flags strong run in
+    let back = endings flags (first_flags strong after runs) in
+    let more = marked_runs strong flags after runs in
+    all_joined IsPrintableRun (beginnings before flags) (run ∷ (back ++ more)) (beginnings_fine before flags)
+    (h.0, all_joined IsPrintableRun back more (endings_fine flags (first_flags strong after runs)) (runs_fine strong flags after runs h.1))
+
+marked_cells_fine : (strong : Bool) (cells : List StyledRuns) → AllByRecursion IsFineCell cells → AllByRecursion IsFineCell (map (marked_text strong unflagged unflagged) cells)
+marked_cells_fine strong [] h = tt
+marked_cells_fine strong (cell ∷ cells) h = (record { style = h.0.style; runs = runs_fine strong unflagged unflagged cell.runs h.0.runs }, marked_cells_fine strong cells h.1)
+
+marked_fine : (strong : Bool) (before : Flags) (next : List LineContent) (line : LineContent) → IsFine line → IsFine (marked_line strong before next line)
+marked_fine strong before next (normal said) h = record { style = h.style; runs = runs_fine strong before (start_flags next) said.runs h.runs }
+marked_fine strong before next (table_row cells) h = marked_cells_fine strong cells h
+marked_fine strong before next (table_rule aligns) h = tt
+marked_fine strong before next horizontal_rule h = tt
+
+all_marked_fine : (strong : Bool) (before : Flags) (lines : List LineContent) → AllByRecursion IsFine lines → AllByRecursion IsFine (marked_lines strong before lines)
+all_marked_fine strong before [] h = tt
+all_marked_fine strong before (line ∷ lines) h = (marked_fine strong before lines line h.0, all_marked_fine (strong && is_rule line) (end_flags strong line) lines h.1)
+
+-- what is typed with marks is so without them
+runs_typed : (strong : Bool) (before after : Flags) (runs : List Run) → AllByRecursion IsTypedRun (marked_runs strong before after runs) → AllByRecursion IsTypedRun runs
+runs_typed strong before after [] h = tt
+runs_typed strong before after (run ∷ runs) h =
+    let flags = marked_flags strong run in
+    let back = endings flags (first_flags strong after runs) in
+    let more = marked_runs strong flags after runs in
+    let own = (all_parted IsTypedRun (beginnings before flags) (run ∷ (back ++ more)) h).1 in
+    (own.0, runs_typed strong flags after runs (all_parted IsTypedRun back more own.1).1)
+
+cells_typed : (strong : Bool) (cells : List StyledRuns) → AllByRecursion IsTypedText (map (marked_text strong unflagged unflagged) cells) → AllByRecursion IsTypedText cells
+cells_typed strong [] h = tt
+cells_typed strong (cell ∷ cells) h = (record { style = h.0.style; runs = runs_typed strong unflagged unflagged cell.runs h.0.runs }, cells_typed strong cells h.1)
+
+line_typed : (strong : Bool) (before : Flags) (next : List LineContent) (line : LineContent) → IsTypedLine (marked_line strong before next line) → IsTypedLine line
+line_typed strong before next (normal said) h = record { style = h.style; runs = runs_typed strong before (start_flags next) said.runs h.runs }
+line_typed strong before next (table_row cells) h = cells_typed strong cells h
+line_typed strong before next (table_rule aligns) h = tt
+line_typed strong before next horizontal_rule h = tt
+
+marked_typed : (strong : Bool) (before : Flags) (lines : List LineContent) → AllByRecursion IsTypedLine (marked_lines strong before lines) → AllByRecursion IsTypedLine lines
+marked_typed strong before [] h = tt
+marked_typed strong before (line ∷ lines) h = (line_typed strong before lines line h.0, marked_typed (strong && is_rule line) (end_flags strong line) lines h.1)
+
+worded_fine : (there : Bool) (s : SectionContent) → AllByRecursion IsTypedLine (worded_if there s).lines → ArePrinted s.lines → AreSteadyLines s.lines → ArePlainLines s.lines → AllByRecursion IsFine (worded_if there s).lines
+worded_fine true s t p steady own = all_marked_fine (begins_strong s) unflagged s.lines (all_fine s.lines (marked_typed (begins_strong s) unflagged s.lines t) p steady own)
+worded_fine false s t p steady own = all_fine s.lines t p steady own
+
 put_fine : (put : Put) (s : SectionContent) → AllByRecursion IsTypedSection (dressed_by put s) → ArePrinted s.lines → AreSteadyLines s.lines → ArePlainLines s.lines → AllByRecursion IsFineSection (dressed_by put s)
-put_fine nothing s t p steady own = (fine_section s t.0 p steady own, tt)
-put_fine (rule_below gutters) s t p steady own = (fine_section s t.0 p steady own, (record { gutters = t.1.0.gutters; list = tt; lines = (tt, tt) }, tt))
-put_fine (signs_before gutters) s t p steady own = (record { gutters = t.0.gutters; list = t.0.list; lines = all_fine s.lines t.0.lines p steady own }, tt)
+put_fine put s t p steady own = beside_fine put.beside (worded put.words s) t (worded_fine (put.words && not (begin_code s.lines)) s (lines_typed put.beside (worded put.words s) t) p steady own)
 
 fine_sections : (marks : HeadingMarks) (page : List SectionContent) → AllByRecursion IsTypedSection (dressed_page marks page) → ArePrintedSections page → AreSteadySections page → ArePlainSections page → AllByRecursion IsFineSection (dressed_page marks page)
 unfolding ArePrintedSections AreSteadySections

@@ -3,7 +3,7 @@
 //! 1. `row_ends`: no row ends in a blank that no style shows.
 //! 2. [`page_writing`]: the rows of a section, put after a string.
 //! 3. [`writing`]: a whole page.
-//! 4. [`dressed_markdown`]: a text that was read, with what stands beside its headings.
+//! 4. [`dressed_markdown`]: a text that was read, with what stands beside its headings and at its words.
 //! 5. [`typed_pages`]: what types promise of a page. [`drawing`]: the first rows of a page in an area of the screen.
 //! 6. [`laws`]: what is said of all pages.
 #![tactic(auto)]

@@ -1,20 +1,21 @@
 //! Rows of pages as text at the end of a string: the same bytes as their displayed values.
 
-ghost use Rattle.std.specs.Prelude.{◌≡◌, ◌++◌, false, List, OnOk, map, string_bytes};
+ghost use Rattle.std.specs.Prelude.{◌≡◌, ◌++◌, false, List, OnOk, is_some, map, string_bytes};
 ghost use Rattle.mad_draw.specs.Pieces.{pieces_bytes};
 ghost use Rattle.mad_rows.specs.Rows.{line_bytes};
 ghost use Rattle.mad_rows.specs.RowStyles.{line_rules};
 ghost use Rattle.mad_sections.specs.Sections.{section_content};
+ghost use Rattle.mad_pages.specs.Fronts.{front_of};
 ghost use Rattle.mad_pages.specs.PageLayouts.{BecomesAt};
 ghost use Rattle.mad_pages.specs.PageRows.{RowContent, row_content};
-ghost use Rattle.mad_page_rows.specs.Faces.{columns_behind, faces, has_ascii_boxes, page_row_bytes};
+ghost use Rattle.mad_page_rows.specs.Faces.{alert_titled, columns_behind, faces, has_ascii_boxes, page_row_bytes};
 ghost use Rattle.markdown_layout.specs.Looks.{change_look, changes_look, looks_otherwise};
 ghost use Rattle.markdown_layout.specs.WrittenPages.{row_bytes, rows_bytes};
 
 use crate::row_ends::end_row;
-use mad_page_rows::faces::has_boxes;
+use mad_page_rows::faces::{alert_titled, has_boxes};
 use mad_page_rows::{Faces, PlacedPageRow, columns_behind, has_ascii_boxes};
-use mad_pages::{PageRow, push_section};
+use mad_pages::{PageRow, front_of, push_section};
 use mad_rows::{RowSkin, StyleCommands, append_line};
 use mad_sections::{Gutter, Section};
 use std::alloc::{AllocError, Global};
@@ -63,11 +64,18 @@ fn change_look(gutters: &[Gutter]) -> bool
     false
 }
 
-// Whether the line of a row may look otherwise than elsewhere: behind such a gutter, or with marks.
+// Whether a row is the title of an alert.
+fn is_title(row: &PageRow) -> bool
+    ensures { result ≡ is_some (alert_titled (front_of (row_content row.now))) }
+{
+    alert_titled(front_of(row)).is_some()
+}
+
+// Whether the line of a row may look otherwise than elsewhere: behind such a gutter, with marks, as the head of a table, or as the title of an alert.
 fn looks_otherwise(row: &PageRow) -> bool
     ensures { result ≡ looks_otherwise (row_content row.now) }
 {
-    change_look(row.gutters) || !row.marks.is_empty()
+    change_look(row.gutters) || !row.marks.is_empty() || row.head || is_title(row)
 }
 
 // A row whose line looks as elsewhere: the faces of its gutters, and its line.

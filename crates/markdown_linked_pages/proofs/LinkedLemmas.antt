@@ -37,6 +37,7 @@ use Rattle.mad_marked_rows.specs.Told.{told_chars, TellsNothing}
 use Rattle.mad_marked_rows.proofs.LawLemmas.{chars_told, line_shown, shown_left, shown_right, told_after, told_before}
 use Rattle.mad_marked_rows.proofs.LinkLawLemmas.{KeepsKnown, line_known, line_without}
 use Rattle.mad_marked_rows.proofs.LinkLemmas.{on_both}
+use Rattle.mad_pages.specs.Fronts.{front_of}
 use Rattle.mad_pages.specs.PageRows.{RowContent}
 use Rattle.mad_page_rows.specs.Faces.{backs, columns_behind, faces, has_ascii_boxes, in_box, line_skin, page_row_pieces}
 use Rattle.markdown_linked_pages.specs.LinkedPageRows.{linked_behind, linked_pieces, linked_row_pieces}
@@ -69,7 +70,7 @@ line_on runs n skin outer filled (TableRule rule) a old new h is = nothing_on a 
 line_on runs n skin outer filled HorizontalRule a old new h is = nothing_on a old new (line_pieces skin outer filled HorizontalRule) is
 
 -- so it is by what the code found
-pub other_line : (skin : RowSkin) (outer : Option ℕ) (filled : Bool) (row : RowContent) (ascii : Bool) (inner : RowSkin) (columns : Option ℕ) (full : Bool) (a : List (Option (List ℕ))) (old new : List ℕ) → ascii ≡ has_ascii_boxes skin → inner ≡ line_skin skin row.gutters
+pub other_line : (skin : RowSkin) (outer : Option ℕ) (filled : Bool) (row : RowContent) (ascii : Bool) (inner : RowSkin) (columns : Option ℕ) (full : Bool) (a : List (Option (List ℕ))) (old new : List ℕ) → ascii ≡ has_ascii_boxes skin → inner ≡ line_skin skin (front_of row)
     → columns ≡ columns_behind ascii outer row.gutters → full ≡ (filled || in_box skin row.gutters) → ((l : FmtComposite) → row.line ≡ Normal l → ⊥) → new ≡ old ++ pieces_bytes (line_pieces inner columns full row.line) → pieces_on a (old, None) (linked_behind skin outer filled row) ≡ (new, None)
 other_line skin outer filled row ascii inner columns full a old new ascii_is inner_is columns_is full_is other is =
     let columns_so : columns ≡ columns_behind (has_ascii_boxes skin) outer row.gutters = columns_is ∙ ap (λ (t : Bool). columns_behind t outer row.gutters) ascii_is in
@@ -173,7 +174,7 @@ row_linked : (skin : RowSkin) (outer : Option ℕ) (filled : Bool) (row : RowCon
 row_linked skin outer filled row addresses is =
     let front : List RowPiece = faces skin row.gutters row.fresh in
     let side : List RowPiece = backs skin row.gutters in
-    let inner : RowSkin = line_skin skin row.gutters in
+    let inner : RowSkin = line_skin skin (front_of row) in
     let columns : Option ℕ = columns_behind (has_ascii_boxes skin) outer row.gutters in
     let full : Bool = filled || in_box skin row.gutters in
     let plain : List RowPiece = line_pieces inner columns full row.line in
@@ -238,7 +239,7 @@ pub row_unchanged : LinksChangeNothing
 row_unchanged skin outer filled row h =
     let front : List RowPiece = faces skin row.gutters row.fresh in
     let side : List RowPiece = backs skin row.gutters in
-    let inner : RowSkin = line_skin skin row.gutters in
+    let inner : RowSkin = line_skin skin (front_of row) in
     let columns : Option ℕ = columns_behind (has_ascii_boxes skin) outer row.gutters in
     let full : Bool = filled || in_box skin row.gutters in
     let plain : List RowPiece = line_pieces inner columns full row.line in

@@ -10,6 +10,7 @@ use Rattle.mad_links.specs.LinkRows.{LinkedPiece}
 use Rattle.mad_links.specs.LinkedAreas.{in_no_link}
 use Rattle.mad_marked_rows.specs.LinkedRows.{linked_line}
 use Rattle.mad_marked_rows.specs.Paints.{paint_by}
+use Rattle.mad_pages.specs.Fronts.{front_of}
 use Rattle.mad_pages.specs.PageRows.{RowContent}
 use Rattle.mad_page_rows.specs.Faces.{backs, columns_behind, faces, has_ascii_boxes, in_box, line_skin}
 
@@ -27,7 +28,7 @@ linked_pieces runs n skin outer filled line = map in_no_link (line_pieces skin o
 -- the pieces of a row's line, in the columns that its gutters leave; in a box it fills them
 abbrev pub linked_behind : RowSkin → Option ℕ → Bool → RowContent → List LinkedPiece
 linked_behind skin outer filled row =
-    linked_pieces row.marks row.number (line_skin skin row.gutters) (columns_behind (has_ascii_boxes skin) outer row.gutters) (filled || in_box skin row.gutters) row.line
+    linked_pieces row.marks row.number (line_skin skin (front_of row)) (columns_behind (has_ascii_boxes skin) outer row.gutters) (filled || in_box skin row.gutters) row.line
 
 -- the pieces of a row at an outer width: its line in the columns that its gutters leave, between their faces and the other sides of boxes, which are in no
 -- link

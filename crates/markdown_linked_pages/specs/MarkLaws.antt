@@ -1,5 +1,5 @@
 -- The marks of a section's rows are those of its characters.
-use Rattle.std.specs.Prelude.{◌≡◌, ℕ, List, []}
+use Rattle.std.specs.Prelude.{◌≡◌, ℕ, true, List, []}
 use Rattle.std.specs.List.{AllByRecursion, flat_map}
 use Rattle.mad_md.specs.Flagged.{flagged_text}
 use Rattle.mad_format.specs.declared.line.FmtLine.{FmtLine}
@@ -28,4 +28,4 @@ IsNoTableRow line = Unit {0}
 abbrev pub RowsHaveTheirMarks : Type 0
 RowsHaveTheirMarks =
     (gutters : List Gutter) (fresh : ℕ) (marks : List MarkRun) (lines : List FmtLine) → AllByRecursion IsNoTableRow lines
-    → flat_map row_marked (behind gutters fresh marks 0 lines) ≡ numbered marks 0 (all_counted has_mark lines)
+    → flat_map row_marked (behind gutters fresh marks 0 true lines) ≡ numbered marks 0 (all_counted has_mark lines)

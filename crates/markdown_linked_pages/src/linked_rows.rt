@@ -9,8 +9,9 @@ ghost use Rattle.mad_marked_rows.specs.LinkedTexts.{pieces_on};
 ghost use Rattle.mad_marked_rows.specs.Paints.{paint_by};
 ghost use Rattle.mad_marks.specs.LineMarks.{has_mark};
 ghost use Rattle.mad_rows.specs.Rows.{line_pieces};
+ghost use Rattle.mad_pages.specs.Fronts.{front_of};
 ghost use Rattle.mad_pages.specs.PageRows.{row_content};
-ghost use Rattle.mad_page_rows.specs.Faces.{backs, faces};
+ghost use Rattle.mad_page_rows.specs.Faces.{backs, faces, line_skin};
 ghost use Rattle.markdown_linked_pages.specs.LinkedPageRows.{lead, linked_behind, linked_row_pieces};
 
 use crate::open_composites::append_open_composite;
@@ -20,7 +21,7 @@ use mad_mark_runs::MarkRun;
 use mad_marked_rows::{MarkedSkin, Paint};
 use mad_page_rows::faces::{backs, is_filled, line_skin};
 use mad_page_rows::{Faces, columns_behind, has_ascii_boxes};
-use mad_pages::PageRow;
+use mad_pages::{PageRow, front_of};
 use mad_rows::{PlacedLine, RowPlace, RowSkin, margins_of};
 use mad_sections::Gutter;
 use std::alloc::AllocError;
@@ -89,6 +90,13 @@ pub fn append_linked_row(
     Ok(open)
 }
 
+// The skin of a row's line.
+fn skin_of_line(skin: &RowSkin, row: &PageRow) -> RowSkin
+    ensures { result ≡ line_skin skin.now (front_of (row_content row.now)) }
+{
+    line_skin(skin, front_of(row))
+}
+
 // The line of a row, in the columns that its gutters leave.
 fn append_linked_line(
     rows: &mut String,
@@ -99,7 +107,7 @@ fn append_linked_line(
 ) -> Result<Option<usize>, AllocError>
     ensures { IfOk result (λ now. pieces_on skin.entry.addresses.now (string_bytes rows.old, None) (linked_behind skin.entry.skin.now outer filled (row_content row.now)) ≡ (string_bytes rows.new, now)) }
 {
-    let inner = line_skin(skin.skin, row.gutters);
+    let inner = skin_of_line(skin.skin, row);
     let columns = columns_behind(row.gutters, outer, has_ascii_boxes(skin.skin));
     let filled = is_filled(skin.skin, row.gutters, filled);
     match &row.line {

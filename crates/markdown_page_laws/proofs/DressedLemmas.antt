@@ -1,9 +1,9 @@
--- The rows of Markdown, with the rules and signs of its headings, show its sections.
+-- The rows of Markdown, with the rules and signs of its headings and with marks at its words, show its sections.
 use Rattle.std.proofs.Common.{◌≡◌, inl, inr, ℕ, ◌-◌, ◌^◌, ◌<◌, ◌≤◌, nat_lt, ◌==◌, Bool, true, false, not, ◌&&◌, List, [], ◌∷◌, ◌++◌, map, length, Option, Some, None, if◌then◌else◌, refl, ap, sym, ◌∙◌, subst, append-nil, append_assoc, ⊎_elim}
 use Rattle.std.specs.List.{AllByRecursion, flat_map}
 use Rattle.std.proofs.lemmas.List.{map-append}
 use Rattle.std.proofs.lemmas.List.Concat.{flat_map-append}
-use Rattle.mad_md.specs.Flagged.{FlaggedChar}
+use Rattle.mad_md.specs.Flagged.{FlaggedChar, Flags, unflagged}
 use Rattle.mad_md.specs.Lines.{LineContent, normal, table_row, table_rule, horizontal_rule}
 use Rattle.mad_format.specs.LineRules.{LineRules}
 use Rattle.mad_format.specs.Lists.{EachBecomes}
@@ -18,19 +18,61 @@ use Rattle.mad_sections.specs.declared.gutters.Gutter.TheVariants.{Below, Signs}
 use Rattle.mad_sections.proofs.Choices.{by_bool}
 use Rattle.mad_sections.proofs.KeptLemmas.{stays_when}
 use Rattle.mad_dressing.specs.DressLaws.{IsRuled, IsSigned}
-use Rattle.mad_dressing.specs.Dressed.{Put, nothing, rule_below, signs_before, dressed, dressed_by, dressed_page, heading_level, put_at, put_with, rule_behind, signed}
+use Rattle.mad_dressing.specs.Dressed.{Beside, nothing, rule_below, signs_before, beside_at, dressed, dressed_page, heading_level, placed_by, rule_behind, signed}
+use Rattle.mad_dressing.specs.WordMarks.{begin_code, begins_strong, end_flags, marked_lines, worded, worded_if}
 use Rattle.mad_dressing.specs.declared.heading_marks.HeadingMarks.{HeadingMarks}
 use Rattle.mad_dressing.proofs.DressLemmas.{adds_marks_alone}
+use Rattle.mad_dressing.proofs.MarkLemmas.{worded_lines}
 use Rattle.mad_pages.specs.PageLayouts.{IsPageAt}
 use Rattle.mad_pages.specs.PageRows.{RowContent}
 use Rattle.markdown_reader.specs.Markdown.{markdown_sections}
 use Rattle.markdown_page_laws.specs.KeptMarkdown.{solid, texts_in, text_at, solid_at, IsShownBy, ShowSection, rule_at, ShowDressed, MarkdownIsKept}
 use Rattle.markdown_page_laws.specs.KeptPages.{lines_of_rows, KeepsSection, KeepsShown}
-use Rattle.markdown_page_laws.specs.TableSections.{IsTableOrNone}
+use Rattle.markdown_page_laws.specs.TableSections.{HaveNoRow, IsTableOrNone}
 use Rattle.markdown_page_laws.proofs.BecomeLemmas.{one_becomes, lists_become}
 use Rattle.markdown_page_laws.proofs.PageLemmas.{pages_keep}
 use Rattle.markdown_page_laws.proofs.ShownPageLemmas.{lines_of, section_shows}
 use Rattle.markdown_page_laws.proofs.TableSectionLemmas.{tables_may_be_lists}
+
+-- ---- marks at words
+
+marked_level : (strong : Bool) (before : Flags) (lines : List LineContent) → heading_level (marked_lines strong before lines) ≡ heading_level lines
+marked_level strong before [] = refl
+marked_level strong before (normal said ∷ lines) = refl
+marked_level strong before (table_row cells ∷ lines) = refl
+marked_level strong before (table_rule aligns ∷ lines) = refl
+marked_level strong before (horizontal_rule ∷ lines) = refl
+
+level_by : (there : Bool) (s : SectionContent) → heading_level (worded_if there s).lines ≡ heading_level s.lines
+level_by true s = marked_level (begins_strong s) unflagged s.lines
+level_by false s = refl
+
+-- a heading is one of the same level with marks
+worded_level : (words : Bool) (s : SectionContent) → heading_level (worded words s).lines ≡ heading_level s.lines
+worded_level words s = level_by (words && not (begin_code s.lines)) s
+
+marked_table : (strong : Bool) (before : Flags) (lines : List LineContent) → are_table (marked_lines strong before lines) ≡ are_table lines
+marked_table strong before [] = refl
+marked_table strong before (normal said ∷ lines) = refl
+marked_table strong before (table_row cells ∷ lines) = marked_table (strong && false) unflagged lines
+marked_table strong before (table_rule aligns ∷ lines) = marked_table (strong && true) unflagged lines
+marked_table strong before (horizontal_rule ∷ lines) = refl
+
+marked_none : (strong : Bool) (before : Flags) (lines : List LineContent) → HaveNoRow lines → HaveNoRow (marked_lines strong before lines)
+marked_none strong before [] h = tt
+marked_none strong before (normal said ∷ lines) h = (tt, marked_none (strong && false) (end_flags strong (normal said)) lines h.1)
+marked_none strong before (table_row cells ∷ lines) h = absurd h.0
+marked_none strong before (table_rule aligns ∷ lines) h = (tt, marked_none (strong && true) unflagged lines h.1)
+marked_none strong before (horizontal_rule ∷ lines) h = (tt, marked_none (strong && false) unflagged lines h.1)
+
+table_by : (there : Bool) (s : SectionContent) → IsTableOrNone s → IsTableOrNone (worded_if there s)
+table_by true s (inl none) = inl (marked_none (begins_strong s) unflagged s.lines none)
+table_by true s (inr (table, list)) = inr (marked_table (begins_strong s) unflagged s.lines ∙ table, list)
+table_by false s h = h
+
+-- a table is one with marks, and what has no row of one has none with them
+worded_table : (words : Bool) (s : SectionContent) → IsTableOrNone s → IsTableOrNone (worded words s)
+worded_table words s h = table_by (words && not (begin_code s.lines)) s h
 
 -- ---- rules below headings
 
@@ -41,12 +83,12 @@ rule_alone rules ascii width gutters rows kept =
     lines.2 ∙ ap (λ (l : List FmtLine). l ++ lines.1) lines.3 ∙ ap (λ (l : List FmtLine). HorizontalRule ∷ l) lines.4
 
 -- the lines of the rows that are put below a section
-abbrev lines_put : Put → List FmtLine
+abbrev lines_put : Beside → List FmtLine
 lines_put nothing = []
 lines_put (rule_below gutters) = HorizontalRule ∷ []
 lines_put (signs_before gutters) = []
 
-put_is : (marks : HeadingMarks) (gutters : List Gutter) (level : Option ℕ) → lines_put (put_at marks gutters level) ≡ rule_at marks level
+put_is : (marks : HeadingMarks) (gutters : List Gutter) (level : Option ℕ) → lines_put (beside_at marks gutters level) ≡ rule_at marks level
 put_is marks gutters None = refl
 put_is marks gutters (Some level) =
     let ruled : List Gutter = gutters ++ Below level ∷ [] in
@@ -60,7 +102,7 @@ put_is marks gutters (Some level) =
 abbrev ShowAbove : List FmtLine → SectionContent → List RowContent → Type 0
 ShowAbove lines s rows = (own : List RowContent) × (below : List RowContent) × (rows ≡ own ++ below) × ShowSection s own × (lines_of_rows below ≡ lines)
 
-put_shown : (rules : LineRules) (ascii : Bool) (width : ℕ) (put : Put) (s : SectionContent) (rows : List RowContent) → IsTableOrNone s → EachBecomes (KeepsShown rules ascii width) (dressed_by put s) rows → ShowAbove (lines_put put) s rows
+put_shown : (rules : LineRules) (ascii : Bool) (width : ℕ) (beside : Beside) (s : SectionContent) (rows : List RowContent) → IsTableOrNone s → EachBecomes (KeepsShown rules ascii width) (placed_by beside s) rows → ShowAbove (lines_put beside) s rows
 put_shown rules ascii width nothing s rows h (own, others, joins, kept, none) = (own, others, joins, (section_shows rules ascii width s own h kept).0, ap lines_of_rows none)
 put_shown rules ascii width (rule_below gutters) s rows h (own, others, joins, kept, more) =
     (own, others, joins, (section_shows rules ascii width s own h kept).0, rule_alone rules ascii width gutters others (one_becomes (KeepsShown rules ascii width) (rule_behind gutters) others more))
@@ -72,7 +114,10 @@ KeepsDressed rules ascii width marks s rows = EachBecomes (KeepsShown rules asci
 
 dressed_shown : (rules : LineRules) (ascii : Bool) (width : ℕ) (marks : HeadingMarks) (s : SectionContent) (rows : List RowContent) → IsTableOrNone s → KeepsDressed rules ascii width marks s rows → ShowDressed marks s rows
 dressed_shown rules ascii width marks s rows h kept =
-    subst (λ (lines : List FmtLine). ShowAbove lines s rows) (put_is marks s.gutters (heading_level s.lines)) (put_shown rules ascii width (put_with marks s) s rows h kept)
+    let own : SectionContent = worded marks.words s in
+    let beside : Beside = beside_at marks s.gutters (heading_level s.lines) in
+    let above : ShowAbove (lines_put beside) own rows = put_shown rules ascii width beside own rows (worded_table marks.words s h) kept in
+    (above.0, above.1, above.2, above.3, worded_lines marks.words s, above.4 ∙ put_is marks s.gutters (heading_level s.lines))
 
 -- what becomes of each section has what follows of it, where each is a table that may be a list, or has no row of one
 each_shown : (becomes shows : SectionContent → List RowContent → Type 0) → ((s : SectionContent) (own : List RowContent) → IsTableOrNone s → becomes s own → shows s own)
@@ -131,32 +176,36 @@ abbrev Tells : LineRules → Bool → ℕ → SectionContent → List RowContent
 Tells rules ascii width s rows = EachBecomes IsShownBy (lines_of (unfolded rules.whole_words ascii (Some width) s)) (lines_of_rows rows)
 
 ruled_tells : (rules : LineRules) (ascii : Bool) (width : ℕ) (marks : HeadingMarks) (s : SectionContent) (rows : List RowContent) → IsTableOrNone s → IsRuled marks s (dressed marks s) → KeepsDressed rules ascii width marks s rows
-    → Tells rules ascii width s rows
+    → Tells rules ascii width (worded marks.words s) rows
 ruled_tells rules ascii width marks s rows h ruled kept =
     let gutters : List Gutter = s.gutters ++ Below ruled.level ∷ [] in
     let two = subst (λ (all : List SectionContent). EachBecomes (KeepsShown rules ascii width) all rows) ruled.shown_are kept in
-    let same = heading_lines rules.whole_words ascii width s ruled.level ruled.heading in
-    let own = subst (λ (lines : List LineContent). EachBecomes IsShownBy lines (lines_of_rows two.0)) same (section_shows rules ascii width s two.0 h two.3).1 in
+    let said : SectionContent = worded marks.words s in
+    let heading = worded_level marks.words s ∙ ruled.heading in
+    let same = heading_lines rules.whole_words ascii width said ruled.level heading in
+    let own = subst (λ (lines : List LineContent). EachBecomes IsShownBy lines (lines_of_rows two.0)) same (section_shows rules ascii width said two.0 (worded_table marks.words s h) two.3).1 in
     let rule = rule_alone rules ascii width gutters two.1 (one_becomes (KeepsShown rules ascii width) (rule_behind gutters) two.1 two.4) in
     let joins : lines_of_rows rows ≡ lines_of_rows two.0 ++ HorizontalRule ∷ [] =
     ap lines_of_rows two.2 ∙ map-append (λ (row : RowContent). row.line) two.0 two.1 ∙ ap (λ (l : List FmtLine). lines_of_rows two.0 ++ l) rule in
     subst (λ (lines : List LineContent). EachBecomes IsShownBy lines (lines_of_rows rows)) (sym same)
-    (subst (EachBecomes IsShownBy s.lines) (sym joins) (headed_rule s.lines ruled.level (lines_of_rows two.0) ruled.heading own))
+    (subst (EachBecomes IsShownBy said.lines) (sym joins) (headed_rule said.lines ruled.level (lines_of_rows two.0) heading own))
 
 signed_tells : (rules : LineRules) (ascii : Bool) (width : ℕ) (marks : HeadingMarks) (s : SectionContent) (rows : List RowContent) → IsTableOrNone s → IsSigned marks s (dressed marks s) → KeepsDressed rules ascii width marks s rows
-    → Tells rules ascii width s rows
+    → Tells rules ascii width (worded marks.words s) rows
 signed_tells rules ascii width marks s rows h with_signs kept =
-    let other : SectionContent = signed (s.gutters ++ Signs with_signs.level ∷ []) s in
+    let said : SectionContent = worded marks.words s in
+    let heading = worded_level marks.words s ∙ with_signs.heading in
+    let other : SectionContent = signed (s.gutters ++ Signs with_signs.level ∷ []) said in
     let one = one_becomes (KeepsShown rules ascii width) other rows (subst (λ (all : List SectionContent). EachBecomes (KeepsShown rules ascii width) all rows) with_signs.shown_are kept) in
-    let same = heading_lines rules.whole_words ascii width other with_signs.level with_signs.heading ∙ sym (heading_lines rules.whole_words ascii width s with_signs.level with_signs.heading) in
-    subst (λ (lines : List LineContent). EachBecomes IsShownBy lines (lines_of_rows rows)) same (section_shows rules ascii width other rows h one).1
+    let same = heading_lines rules.whole_words ascii width other with_signs.level heading ∙ sym (heading_lines rules.whole_words ascii width said with_signs.level heading) in
+    subst (λ (lines : List LineContent). EachBecomes IsShownBy lines (lines_of_rows rows)) same (section_shows rules ascii width other rows (worded_table marks.words s h) one).1
 
--- the rows of a section with its rule or signs show the lines that are shown of it
+-- the rows of a section with its rule or signs show the lines that are shown of it, with its marks
 pub dressed_tells : (rules : LineRules) (ascii : Bool) (width : ℕ) (marks : HeadingMarks) (s : SectionContent) (rows : List RowContent) → IsTableOrNone s → KeepsDressed rules ascii width marks s rows
-    → Tells rules ascii width s rows
+    → Tells rules ascii width (worded marks.words s) rows
 dressed_tells rules ascii width marks s rows h kept =
     ⊎_elim
-    (λ stays. (section_shows rules ascii width s rows h
-    (one_becomes (KeepsShown rules ascii width) s rows (subst (λ (all : List SectionContent). EachBecomes (KeepsShown rules ascii width) all rows) stays kept))).1)
+    (λ stays. (section_shows rules ascii width (worded marks.words s) rows (worded_table marks.words s h)
+    (one_becomes (KeepsShown rules ascii width) (worded marks.words s) rows (subst (λ (all : List SectionContent). EachBecomes (KeepsShown rules ascii width) all rows) stays kept))).1)
     (λ marked. ⊎_elim (λ ruled. ruled_tells rules ascii width marks s rows h ruled kept) (λ with_signs. signed_tells rules ascii width marks s rows h with_signs kept) marked)
     (adds_marks_alone marks s)

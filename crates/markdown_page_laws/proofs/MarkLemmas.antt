@@ -40,8 +40,9 @@ use Rattle.mad_marked_rows.specs.MarkedRows.{marked_compound, marked_compounds}
 use Rattle.mad_marked_rows.specs.MarkedTexts.{Letter, LetterPart, goes_on, letters_of, number_next, part_piece, parts_from, parts_of, text_pieces}
 use Rattle.mad_marked_rows.specs.Paints.{paint_by}
 use Rattle.mad_marked_rows.specs.RowLaws.{AreTexts}
+use Rattle.mad_pages.specs.Fronts.{FrontContent, front_of}
 use Rattle.mad_pages.specs.PageRows.{RowContent}
-use Rattle.mad_page_rows.specs.Faces.{has_ascii_boxes, has_boxes, heading_sign, blanks, code_blanks, code_face, first_face, other_face, face, faces, columns_behind, back_columns, backs, level_above, in_box, ruled, line_skin, behind_pieces, page_row_pieces, toned_pieces}
+use Rattle.mad_page_rows.specs.Faces.{bold_behind, emboldened, has_ascii_boxes, has_boxes, heading_sign, blanks, code_blanks, code_face, first_face, other_face, face, faces, columns_behind, back_columns, backs, level_above, in_box, ruled, line_skin, behind_pieces, page_row_pieces, toned_pieces}
 use Rattle.markdown_page_laws.specs.KeptMarkdown.{texts_in}
 use Rattle.markdown_page_laws.specs.Marks.{Mark, blank, quote_bar, bar_of, bullet, number, after_number, box, signs, rule, rule_below, border, rule_start, rule_over, rule_between, rule_end, mark_text, IsMark, AreTextAndMarks, runs_of, runs_in, bytes_of, text_in, OthersAreMarks}
 
@@ -291,11 +292,29 @@ ruled_mark skin (Some level) (rule_over position count) = (rule_over position co
 ruled_mark skin (Some level) (rule_between position) = (rule_between position, refl)
 ruled_mark skin (Some level) (rule_end position) = (rule_end position, refl)
 
+-- where bold text adds something else, marks are the same
+bold_mark : (skin : RowSkin) (bold : CompoundStyle) (mark : Mark) → mark_text (emboldened skin bold) mark ≡ mark_text skin mark
+bold_mark skin bold (blank count) = refl
+bold_mark skin bold quote_bar = refl
+bold_mark skin bold (bar_of alert) = refl
+bold_mark skin bold bullet = refl
+bold_mark skin bold (number n) = refl
+bold_mark skin bold (after_number level) = refl
+bold_mark skin bold (box done) = refl
+bold_mark skin bold (signs count) = refl
+bold_mark skin bold (rule count) = refl
+bold_mark skin bold (rule_below level count) = refl
+bold_mark skin bold border = refl
+bold_mark skin bold (rule_start position) = refl
+bold_mark skin bold (rule_over position count) = refl
+bold_mark skin bold (rule_between position) = refl
+bold_mark skin bold (rule_end position) = refl
+
 -- so is each mark of the skin of a row's line
-line_mark : (skin : RowSkin) (gutters : List Gutter) (mark : Mark) → (own : Mark) × (mark_text (line_skin skin gutters) mark ≡ mark_text skin own)
-line_mark skin gutters mark =
-    let own = ruled_mark (boxed skin (in_box skin gutters)) (level_above gutters) mark in
-    (own.0, own.1 ∙ boxed_mark skin (in_box skin gutters) own.0)
+line_mark : (skin : RowSkin) (front : FrontContent) (mark : Mark) → (own : Mark) × (mark_text (line_skin skin front) mark ≡ mark_text skin own)
+line_mark skin front mark =
+    let own = ruled_mark (boxed skin (in_box skin front.gutters)) (level_above front.gutters) mark in
+    (own.0, bold_mark (ruled (boxed skin (in_box skin front.gutters)) (level_above front.gutters)) (bold_behind skin front) mark ∙ own.1 ∙ boxed_mark skin (in_box skin front.gutters) own.0)
 
 -- ---- gutters
 
@@ -346,20 +365,20 @@ line_says (TableRule across) = refl
 line_says HorizontalRule = refl
 
 -- where a row's line is its text and marks, the row is
-pub row_text : (skin : RowSkin) (outer : Option ℕ) (filled : Bool) (row : RowContent) → AreTextAndMarks (line_skin skin row.gutters) (text_in row.line) (behind_pieces skin outer filled row) → AreTextAndMarks skin (text_in row.line) (page_row_pieces skin outer filled row)
+pub row_text : (skin : RowSkin) (outer : Option ℕ) (filled : Bool) (row : RowContent) → AreTextAndMarks (line_skin skin (front_of row)) (text_in row.line) (behind_pieces skin outer filled row) → AreTextAndMarks skin (text_in row.line) (page_row_pieces skin outer filled row)
 row_text skin outer filled row h =
     let count : ℕ = length row.gutters - row.fresh in
     let text : List ℕ = text_in row.line in
     let others : List RowPiece = flat_map (face skin false) (take count row.gutters) in
     let firsts : List RowPiece = flat_map (face skin true) (drop count row.gutters) in
-    let own : AreTextAndMarks skin text (behind_pieces skin outer filled row) = in_other skin (line_skin skin row.gutters) (line_mark skin row.gutters) text (behind_pieces skin outer filled row) h in
+    let own : AreTextAndMarks skin text (behind_pieces skin outer filled row) = in_other skin (line_skin skin (front_of row)) (line_mark skin (front_of row)) text (behind_pieces skin outer filled row) h in
     marks_before skin text (faces skin row.gutters row.fresh) (behind_pieces skin outer filled row ++ backs skin row.gutters) (all_joined (IsMark skin) others firsts (faces_marks skin false (take count row.gutters)) (faces_marks skin true (drop count row.gutters)))
     (marks_after skin text (behind_pieces skin outer filled row) (backs skin row.gutters) own (blank_marks skin skin.code_block.compound_style (back_columns skin row.gutters)))
 
 -- each row is the text of its line and marks
 pub others_are_marks : OthersAreMarks
 others_are_marks skin outer filled row texts =
-    let inner : RowSkin = line_skin skin row.gutters in
+    let inner : RowSkin = line_skin skin (front_of row) in
     let columns : Option ℕ = columns_behind (has_ascii_boxes skin) outer row.gutters in
     record {
       pieces = row_text skin outer filled row (toned_text inner columns (filled || in_box skin row.gutters) row.marks (tone_styles skin) row.number row.line texts);

@@ -7,12 +7,15 @@ use Rattle.std.specs.Int.RustNames.{bit_or}
 use Rattle.std.specs.List.{AllByRecursion, flat_map, list_all, repeat}
 use Rattle.std.specs.Str.{bytes_eq}
 use Rattle.std.proofs.lemmas.Bool.Decides.{nat_tests}
+use Rattle.mad_term.specs.AttributeSets.{united}
 use Rattle.mad_term.specs.Styles.{IsUnstyled, piece_bytes}
+use Rattle.mad_term.specs.declared.attributes.Attributes.{Attributes}
+use Rattle.mad_term.proofs.SameAttributes.{same_bits}
 use Rattle.mad_term.proofs.Pieces.{unstyled_piece}
 use Rattle.mad_md.specs.Flagged.{Run, run_of}
 use Rattle.mad_md.specs.declared.compound.Compound.{Compound}
 use Rattle.mad_measure.proofs.AllLemmas.{all_joined}
-use Rattle.mad_style.specs.CompoundStyles.{unstyled}
+use Rattle.mad_style.specs.CompoundStyles.{overwritten, unstyled}
 use Rattle.mad_style.specs.LineStyles.{unstyled_line}
 use Rattle.mad_style.specs.OrderedItems.{ordered_indent, unstyled_item}
 use Rattle.mad_style.specs.StyledChars.{char_alone, char_style, styled_char}
@@ -43,8 +46,9 @@ use Rattle.mad_sections.specs.declared.gutters.Gutter.TheVariants as gutter
 use Rattle.mad_sections.specs.declared.gutters.Gutter.TheVariants.{Bar, AlertBar, Bullet, Number, Task, Signs, Below}
 use Rattle.mad_sections.proofs.Choices.{by_bool}
 use Rattle.mad_mark_runs.specs.declared.mark_runs.MarkRun.{MarkRun}
+use Rattle.mad_pages.specs.Fronts.{FrontContent, front_of}
 use Rattle.mad_pages.specs.PageRows.{RowContent}
-use Rattle.mad_page_rows.specs.Faces.{has_ascii_boxes, has_boxes, alert_bar, below_char, box_piece, heading_sign, blanks, code_blanks, code_face, first_face, other_face, face, faces, columns_behind, back_columns, backs, level_above, in_box, ruled, line_skin, behind_pieces, page_row_bytes, page_row_pieces, toned_pieces}
+use Rattle.mad_page_rows.specs.Faces.{alert_titled, bold_behind, emboldened, titled, has_ascii_boxes, has_boxes, alert_bar, below_char, box_piece, heading_sign, blanks, code_blanks, code_face, first_face, other_face, face, faces, columns_behind, back_columns, backs, level_above, in_box, ruled, line_skin, behind_pieces, page_row_bytes, page_row_pieces, toned_pieces}
 use Rattle.mad_page_skin.specs.PlainSkins.{plain_skin}
 use Rattle.markdown_layout.specs.RowEnds.{ended, without_end}
 use Rattle.markdown_layout.specs.WrittenPages.{dressed_bytes, row_bytes}
@@ -239,6 +243,30 @@ bare_toned : (marks : List MarkRun) (n : ℕ) (skin : RowSkin) (outer : Option �
 bare_toned [] n skin outer filled line h = h
 bare_toned (run ∷ runs) n skin outer filled line h = h
 
+-- a style in which nothing is set stays so, where such a one comes over it
+unset_twice : overwritten unstyled unstyled ≡ unstyled
+unset_twice =
+    ap (λ (attributes : Attributes). record unstyled { object_style = record unstyled.object_style { attributes = attributes } })
+    (same_bits (united unstyled.object_style.attributes unstyled.object_style.attributes) unstyled.object_style.attributes refl)
+
+-- in heads and titles bold text adds nothing
+unbold : (head : Bool) (alert : Option Alert) → (if head then overwritten plain_rows.bold plain_rows.head else titled plain_rows alert) ≡ plain_rows.bold
+unbold true alert = unset_twice
+unbold false None = refl
+unbold false (Some Note) = unset_twice
+unbold false (Some Tip) = unset_twice
+unbold false (Some Important) = unset_twice
+unbold false (Some Warning) = unset_twice
+unbold false (Some Caution) = unset_twice
+
+ruled_unbold : (level : Option ℕ) (bold : CompoundStyle) → bold ≡ plain_rows.bold → emboldened (ruled plain_rows level) bold ≡ ruled plain_rows level
+ruled_unbold None bold h = ap (emboldened plain_rows) h
+ruled_unbold (Some level) bold h = ap (emboldened (ruled plain_rows (Some level))) h
+
+-- but for rules below headings, the skin of each line is that of all
+plain_line : (front : FrontContent) → line_skin plain_rows front ≡ ruled plain_rows (level_above front.gutters)
+plain_line front = ruled_unbold (level_above front.gutters) (bold_behind plain_rows front) (unbold front.head (alert_titled front))
+
 bare_row : (outer : Option ℕ) (filled : Bool) (row : RowContent) → AreBare (page_row_pieces plain_rows outer filled row)
 bare_row outer filled row =
     let count : ℕ = length row.gutters - row.fresh in
@@ -247,8 +275,9 @@ bare_row outer filled row =
     let own : List RowPiece = behind_pieces plain_rows outer filled row in
     bare_both (faces plain_rows row.gutters row.fresh) (own ++ backs plain_rows row.gutters) (bare_both others firsts (bare_faces false (take count row.gutters)) (bare_faces true (drop count row.gutters)))
     (bare_both own (backs plain_rows row.gutters)
-    (bare_toned row.marks row.number (line_skin plain_rows row.gutters) (columns_behind (has_ascii_boxes plain_rows) outer row.gutters) (filled || in_box plain_rows row.gutters) row.line
-    (bare_ruled (level_above row.gutters) (columns_behind (has_ascii_boxes plain_rows) outer row.gutters) (filled || in_box plain_rows row.gutters) row.line))
+    (bare_toned row.marks row.number (line_skin plain_rows (front_of row)) (columns_behind (has_ascii_boxes plain_rows) outer row.gutters) (filled || in_box plain_rows row.gutters) row.line
+    (subst (λ (s : RowSkin). AreBare (line_pieces s (columns_behind (has_ascii_boxes plain_rows) outer row.gutters) (filled || in_box plain_rows row.gutters) row.line)) (sym (plain_line (front_of row)))
+    (bare_ruled (level_above row.gutters) (columns_behind (has_ascii_boxes plain_rows) outer row.gutters) (filled || in_box plain_rows row.gutters) row.line)))
     (bare_spaces unstyled (back_columns plain_rows row.gutters) nothing_set))
 
 -- pieces without style are written as their texts
@@ -388,7 +417,7 @@ none_woven text (p ∷ ps) (inr (rest, same, more)) said =
 -- a row in that skin is its text and marks
 plain_text : (width : Option ℕ) (row : RowContent) → AreTextAndMarks plain_rows (text_in row.line) (page_row_pieces plain_rows width false row)
 plain_text width row =
-    row_text plain_rows width false row (untoned_text (line_skin plain_rows row.gutters) (columns_behind (has_ascii_boxes plain_rows) width row.gutters) (false || in_box plain_rows row.gutters) row.marks row.number row.line)
+    row_text plain_rows width false row (untoned_text (line_skin plain_rows (front_of row)) (columns_behind (has_ascii_boxes plain_rows) width row.gutters) (false || in_box plain_rows row.gutters) row.marks row.number row.line)
 
 -- so what is written of rows in the skin without styles has none, where their text has none
 pub plain_has_no_escape : PlainHasNoEscape

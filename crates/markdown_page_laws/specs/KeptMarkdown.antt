@@ -12,7 +12,9 @@ use Rattle.mad_format.specs.declared.line.FmtLine.TheVariants.{Normal, TableRow,
 use Rattle.mad_sections.specs.Sections.{SectionContent}
 use Rattle.mad_sections.specs.TableTexts.{cell_text, rows_in}
 use Rattle.mad_sections.specs.UnfoldLaws.{IsMadeOfBoth, KeepsRow, labels_text, row_text}
+use Rattle.mad_dressing.specs.DressLaws.{AreMarkedLines}
 use Rattle.mad_dressing.specs.Dressed.{dressed_page, heading_level}
+use Rattle.mad_dressing.specs.WordMarks.{worded}
 use Rattle.mad_dressing.specs.declared.heading_marks.HeadingMarks.{HeadingMarks}
 use Rattle.mad_pages.specs.PageLayouts.{IsPageAt}
 use Rattle.mad_pages.specs.PageRows.{RowContent}
@@ -84,23 +86,25 @@ abbrev pub PagesShow : Type 0
 PagesShow = (rules : LineRules) (ascii : Bool) (width : ℕ) (page : List SectionContent) (rows : List RowContent) → 3 ≤ width → width < 2 ^ 64 - 1
     → IsPageAt rules ascii (Some width) page rows → EachBecomes (λ (section : SectionContent) (own : List RowContent). IsTableOrNone section → ShowSection section own) page rows
 
--- ---- Markdown with the rules and signs of its headings
+-- ---- Markdown with the rules and signs of its headings, and with marks at its words
 
 -- the rule below a heading of this level, if it is one of the first levels
 abbrev pub rule_at : HeadingMarks → Option ℕ → List FmtLine
 rule_at marks None = []
 rule_at marks (Some level) = if nat_lt level marks.rules then HorizontalRule ∷ [] else []
 
--- Rows show a section with what stands beside headings: first the section, and below it, if it is such a heading, its rule. Signs are in front of the rows.
+-- Rows show a section with what stands beside headings and at words: first the section, and below it, if it is such a heading, its rule. Signs are in front of the
+-- rows. Where no marks stand at words, the section is shown as it is. Where they do, each of its lines and cells has its text with marks alone between the characters.
 abbrev pub ShowDressed : HeadingMarks → SectionContent → List RowContent → Type 0
 ShowDressed marks section rows =
-    (own : List RowContent) × (below : List RowContent) × (rows ≡ own ++ below) × ShowSection section own × (lines_of_rows below ≡ rule_at marks (heading_level section.lines))
+    (own : List RowContent) × (below : List RowContent) × (rows ≡ own ++ below) × ShowSection (worded marks.words section) own
+    × AreMarkedLines section.lines (worded marks.words section).lines × (lines_of_rows below ≡ rule_at marks (heading_level section.lines))
 
 -- rows show a text of Markdown: they fall into those of its sections, one after the other, and show these
 abbrev pub ShowSource : HeadingMarks → List ℕ → List RowContent → Type 0
 ShowSource marks source rows = EachBecomes (ShowDressed marks) (markdown_sections source) rows
 
--- So those of each text of Markdown show all of its sections, whatever stands beside headings.
+-- So those of each text of Markdown show all of its sections, whatever stands beside headings and at words.
 abbrev pub MarkdownIsKept : Type 0
 MarkdownIsKept = (marks : HeadingMarks) (source : List ℕ) (rules : LineRules) (ascii : Bool) (width : ℕ) (rows : List RowContent) → 3 ≤ width → width < 2 ^ 64 - 1
     → IsPageAt rules ascii (Some width) (dressed_page marks (markdown_sections source)) rows → ShowSource marks source rows

@@ -19,7 +19,7 @@ use Rattle.markdown_page_laws.specs.KeptMarkdown.{ShowSource}
 use Rattle.markdown_page_laws.specs.KeptPages.{KeepsShown}
 use Rattle.markdown_reader.specs.Markdown.{markdown_sections}
 
--- Rows keep a text of Markdown in its skin: they show it, with the rules below its headings. What is shown is on the fewest rows that its room allows.
+-- Rows keep a text of Markdown in its skin: they show it, with the rules below its headings and the marks at its words. What is shown is on the fewest rows that its room allows.
 pub record KeepSource (skin : PageSkin) (width : ℕ) (source : List ℕ) (rows : List RowContent) : Type 0 where
   pub shown : ShowSource skin.headings source rows
   pub least : EachBecomes (KeepsShown (line_rules (page_row_skin skin)) (has_ascii_boxes (page_row_skin skin)) width) (dressed_page skin.headings (markdown_sections source)) rows

@@ -6,6 +6,7 @@ use Rattle.mad_format.specs.Lists.{EachBecomes}
 use Rattle.mad_format.specs.declared.line.FmtLine.{FmtLine}
 use Rattle.mad_sections.specs.Sections.{SectionContent}
 use Rattle.mad_sections.specs.Unfolded.{unfolded}
+use Rattle.mad_dressing.specs.WordMarks.{worded}
 use Rattle.mad_pages.specs.PageRows.{RowContent}
 use Rattle.mad_page_rows.specs.Faces.{has_ascii_boxes}
 use Rattle.mad_page_skin.specs.PageSkins.{page_row_skin}
@@ -20,14 +21,14 @@ use Rattle.markdown_reader.specs.Markdown.{markdown_sections}
 abbrev pub lines_shown : Bool → ℕ → SectionContent → List LineContent
 lines_shown ascii width section = flat_map (λ (shown : SectionContent). shown.lines) (unfolded true ascii (Some width) section)
 
--- the lines that are shown of sections
-abbrev pub lines_at : Bool → ℕ → List SectionContent → List LineContent
-lines_at ascii width page = flat_map (lines_shown ascii width) page
+-- the lines that are shown of sections, with marks at their words, or as they are
+abbrev pub lines_at : Bool → Bool → ℕ → List SectionContent → List LineContent
+lines_at words ascii width page = flat_map (λ (section : SectionContent). lines_shown ascii width (worded words section)) page
 
 -- The rows of a text in each skin show these lines, one after the other.
 abbrev pub TextIsTold : Type 0
 TextIsTold = (skin : PageSkin) (source : List ℕ) (width : ℕ) (rows : List RowContent) → 3 ≤ width → width < 2 ^ 64 - 1 → IsDressedAt skin (Some width) (markdown_sections source) rows
-    → EachBecomes IsShownBy (lines_at (has_ascii_boxes (page_row_skin skin)) width (markdown_sections source)) (lines_of_rows rows)
+    → EachBecomes IsShownBy (lines_at skin.headings.words (has_ascii_boxes (page_row_skin skin)) width (markdown_sections source)) (lines_of_rows rows)
 
 -- Two lists of rows show the same of these lines: they fall into those of each line. In their cells of the same number both have the same characters that aren't
 -- whitespace, in the same order and with the same flags.
@@ -37,9 +38,10 @@ ShowAlike (line ∷ lines) rows others =
     (own : List FmtLine) × (more : List FmtLine) × (rows ≡ own ++ more) × (like : List FmtLine) × (likes : List FmtLine) × (others ≡ like ++ likes)
     × ((i : ℕ) → solid_at i own ≡ solid_at i like) × ShowAlike lines more likes
 
--- The rows of a text in two skins show the same, at each width from three columns on and of fewer than 2^64 - 1, where both or neither has boxes of ASCII characters.
+-- The rows of a text in two skins show the same, at each width from three columns on and of fewer than 2^64 - 1. Both or neither have boxes of ASCII characters, and
+-- both or neither have marks at words.
 abbrev pub SkinsKeepText : Type 0
 SkinsKeepText = (skin other : PageSkin) (source : List ℕ) (width : ℕ) (rows others : List RowContent) → 3 ≤ width → width < 2 ^ 64 - 1
-    → has_ascii_boxes (page_row_skin skin) ≡ has_ascii_boxes (page_row_skin other)
+    → has_ascii_boxes (page_row_skin skin) ≡ has_ascii_boxes (page_row_skin other) → skin.headings.words ≡ other.headings.words
     → IsDressedAt skin (Some width) (markdown_sections source) rows → IsDressedAt other (Some width) (markdown_sections source) others
-    → ShowAlike (lines_at (has_ascii_boxes (page_row_skin skin)) width (markdown_sections source)) (lines_of_rows rows) (lines_of_rows others)
+    → ShowAlike (lines_at skin.headings.words (has_ascii_boxes (page_row_skin skin)) width (markdown_sections source)) (lines_of_rows rows) (lines_of_rows others)

@@ -24,8 +24,8 @@ pub fn tables_may_be_lists()
     ensures { TablesMayBeLists }
 {}
 
-/// The rows of a text of Markdown show each character of its sections that isn't whitespace once, in order. Else they show labels of lists and rules
-/// below headings alone.
+/// The rows of a text of Markdown show each character of its sections that isn't whitespace once, in order. Else they show labels of lists, rules
+/// below headings, and marks at words alone.
 pub fn markdown_is_kept()
     ensures { MarkdownIsKept }
 {}
@@ -42,7 +42,8 @@ pub fn others_are_marks()
     ensures { OthersAreMarks }
 {}
 
-/// A skin changes no character of a text of Markdown, nor their order, but for its marks and for blanks.
+/// A skin changes no character of a text of Markdown, nor their order, but for its marks and for blanks. A skin with marks at words shows what others
+/// with them show.
 pub fn skins_keep_text()
     ensures told { TextIsTold }
     ensures alike { SkinsKeepText }

@@ -17,7 +17,8 @@ use Rattle.markdown_leaves.specs.declared.parts.Kind.TheVariants.{Fenced}
 use Rattle.markdown_laws.specs.Fences.{BeginsCode, is_inside}
 use Rattle.markdown_laws.proofs.FenceLemmas.{begun_code, closes, ended, not_closing, open_fence, stays, taken}
 use Rattle.markdown_part_laws.proofs.ParagraphLemmas.{after_line, line_read, outside_of}
-use Rattle.markdown_writing.specs.Pages.{fence, longest, longest_from, ticks_in}
+use Rattle.markdown_writing.specs.Pages.{longest, longest_from, ticks_in}
+use Rattle.markdown_writing.specs.Phrases.{fence}
 use Rattle.markdown_writing.specs.Writable.{is_line}
 use Rattle.markdown_writing.proofs.ParagraphLemmas.{told_of}
 use Rattle.markdown_writing.proofs.WordLemmas.{by_test, is_false}
@@ -43,11 +44,11 @@ no_ticks (b ∷ bs) h = first_not (b == 96) _ _ h
 one_more : (n : ℕ) → 1 + n ≡ suc n
 one_more n = omega arith
 
-ticks_counted : (n : ℕ) (bytes : List ℕ) → prefix_len (λ b. b == 96) bytes ≡ 0 → prefix_len (λ b. b == 96) (replicate n 96 ++ bytes) ≡ n
+pub ticks_counted : (n : ℕ) (bytes : List ℕ) → prefix_len (λ b. b == 96) bytes ≡ 0 → prefix_len (λ b. b == 96) (replicate n 96 ++ bytes) ≡ n
 ticks_counted zero bytes h = h
 ticks_counted (suc n) bytes h = one_more (prefix_len (λ b. b == 96) (replicate n 96 ++ bytes)) ∙ ap suc (ticks_counted n bytes h)
 
-ticks_dropped : (n : ℕ) (bytes : List ℕ) → drop n (replicate n 96 ++ bytes) ≡ bytes
+pub ticks_dropped : (n : ℕ) (bytes : List ℕ) → drop n (replicate n 96 ++ bytes) ≡ bytes
 ticks_dropped zero bytes = refl
 ticks_dropped (suc n) bytes = ticks_dropped n bytes
 

@@ -4,4 +4,5 @@ pub mod ParagraphLemmas
 pub mod MarkLemmas
 pub mod CodeLemmas
 pub mod LineLemmas
+pub mod PhraseLemmas
 pub mod PageLemmas

@@ -4,10 +4,11 @@ use Rattle.std.proofs.lemmas.Bool.{and_parts}
 use Rattle.std.specs.Char.{is_ascii_punctuation}
 use Rattle.std.specs.List.{AllByRecursion, list_all, onto_first}
 use Rattle.markdown_blocks.specs.Lines.{text_lines}
-use Rattle.markdown_writing.specs.Pages.{Written, heading, paragraph, code, thematic_break, block_lines, block_text, ended, fence, longest, markdown_from}
+use Rattle.markdown_writing.specs.Pages.{Written, heading, paragraph, code, thematic_break, block_lines, block_text, ended, longest, markdown_from}
+use Rattle.markdown_writing.specs.Phrases.{Phrase, plain, code_span, fence, first_text, line_text, most_ticks, needs_room, phrase_text, room, roomy}
 use Rattle.markdown_writing.specs.Reading.{IsWritable}
 use Rattle.markdown_writing.specs.Words.{escaped, escaped_byte, escaped_if, is_mark}
-use Rattle.markdown_writing.specs.Writable.{is_line, is_tab_or_end}
+use Rattle.markdown_writing.specs.Writable.{is_line, is_phrase, is_some_line, is_tab_or_end}
 use Rattle.markdown_writing.proofs.WordLemmas.{by_escape}
 
 -- ---- bytes of lines
@@ -42,13 +43,45 @@ words_line (b ∷ bs) h =
 fence_line : (most : ℕ) → is_line (fence most) ≡ true
 fence_line most = signs_line most 96 refl
 
+room_line : (t : Bool) → is_line (room t) ≡ true
+room_line true = refl
+room_line false = refl
+
+some_line : (bytes : List ℕ) → is_some_line bytes ≡ true → is_line bytes ≡ true
+some_line [] h = refl
+some_line (b ∷ bs) h = h
+
+span_line : (bytes : List ℕ) → is_line bytes ≡ true → is_line (phrase_text (code_span bytes)) ≡ true
+span_line bytes h =
+    let most = most_ticks 0 0 bytes in
+    let t = needs_room bytes in
+    both_lines (fence most) (roomy bytes ++ fence most) (fence_line most)
+    (both_lines (roomy bytes) (fence most) (both_lines (room t) (bytes ++ room t) (room_line t) (both_lines bytes (room t) h (room_line t))) (fence_line most))
+
+phrase_line : (p : Phrase) → is_phrase p ≡ true → is_line (phrase_text p) ≡ true
+phrase_line (plain words) h = rest_line words (some_line words h)
+phrase_line (code_span bytes) h = span_line bytes (some_line bytes h)
+
+first_line : (p : Phrase) → is_phrase p ≡ true → is_line (first_text p) ≡ true
+first_line (plain words) h = words_line words (some_line words h)
+first_line (code_span bytes) h = span_line bytes (some_line bytes h)
+
+others_line : (ps : List Phrase) → list_all is_phrase ps ≡ true → is_line (flat_map phrase_text ps) ≡ true
+others_line [] h = refl
+others_line (p ∷ ps) h = let parts = and_parts (is_phrase p) (list_all is_phrase ps) h in both_lines (phrase_text p) (flat_map phrase_text ps) (phrase_line p parts.0) (others_line ps parts.1)
+
+-- phrases are a line
+phrases_line : (ps : List Phrase) → list_all is_phrase ps ≡ true → is_line (line_text ps) ≡ true
+phrases_line [] h = refl
+phrases_line (p ∷ ps) h = let parts = and_parts (is_phrase p) (list_all is_phrase ps) h in both_lines (first_text p) (flat_map phrase_text ps) (first_line p parts.0) (others_line ps parts.1)
+
 all_lines : (xs : List (List ℕ)) (ys : List (List ℕ)) → list_all is_line xs ≡ true → list_all is_line ys ≡ true → list_all is_line (xs ++ ys) ≡ true
 all_lines [] ys h k = k
 all_lines (x ∷ xs) ys h k = let parts = and_parts (is_line x) (list_all is_line xs) h in and_true _ _ parts.0 (all_lines xs ys parts.1 k)
 
 block_is_lines : (block : Written) → IsWritable block → list_all is_line (block_lines block) ≡ true
-block_is_lines (heading level words) h = and_true _ true (both_lines (replicate level 35) (32 ∷ escaped words) (signs_line level 35 refl) (words_line words h.2.line)) refl
-block_is_lines (paragraph words) h = and_true _ true (words_line words h.line) refl
+block_is_lines (heading level phrases) h = and_true _ true (both_lines (replicate level 35) (32 ∷ line_text phrases) (signs_line level 35 refl) (phrases_line phrases h.2.are.each)) refl
+block_is_lines (paragraph phrases) h = and_true _ true (phrases_line phrases h.are.each) refl
 block_is_lines (code language lines) h =
     and_true _ _ (both_lines (fence (longest lines)) language (fence_line (longest lines)) h.1) (all_lines lines (fence (longest lines) ∷ []) h.2 (and_true _ true (fence_line (longest lines)) refl))
 block_is_lines thematic_break h = refl

@@ -12,15 +12,15 @@ use Rattle.markdown_laws.specs.Fences.{text_of}
 use Rattle.markdown_laws.specs.Quotes.{spelled}
 use Rattle.markdown_laws.proofs.FenceLemmas.{read_of}
 use Rattle.markdown_part_laws.proofs.ParagraphLemmas.{outside_of, words_of}
-use Rattle.markdown_writing.specs.Pages.{Written, heading, paragraph, code, thematic_break, block_lines, fence, longest, markdown_of, stars}
+use Rattle.markdown_writing.specs.Pages.{Written, heading, paragraph, code, thematic_break, block_lines, longest, markdown_of, stars}
+use Rattle.markdown_writing.specs.Phrases.{Phrase, fence, line_text}
 use Rattle.markdown_writing.specs.Reading.{IsWritable, PageIsReadBack, part_of, parts_from}
-use Rattle.markdown_writing.specs.Words.{escaped}
-use Rattle.markdown_writing.specs.Writable.{IsWords, is_line}
+use Rattle.markdown_writing.specs.Writable.{IsLine, is_line}
 use Rattle.markdown_writing.proofs.CodeLemmas.{all_inside, code_block, code_told, opening, two_at_least}
 use Rattle.markdown_writing.proofs.LineLemmas.{page_cut, page_lines}
 use Rattle.markdown_writing.proofs.MarkLemmas.{break_told, heading_at, heading_told, one_line}
 use Rattle.markdown_writing.proofs.ParagraphLemmas.{Behind, blank_told, ends_told, last, more, paragraph_told, told_of}
-use Rattle.markdown_writing.proofs.WordLemmas.{BeginsWords, EndsFull, words_begin, words_end}
+use Rattle.markdown_writing.proofs.PhraseLemmas.{line_begins, line_ends}
 
 -- ---- a block
 
@@ -31,31 +31,23 @@ record IsRead (block : Written) : Type 0 where
   told : (parts : List PartContent) (apart passed : Bool) (lines : List (List ℕ)) → Behind lines
       → told_of (outside_of parts apart passed) (block_lines block ++ lines) ≡ told_of (outside_of (parts ++ one passed ∷ []) passed false) lines
 
-begins_of : (words : List ℕ) → IsWords words → BeginsWords (escaped words)
-begins_of [] h = let no : false ≡ true = h.ends in absurd (cc)
-begins_of (b ∷ bs) h = words_begin b bs h.begins
-
-ends_of : (words : List ℕ) → IsWords words → EndsFull (escaped words)
-ends_of [] h = let no : false ≡ true = h.ends in absurd (cc)
-ends_of (b ∷ bs) h = words_end b bs h.ends
-
-read_heading : (level : ℕ) (words : List ℕ) → 0 < level → level ≤ 6 → IsWords words → IsRead (heading level words)
-read_heading level words some few h =
-    let bytes = escaped words in
-    let found = heading_told level bytes some few (begins_of words h) (ends_of words h) in
+read_heading : (level : ℕ) (phrases : List Phrase) → 0 < level → level ≤ 6 → IsLine phrases → IsRead (heading level phrases)
+read_heading level phrases some few h =
+    let bytes = line_text phrases in
+    let found = heading_told level bytes some few (line_begins phrases h) (line_ends phrases h) in
     record {
       one = λ apart. one_line (Heading level) apart (heading_at found.0 bytes);
       is = λ apart. refl;
       told = λ parts apart passed lines behind. found.1 parts apart passed lines;
     }
 
-read_paragraph : (words : List ℕ) → IsWords words → IsRead (paragraph words)
-read_paragraph words h =
-    let bytes = escaped words in
+read_paragraph : (phrases : List Phrase) → IsLine phrases → IsRead (paragraph phrases)
+read_paragraph phrases h =
+    let bytes = line_text phrases in
     record {
       one = λ apart. words_of apart (whole bytes ∷ []);
       is = λ apart. refl;
-      told = λ parts apart passed lines behind. paragraph_told bytes (begins_of words h) parts apart passed lines behind;
+      told = λ parts apart passed lines behind. paragraph_told bytes (line_begins phrases h) parts apart passed lines behind;
     }
 
 -- a line as it is told
@@ -89,8 +81,8 @@ read_break = record {
 
 -- each block is read
 is_read : (block : Written) → IsWritable block → IsRead block
-is_read (heading level words) h = read_heading level words h.0 h.1 h.2
-is_read (paragraph words) h = read_paragraph words h
+is_read (heading level phrases) h = read_heading level phrases h.0 h.1 h.2
+is_read (paragraph phrases) h = read_paragraph phrases h
 is_read (code language lines) h = read_code language lines h.0 h.2
 is_read thematic_break h = read_break
 

@@ -32,7 +32,7 @@ pub by_escape : (P : List ℕ → Type 0) (t : Bool) (b : ℕ) → (t ≡ true �
 by_escape P true b f g = f refl
 by_escape P false b f g = g refl
 
-not_none : {A : Type 0} (x : A) (xs : List A) → (length (x ∷ xs) == 0) ≡ false
+pub not_none : {A : Type 0} (x : A) (xs : List A) → (length (x ∷ xs) == 0) ≡ false
 not_none x xs = grind (arith, nat_tests)
 
 not_true : (t : Bool) → not t ≡ true → t ≡ false
@@ -50,11 +50,11 @@ no_sign b blank h =
     (rw (no_other is_ascii_punctuation b 96 refl h) (rw (no_other is_ascii_punctuation b 124 refl h) (rw (no_other is_ascii_punctuation b 126 refl h) refl))))))))))))))
 
 -- a full stop or a parenthesis, which ends the number of an item
-abbrev ends_number : ℕ → Bool
+abbrev pub ends_number : ℕ → Bool
 ends_number b = (b == 46) || (b == 41)
 
 -- the byte behind the digits in front
-abbrev behind_digits : List ℕ → ℕ
+abbrev pub behind_digits : List ℕ → ℕ
 behind_digits bytes = slice_index bytes (prefix_len is_ascii_digit bytes)
 
 one_more : (n : ℕ) → 1 + n ≡ suc n
@@ -74,11 +74,12 @@ then_none : (b : ℕ) (rest : List ℕ) → ends_number b ≡ false → ends_num
 then_none b rest h later =
     by_test (is_ascii_digit b) (ends_number (behind_digits (b ∷ rest)) ≡ false) (λ e. ap ends_number (digit_then b rest e) ∙ later) (λ e. ap ends_number (digit_none b rest e) ∙ h)
 
--- escaped words have no number with its sign in front
-rest_unnumbered : (words : List ℕ) → ends_number (behind_digits (flat_map escaped_byte words)) ≡ false
-rest_unnumbered [] = refl
-rest_unnumbered (b ∷ bs) =
-    by_escape (λ (front : List ℕ). ends_number (behind_digits (front ++ flat_map escaped_byte bs)) ≡ false) (is_mark b) b (λ e. refl) (λ e. then_none b (flat_map escaped_byte bs) (no_end b e) (rest_unnumbered bs))
+-- escaped words have no number with its sign in front, nor have they together with what follows
+rest_unnumbered : (words tail : List ℕ) → ends_number (behind_digits tail) ≡ false → ends_number (behind_digits (flat_map escaped_byte words ++ tail)) ≡ false
+rest_unnumbered [] tail h = h
+rest_unnumbered (b ∷ bs) tail h =
+    by_escape (λ (front : List ℕ). ends_number (behind_digits ((front ++ flat_map escaped_byte bs) ++ tail)) ≡ false) (is_mark b) b (λ e. refl)
+    (λ e. then_none b (flat_map escaped_byte bs ++ tail) (no_end b e) (rest_unnumbered bs tail h))
 
 none_by : {A : Type 0} (t : Bool) (o : Option A) → o ≡ None → cond t None o ≡ None
 none_by true o e = refl
@@ -109,19 +110,16 @@ no_bullet b h = rw (no_other is_ascii_punctuation b 42 refl h) (rw (no_other is_
 no_end_first : (b : ℕ) → is_ascii_punctuation b ≡ false → ends_number b ≡ false
 no_end_first b h = rw (no_other is_ascii_punctuation b 46 refl h) (no_other is_ascii_punctuation b 41 refl h)
 
-byte_begins : (b : ℕ) (bs : List ℕ) → is_blank_byte b ≡ false → is_ascii_punctuation b ≡ false → BeginsWords (b ∷ flat_map escaped_byte bs)
-byte_begins b bs blank h = record {
-  b = b;
-  bs = flat_map escaped_byte bs;
-  whole = refl;
-  sign = no_sign b blank h;
-  marker = no_number (b ∷ flat_map escaped_byte bs) (no_bullet b h) (then_none b (flat_map escaped_byte bs) (no_end_first b h) (rest_unnumbered bs));
-}
+byte_begins : (b : ℕ) (bs tail : List ℕ) → ends_number (behind_digits tail) ≡ false → is_blank_byte b ≡ false → is_ascii_punctuation b ≡ false → BeginsWords (b ∷ (flat_map escaped_byte bs ++ tail))
+byte_begins b bs tail e blank h =
+    let rest = flat_map escaped_byte bs ++ tail in
+    record { b = b; bs = rest; whole = refl; sign = no_sign b blank h; marker = no_number (b ∷ rest) (no_bullet b h) (then_none b rest (no_end_first b h) (rest_unnumbered bs tail e)) }
 
--- escaped words begin a paragraph
-pub words_begin : (b : ℕ) (bs : List ℕ) → is_blank_byte b ≡ false → BeginsWords (escaped (b ∷ bs))
-words_begin b bs blank =
-    by_escape (λ (front : List ℕ). BeginsWords (front ++ flat_map escaped_byte bs)) (is_ascii_punctuation b) b (λ e. backslash_begins (b ∷ flat_map escaped_byte bs)) (λ e. byte_begins b bs blank e)
+-- escaped words begin a paragraph, whatever follows but a digit or the sign of a number
+pub words_begin : (b : ℕ) (bs tail : List ℕ) → ends_number (behind_digits tail) ≡ false → is_blank_byte b ≡ false → BeginsWords (escaped (b ∷ bs) ++ tail)
+words_begin b bs tail e blank =
+    by_escape (λ (front : List ℕ). BeginsWords ((front ++ flat_map escaped_byte bs) ++ tail)) (is_ascii_punctuation b) b (λ h. backslash_begins (b ∷ (flat_map escaped_byte bs ++ tail)))
+    (λ h. byte_begins b bs tail e blank h)
 
 -- ---- their last byte
 
@@ -143,7 +141,7 @@ one_ends : (test : ℕ → Bool) (b : ℕ) → test 35 ≡ true → is_blank_byt
 one_ends test b passes full = by_escape EndsFull (test b) b (λ e. escaped_ends b full) (λ e. plain_ends test b passes e full)
 
 -- bytes before change nothing of that
-more_ends : (before bytes : List ℕ) → EndsFull bytes → EndsFull (before ++ bytes)
+pub more_ends : (before bytes : List ℕ) → EndsFull bytes → EndsFull (before ++ bytes)
 more_ends before bytes h = record {
   front = before ++ h.front;
   last = h.last;
@@ -152,7 +150,7 @@ more_ends before bytes h = record {
   sign = λ e. let s = h.sign e in (before ++ s.0, ap (λ (bs : List ℕ). before ++ bs) s.1 ∙ sym (append_assoc before s.0 (92 ∷ [])));
 }
 
-rest_ends : (b : ℕ) (bs : List ℕ) → ends_full (b ∷ bs) ≡ true → EndsFull (flat_map escaped_byte (b ∷ bs))
+pub rest_ends : (b : ℕ) (bs : List ℕ) → ends_full (b ∷ bs) ≡ true → EndsFull (flat_map escaped_byte (b ∷ bs))
 rest_ends b [] h = subst EndsFull (sym (append-nil (escaped_byte b))) (one_ends is_mark b refl (not_true (is_blank_byte b) h))
 rest_ends b (c ∷ cs) h = more_ends (escaped_byte b) (flat_map escaped_byte (c ∷ cs)) (rest_ends c cs h)
 
@@ -176,7 +174,7 @@ kept_end a c front last h = all_taken (front ++ last ∷ []) (suffix_len (is_eit
 one_behind : (front : List ℕ) → suffix_len (is_either 35 35) ((front ++ 92 ∷ []) ++ 35 ∷ []) ≡ 1
 one_behind front = ap (prefix_len (is_either 35 35)) (reverse-append (front ++ 92 ∷ []) (35 ∷ []) ∙ ap (λ (bs : List ℕ). 35 ∷ bs) (reverse-append front (92 ∷ [])))
 
-less_one : (bytes : List ℕ) (b n : ℕ) → n ≡ 1 → take (length (bytes ++ b ∷ []) - n) (bytes ++ b ∷ []) ≡ bytes
+pub less_one : (bytes : List ℕ) (b n : ℕ) → n ≡ 1 → take (length (bytes ++ b ∷ []) - n) (bytes ++ b ∷ []) ≡ bytes
 less_one bytes b n e = take_at bytes (b ∷ []) (length (bytes ++ b ∷ []) - n) (omega (arith, e, length-append bytes (b ∷ [])))
 
 sign_taken : (front : List ℕ) → without_end 35 35 ((front ++ 92 ∷ []) ++ 35 ∷ []) ≡ front ++ 92 ∷ []
@@ -187,7 +185,7 @@ last_at : (front : List ℕ) (b : ℕ) → slice_index (front ++ b ∷ []) (leng
 last_at [] b = refl
 last_at (c ∷ cs) b = last_at cs b
 
-last_of : (front : List ℕ) (b : ℕ) → slice_index (front ++ b ∷ []) (length (front ++ b ∷ []) - 1) ≡ b
+pub last_of : (front : List ℕ) (b : ℕ) → slice_index (front ++ b ∷ []) (length (front ++ b ∷ []) - 1) ≡ b
 last_of front b = let n : length (front ++ b ∷ []) - 1 ≡ length front = omega (arith, length-append front (b ∷ [])) in ap (λ (k : ℕ). slice_index (front ++ b ∷ []) k) n ∙ last_at front b
 
 some_length : (front : List ℕ) (b : ℕ) → (length (front ++ b ∷ []) == 0) ≡ false

@@ -1,4 +1,5 @@
 pub mod Words
+pub mod Phrases
 pub mod Pages
 pub mod Writable
 pub mod Reading

@@ -3,19 +3,19 @@ use Rattle.std.specs.Prelude.{ℕ, Bool, true, false, List, [], ◌∷◌, ◌++
 use Rattle.markdown_marks.specs.Bytes.{count_in_front, without_blanks}
 use Rattle.markdown_writing.specs.declared.blocks.PageBlock.{PageBlock}
 use Rattle.markdown_writing.specs.declared.blocks.PageBlock.TheVariants.{Heading, Paragraph, Code, Break}
-use Rattle.markdown_writing.specs.Words.{escaped}
+use Rattle.markdown_writing.specs.Phrases.{Phrase, phrase_of, fence, line_text}
 
--- A block of a page: a heading of a level, with its words; a paragraph's words; code in a language, with its lines; a thematic break.
+-- A block of a page: a heading of a level, with its phrases; a paragraph's phrases; code in a language, with its lines; a thematic break.
 pub data Written : Type 0 where
-  heading : ℕ → List ℕ → Written
-  paragraph : List ℕ → Written
+  heading : ℕ → List Phrase → Written
+  paragraph : List Phrase → Written
   code : List ℕ → List (List ℕ) → Written
   thematic_break : Written
 
 -- what a block of the code says, whatever the addresses of its texts
 abbrev pub written : PageBlock → Written
-written (Heading level words) = heading level words.now
-written (Paragraph words) = paragraph words.now
+written (Heading level phrases) = heading level (map phrase_of phrases.now)
+written (Paragraph phrases) = paragraph (map phrase_of phrases.now)
 written (Code language lines) = code language.now (map (λ line. line.now) lines.now)
 written Break = thematic_break
 
@@ -36,18 +36,14 @@ longest_from most (line ∷ lines) = longest_from (max most (ticks_in line)) lin
 abbrev pub longest : List (List ℕ) → ℕ
 longest lines = longest_from 2 lines
 
--- a fence of one backquote more
-abbrev pub fence : ℕ → List ℕ
-fence most = 96 ∷ replicate most 96
-
 -- a thematic break of three stars
 abbrev pub stars : List ℕ
 stars = 42 ∷ 42 ∷ 42 ∷ []
 
 -- the lines of a block
 abbrev pub block_lines : Written → List (List ℕ)
-block_lines (heading level words) = (replicate level 35 ++ 32 ∷ escaped words) ∷ []
-block_lines (paragraph words) = escaped words ∷ []
+block_lines (heading level phrases) = (replicate level 35 ++ 32 ∷ line_text phrases) ∷ []
+block_lines (paragraph phrases) = line_text phrases ∷ []
 block_lines (code language lines) = (fence (longest lines) ++ language) ∷ (lines ++ fence (longest lines) ∷ [])
 block_lines thematic_break = stars ∷ []
 

@@ -8,18 +8,18 @@ use Rattle.markdown_leaves.specs.declared.parts.Kind.{Kind}
 use Rattle.markdown_leaves.specs.declared.parts.Kind.TheVariants.{Paragraph, Heading, Fenced, Rule}
 use Rattle.markdown_laws.specs.Fences.{trimmed}
 use Rattle.markdown_laws.specs.Quotes.{spelled}
-use Rattle.markdown_writing.specs.Words.{escaped}
+use Rattle.markdown_writing.specs.Phrases.{line_text}
 use Rattle.markdown_writing.specs.Pages.{Written, heading, paragraph, code, thematic_break, stars, markdown_of}
-use Rattle.markdown_writing.specs.Writable.{IsWords, is_line}
+use Rattle.markdown_writing.specs.Writable.{IsLine, is_line}
 
 -- a leaf that has these lines, behind an empty line or not
 abbrev pub leaf_of : Kind → Bool → List (List ℕ) → PartContent
 leaf_of kind apart lines = block (record { kind = kind; apart = apart; lines = map whole lines })
 
--- A heading and a paragraph have their escaped words, and code has its lines below the name of its language.
+-- A heading and a paragraph have their line of phrases, and code has its lines below the name of its language.
 abbrev pub part_of : Bool → Written → PartContent
-part_of apart (heading level words) = leaf_of (Heading level) apart (escaped words ∷ [])
-part_of apart (paragraph words) = leaf_of Paragraph apart (escaped words ∷ [])
+part_of apart (heading level phrases) = leaf_of (Heading level) apart (line_text phrases ∷ [])
+part_of apart (paragraph phrases) = leaf_of Paragraph apart (line_text phrases ∷ [])
 part_of apart (code language lines) = leaf_of Fenced apart (trimmed language ∷ lines)
 part_of apart thematic_break = leaf_of Rule apart (stars ∷ [])
 
@@ -28,10 +28,10 @@ abbrev pub parts_from : Bool → List Written → List PartContent
 parts_from apart [] = []
 parts_from apart (b ∷ bs) = part_of apart b ∷ parts_from true bs
 
--- A heading has a level from 1 to 6 and words, and a paragraph has words. Code has lines without tabs, and no backquote is in the name of its language.
+-- A heading has a level from 1 to 6 and a line, and a paragraph has a line. Code has lines without tabs, and no backquote is in the name of its language.
 abbrev pub IsWritable : Written → Type 0
-IsWritable (heading level words) = (0 < level) × (level ≤ 6) × IsWords words
-IsWritable (paragraph words) = IsWords words
+IsWritable (heading level phrases) = (0 < level) × (level ≤ 6) × IsLine phrases
+IsWritable (paragraph phrases) = IsLine phrases
 IsWritable (code language lines) = (list_any (λ b. b == 96) language ≡ false) × (is_line language ≡ true) × (list_all is_line lines ≡ true)
 IsWritable thematic_break = Unit {0}
 

@@ -1,12 +1,21 @@
 //! What a page is made of.
 
+/// A phrase of a line.
+#[derive(Clone, Copy)]
+pub enum PagePhrase<'p> {
+    /// Words, which are shown as they are.
+    Words(&'p str),
+    /// Code within the line.
+    Code(&'p str),
+}
+
 /// A block of a page.
 #[derive(Clone, Copy)]
 pub enum PageBlock<'p> {
-    /// A heading of this level, 1 to 6, and its words.
-    Heading(usize, &'p str),
-    /// The words of a paragraph.
-    Paragraph(&'p str),
+    /// A heading of this level, 1 to 6, and its phrases.
+    Heading(usize, &'p [PagePhrase<'p>]),
+    /// The phrases of a paragraph.
+    Paragraph(&'p [PagePhrase<'p>]),
     /// Code: the name of its language, which may be empty, and its lines without their ends.
     Code(&'p str, &'p [&'p str]),
     /// A thematic break.

@@ -2,15 +2,17 @@
 //!
 //! 1. [`blocks`]: what a page is made of.
 //! 2. [`words`]: words, in which a backslash stands before each sign that could be a mark.
-//! 3. [`writing`]: blocks one below the other.
-//! 4. [`laws`]: what is read of them.
+//! 3. [`phrases`]: words and code, one behind the other.
+//! 4. [`writing`]: blocks one below the other.
+//! 5. [`laws`]: what is read of them.
 #![tactic(auto)]
 
 pub mod blocks;
 pub mod laws;
+pub mod phrases;
 pub mod words;
 pub mod writing;
 
-pub use blocks::PageBlock;
+pub use blocks::{PageBlock, PagePhrase};
 pub use words::escaped;
 pub use writing::markdown_of;

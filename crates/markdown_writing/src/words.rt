@@ -39,7 +39,7 @@ fn push_byte(out: &mut Vec<u8>, mark: bool, byte: u8) -> Result<(), AllocError>
 }
 
 #[tactic(auto, using(crate::proofs::PushLemmas::put_more))]
-fn push_rest(out: &mut Vec<u8>, bytes: &[u8]) -> Result<(), AllocError>
+pub(crate) fn push_rest(out: &mut Vec<u8>, bytes: &[u8]) -> Result<(), AllocError>
     ensures { OnOk result (out.new.items ≡ out.old.items ++ flat_map escaped_byte bytes.now) }
 {
     let mut rest = bytes;

@@ -1,10 +1,11 @@
 //! Blocks one below the other.
 
-ghost use Rattle.std.specs.Prelude.{◌≡◌, ℕ, ◌+◌, ◌≤◌, false, [], ◌∷◌, ◌++◌, IfOk, OnOk, map, flat_map, replicate, length};
-ghost use Rattle.markdown_writing.specs.Pages.{written, heading, code, ended, longest, fence, block_text, markdown_of};
+ghost use Rattle.std.specs.Prelude.{◌≡◌, ◌++◌, IfOk, OnOk, map, flat_map};
+ghost use Rattle.markdown_writing.specs.Pages.{written, heading, code, ended, longest, block_text, markdown_of};
+ghost use Rattle.markdown_writing.specs.Phrases.{phrase_of};
 
-use crate::blocks::PageBlock;
-use crate::words::push_escaped;
+use crate::blocks::{PageBlock, PagePhrase};
+use crate::phrases::{push_fence, push_phrases, push_times};
 use markdown_marks::bytes::{count_in_front, without_blanks};
 use std::alloc::{AllocError, Global};
 
@@ -13,18 +14,6 @@ fn push_line(out: &mut Vec<u8>, line: &[u8]) -> Result<(), AllocError>
 {
     out.extend_from_slice(line)?;
     out.push(b'\n')?;
-    Ok(())
-}
-
-#[tactic(auto, using(crate::proofs::PushLemmas::put_one))]
-fn push_times(out: &mut Vec<u8>, byte: u8, count: usize) -> Result<(), AllocError>
-    ensures { OnOk result (out.new.items ≡ out.old.items ++ replicate count byte) }
-{
-    let mut more = count;
-    while more > 0 {
-        out.push(byte)?;
-        more -= 1;
-    }
     Ok(())
 }
 
@@ -41,14 +30,6 @@ fn longest(lines: &[&str]) -> usize
     most
 }
 
-fn push_fence(out: &mut Vec<u8>, most: usize) -> Result<(), AllocError>
-    ensures { OnOk result (out.new.items ≡ out.old.items ++ fence most) }
-{
-    out.push(b'`')?;
-    push_times(out, b'`', most)?;
-    Ok(())
-}
-
 #[tactic(auto, using(crate::proofs::PushLemmas::put_more))]
 fn push_lines(out: &mut Vec<u8>, lines: &[&str]) -> Result<(), AllocError>
     ensures { OnOk result (out.new.items ≡ out.old.items ++ flat_map ended (map (λ line. line.now) lines.now)) }
@@ -61,12 +42,16 @@ fn push_lines(out: &mut Vec<u8>, lines: &[&str]) -> Result<(), AllocError>
     Ok(())
 }
 
-fn push_heading(out: &mut Vec<u8>, level: usize, words: &[u8]) -> Result<(), AllocError>
-    ensures { OnOk result (out.new.items ≡ out.old.items ++ block_text (heading level words.now)) }
+fn push_heading(
+    out: &mut Vec<u8>,
+    level: usize,
+    phrases: &[PagePhrase<'_>],
+) -> Result<(), AllocError>
+    ensures { OnOk result (out.new.items ≡ out.old.items ++ block_text (heading level (map phrase_of phrases.now))) }
 {
     push_times(out, b'#', level)?;
     out.push(b' ')?;
-    push_escaped(out, words)?;
+    push_phrases(out, phrases)?;
     out.push(b'\n')?;
     Ok(())
 }
@@ -87,9 +72,9 @@ fn push_block(out: &mut Vec<u8>, block: PageBlock<'_>) -> Result<(), AllocError>
     ensures { OnOk result (out.new.items ≡ out.old.items ++ block_text (written block.entry)) }
 {
     match block {
-        PageBlock::Heading(level, words) => push_heading(out, level, words.as_bytes()),
-        PageBlock::Paragraph(words) => {
-            push_escaped(out, words.as_bytes())?;
+        PageBlock::Heading(level, phrases) => push_heading(out, level, phrases),
+        PageBlock::Paragraph(phrases) => {
+            push_phrases(out, phrases)?;
             out.push(b'\n')?;
             Ok(())
         }

@@ -1,2 +1,3 @@
 pub mod PieceLemmas
+pub mod CodeLemmas
 pub mod PrintLemmas

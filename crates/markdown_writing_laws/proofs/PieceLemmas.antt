@@ -1,5 +1,5 @@
 -- Escaped words are cut into pieces that say them.
-use Rattle.std.proofs.Common.{◌≡◌, ℕ, zero, suc, ◌+◌, ◌-◌, ◌<◌, ◌≤◌, Bool, true, false, cond, not, ◌||◌, ◌&&◌, ◌==◌, nat_lt, nat_le, min, List, [], ◌∷◌, ◌++◌, length, take, drop, slice_index, Option, Some, None, is_some, refl, sym, ap, subst, ◌∙◌, append_assoc, append-nil, length-append, length-drop, arith, codes}
+use Rattle.std.proofs.Common.{◌≡◌, ℕ, zero, suc, ◌+◌, ◌-◌, ◌<◌, ◌≤◌, Bool, true, false, cond, not, ◌||◌, ◌&&◌, ◌==◌, nat_lt, nat_le, min, List, [], ◌∷◌, ◌++◌, length, take, drop, slice_index, Option, Some, None, is_some, refl, sym, ap, subst, ◌∙◌, append_assoc, append-nil, length-append, length-drop, arith}
 use Rattle.std.proofs.Math.Seq.{drop-append_seam, take-append_seam}
 use Rattle.std.proofs.lemmas.Bool.{and_parts, eqb-true}
 use Rattle.std.proofs.lemmas.Bool.Decides.{nat_tests}
@@ -21,11 +21,16 @@ use Rattle.markdown_pieces.specs.Pieces.{bare_if, break_piece, byte_before, ends
 use Rattle.markdown_writing.specs.Words.{escaped, escaped_byte, escaped_if, is_mark}
 use Rattle.markdown_writing.specs.Writable.{is_line, is_tab_or_end}
 use Rattle.markdown_writing.proofs.WordLemmas.{by_escape, by_test, is_false, no_other}
-use Rattle.markdown_writing_laws.specs.Said.{AreWords, WordsAreSaid}
+use Rattle.markdown_writing_laws.specs.Said.{AreWords, Says, WordsAreSaid}
 
 -- words without the first, as they are written
 abbrev pub rest_of : List ℕ → List ℕ
 rest_of words = flat_map escaped_byte words
+
+-- Nothing follows words, or code does.
+pub data IsTail : List ℕ → Type 0 where
+  none_follows : IsTail []
+  code_follows : (bs : List ℕ) → IsTail (96 ∷ bs)
 
 plain_rest : (b : ℕ) (bs : List ℕ) → is_mark b ≡ false → rest_of (b ∷ bs) ≡ b ∷ rest_of bs
 plain_rest b bs e = ap (λ (t : Bool). escaped_if t b ++ rest_of bs) e
@@ -62,31 +67,39 @@ after_more p b bs e = ap (λ (t : Bool). first (drop (cond t (1 + prefix_len p b
 after_none : (p : ℕ → Bool) (b : ℕ) (bs : List ℕ) → p b ≡ false → after p (b ∷ bs) ≡ b
 after_none p b bs e = ap (λ (t : Bool). first (drop (cond t (1 + prefix_len p bs) 0) (b ∷ bs))) e
 
--- where a backslash neither passes nor is this byte, and no other that doesn't pass is
-rest_after : (p : ℕ → Bool) (k : ℕ) → p 92 ≡ false → (92 == k) ≡ false → (0 == k) ≡ false → ((b : ℕ) → is_mark b ≡ false → not (is_tab_or_end b) ≡ true → (b == k) ≡ false)
-    → (words : List ℕ) → is_line words ≡ true → (after p (rest_of words) == k) ≡ false
-rest_after p k slash other none plain [] h = none
-rest_after p k slash other none plain (b ∷ bs) h =
+-- where a backslash neither passes nor is this byte, nor is what follows words, and no other that doesn't pass is
+rest_after : (p : ℕ → Bool) (k : ℕ) → p 92 ≡ false → (92 == k) ≡ false → ((b : ℕ) → is_mark b ≡ false → not (is_tab_or_end b) ≡ true → (b == k) ≡ false)
+    → (words tail : List ℕ) → is_line words ≡ true → (after p tail == k) ≡ false → (after p (rest_of words ++ tail) == k) ≡ false
+rest_after p k slash other plain [] tail h end = end
+rest_after p k slash other plain (b ∷ bs) tail h end =
     let parts = and_parts (not (is_tab_or_end b)) (is_line bs) h in
-    by_escape (λ (front : List ℕ). (after p (front ++ rest_of bs) == k) ≡ false) (is_mark b) b
-    (λ e. ap (λ (c : ℕ). c == k) (after_none p 92 (b ∷ rest_of bs) slash) ∙ other)
-    (λ e. by_test (p b) ((after p (b ∷ rest_of bs) == k) ≡ false)
-    (λ f. ap (λ (c : ℕ). c == k) (after_more p b (rest_of bs) f) ∙ rest_after p k slash other none plain bs parts.1)
-    (λ f. ap (λ (c : ℕ). c == k) (after_none p b (rest_of bs) f) ∙ plain b e parts.0))
+    by_escape (λ (front : List ℕ). (after p ((front ++ rest_of bs) ++ tail) == k) ≡ false) (is_mark b) b
+    (λ e. ap (λ (c : ℕ). c == k) (after_none p 92 (b ∷ (rest_of bs ++ tail)) slash) ∙ other)
+    (λ e. by_test (p b) ((after p (b ∷ (rest_of bs ++ tail)) == k) ≡ false)
+    (λ f. ap (λ (c : ℕ). c == k) (after_more p b (rest_of bs ++ tail) f) ∙ rest_after p k slash other plain bs tail parts.1 end)
+    (λ f. ap (λ (c : ℕ). c == k) (after_none p b (rest_of bs ++ tail) f) ∙ plain b e parts.0))
 
 -- no line ends
-no_line_end : (words : List ℕ) → is_line words ≡ true → ends_line (rest_of words) ≡ false
-no_line_end words h = rest_after is_blank_byte 10 refl refl refl (λ b e f. no_end b f) words h
+no_line_end : (words tail : List ℕ) → is_line words ≡ true → IsTail tail → ends_line (rest_of words ++ tail) ≡ false
+no_line_end words tail h t = rest_after is_blank_byte 10 refl refl (λ b e f. no_end b f) words tail h (end_of tail t)
+  where
+    end_of : (bs : List ℕ) → IsTail bs → (after is_blank_byte bs == 10) ≡ false
+    end_of bs none_follows = refl
+    end_of bs (code_follows others) = refl
 
 -- ---- no bare address
 
-no_mail : (words : List ℕ) → is_line words ≡ true → mail_of (rest_of words) ≡ None
-no_mail words h =
-    let bytes = rest_of words in
+no_mail : (words tail : List ℕ) → is_line words ≡ true → IsTail tail → mail_of (rest_of words ++ tail) ≡ None
+no_mail words tail h t =
+    let bytes = rest_of words ++ tail in
     let local = prefix_len is_mail_byte bytes in
     let found = mail_by local (mail_domain (drop (local + 1) bytes)) in
-    ap (λ (t : Bool). cond ((local == 0) || not t) None found) (rest_after is_mail_byte 64 refl refl refl (λ b e f. no_other is_mark b 64 refl e) words h)
+    ap (λ (t : Bool). cond ((local == 0) || not t) None found) (rest_after is_mail_byte 64 refl refl (λ b e f. no_other is_mark b 64 refl e) words tail h (end_of tail t))
     ∙ ap (λ (t : Bool). cond t None found) (or_true (local == 0))
+  where
+    end_of : (bs : List ℕ) → IsTail bs → (after is_mail_byte bs == 64) ≡ false
+    end_of bs none_follows = refl
+    end_of bs (code_follows others) = refl
 
 lower_same : (x b : ℕ) → x < 65 → (b == x) ≡ false → (x == to_ascii_lowercase b) ≡ false
 lower_same x b few h =
@@ -107,32 +120,51 @@ lower_same x b few h =
     higher : (b : ℕ) → nat_lt b 65 ≡ false → 65 ≤ b + 32
     higher b e = grind (arith, nat_tests, e)
 
--- letters, and a mark behind them, aren't in front
-not_in_front : (letters : List ℕ) (x : ℕ) (others : List ℕ) → list_all (λ c. not (c == 92)) letters ≡ true → (x == 92) ≡ false → x < 65 → is_mark x ≡ true → (n : ℕ) (words : List ℕ)
-    → same_letters (letters ++ x ∷ others) (take n (rest_of words)) ≡ false
+-- none of these bytes is in an address's beginning
+abbrev stops : ℕ → Bool
+stops c = (c == 92) || (c == 96)
+
+not_slash : (c : ℕ) → not (stops c) ≡ true → (c == 92) ≡ false
+not_slash c h = no_other stops c 92 refl (negated (stops c) h)
+
+not_tick : (c : ℕ) → not (stops c) ≡ true → (c == 96) ≡ false
+not_tick c h = no_other stops c 96 refl (negated (stops c) h)
+
+-- the byte that follows words is no letter
+tail_not_in_front : (c : ℕ) (others : List ℕ) → not (stops c) ≡ true → (n : ℕ) (tail : List ℕ) → IsTail tail → same_letters (c ∷ others) (take n tail) ≡ false
 unfolding same_letters
-not_in_front [] x others h slash few mark zero words = refl
-not_in_front (c ∷ cs) x others h slash few mark zero words = refl
-not_in_front [] x others h slash few mark (suc n) [] = refl
-not_in_front (c ∷ cs) x others h slash few mark (suc n) [] = refl
-not_in_front [] x others h slash few mark (suc n) (b ∷ bs) =
-    by_escape (λ (front : List ℕ). same_letters (x ∷ others) (take (suc n) (front ++ rest_of bs)) ≡ false) (is_mark b) b (λ e. ap (λ (t : Bool). t && same_letters others (take n (b ∷ rest_of bs))) slash)
-    (λ e. ap (λ (t : Bool). t && same_letters others (take n (rest_of bs))) (lower_same x b few (no_other is_mark b x mark e)))
-not_in_front (c ∷ cs) x others h slash few mark (suc n) (b ∷ bs) =
-    let parts = and_parts (not (c == 92)) (list_all (λ d. not (d == 92)) cs) h in
-    by_escape (λ (front : List ℕ). same_letters (c ∷ (cs ++ x ∷ others)) (take (suc n) (front ++ rest_of bs)) ≡ false) (is_mark b) b
-    (λ e. ap (λ (t : Bool). t && same_letters (cs ++ x ∷ others) (take n (b ∷ rest_of bs))) (negated (c == 92) parts.0))
-    (λ e. and_false (c == to_ascii_lowercase b) (same_letters (cs ++ x ∷ others) (take n (rest_of bs))) (not_in_front cs x others parts.1 slash few mark n bs))
+tail_not_in_front c others h zero tail none_follows = refl
+tail_not_in_front c others h (suc n) tail none_follows = refl
+tail_not_in_front c others h zero tail (code_follows bs) = refl
+tail_not_in_front c others h (suc n) tail (code_follows bs) = ap (λ (t : Bool). t && same_letters others (take n bs)) (not_tick c h)
+
+-- letters, and a mark behind them, aren't in front
+not_in_front : (letters : List ℕ) (x : ℕ) (others : List ℕ) → list_all (λ c. not (stops c)) letters ≡ true → not (stops x) ≡ true → x < 65 → is_mark x ≡ true → (n : ℕ) (words tail : List ℕ) → IsTail tail
+    → same_letters (letters ++ x ∷ others) (take n (rest_of words ++ tail)) ≡ false
+unfolding same_letters
+not_in_front [] x others h slash few mark n [] tail t = tail_not_in_front x others slash n tail t
+not_in_front (c ∷ cs) x others h slash few mark n [] tail t = let parts = and_parts (not (stops c)) (list_all (λ d. not (stops d)) cs) h in tail_not_in_front c (cs ++ x ∷ others) parts.0 n tail t
+not_in_front [] x others h slash few mark zero (b ∷ bs) tail t = refl
+not_in_front (c ∷ cs) x others h slash few mark zero (b ∷ bs) tail t = refl
+not_in_front [] x others h slash few mark (suc n) (b ∷ bs) tail t =
+    by_escape (λ (front : List ℕ). same_letters (x ∷ others) (take (suc n) ((front ++ rest_of bs) ++ tail)) ≡ false) (is_mark b) b
+    (λ e. ap (λ (t : Bool). t && same_letters others (take n (b ∷ (rest_of bs ++ tail)))) (not_slash x slash))
+    (λ e. ap (λ (t : Bool). t && same_letters others (take n (rest_of bs ++ tail))) (lower_same x b few (no_other is_mark b x mark e)))
+not_in_front (c ∷ cs) x others h slash few mark (suc n) (b ∷ bs) tail t =
+    let parts = and_parts (not (stops c)) (list_all (λ d. not (stops d)) cs) h in
+    by_escape (λ (front : List ℕ). same_letters (c ∷ (cs ++ x ∷ others)) (take (suc n) ((front ++ rest_of bs) ++ tail)) ≡ false) (is_mark b) b
+    (λ e. ap (λ (t : Bool). t && same_letters (cs ++ x ∷ others) (take n (b ∷ (rest_of bs ++ tail)))) (not_slash c parts.0))
+    (λ e. and_false (c == to_ascii_lowercase b) (same_letters (cs ++ x ∷ others) (take n (rest_of bs ++ tail))) (not_in_front cs x others parts.1 slash few mark n bs tail t))
 
 four : (t u v w : Bool) (a b c d : Option Bare) → t ≡ false → u ≡ false → v ≡ false → w ≡ false → cond t a (cond u b (cond v c (cond w d None))) ≡ None
 four t u v w a b c d e f g h = ap (λ x. cond x a (cond u b (cond v c (cond w d None)))) e ∙ ap (λ x. cond x b (cond v c (cond w d None))) f ∙ ap (λ x. cond x c (cond w d None)) g ∙ ap (λ x. cond x d None) h
 
-no_web : (words : List ℕ) → web_of (rest_of words) ≡ None
-no_web words =
-    four _ _ _ _ _ _ _ _ (not_in_front (119 ∷ 119 ∷ 119 ∷ []) 46 [] refl refl (omega arith) refl 4 words)
-    (not_in_front (104 ∷ 116 ∷ 116 ∷ 112 ∷ 115 ∷ []) 58 (47 ∷ 47 ∷ []) refl refl (omega arith) refl 8 words)
-    (not_in_front (104 ∷ 116 ∷ 116 ∷ 112 ∷ []) 58 (47 ∷ 47 ∷ []) refl refl (omega arith) refl 7 words)
-    (not_in_front (102 ∷ 116 ∷ 112 ∷ []) 58 (47 ∷ 47 ∷ []) refl refl (omega arith) refl 6 words)
+no_web : (words tail : List ℕ) → IsTail tail → web_of (rest_of words ++ tail) ≡ None
+no_web words tail t =
+    four _ _ _ _ _ _ _ _ (not_in_front (119 ∷ 119 ∷ 119 ∷ []) 46 [] refl refl (omega arith) refl 4 words tail t)
+    (not_in_front (104 ∷ 116 ∷ 116 ∷ 112 ∷ 115 ∷ []) 58 (47 ∷ 47 ∷ []) refl refl (omega arith) refl 8 words tail t)
+    (not_in_front (104 ∷ 116 ∷ 116 ∷ 112 ∷ []) 58 (47 ∷ 47 ∷ []) refl refl (omega arith) refl 7 words tail t)
+    (not_in_front (102 ∷ 116 ∷ 112 ∷ []) 58 (47 ∷ 47 ∷ []) refl refl (omega arith) refl 6 words tail t)
 
 none_or_none : (p q : Bool) → or_bare (cond p None None) (cond q None None) ≡ None
 none_or_none true true = refl
@@ -140,12 +172,12 @@ none_or_none true false = refl
 none_or_none false true = refl
 none_or_none false false = refl
 
-no_bare : (before : Option ℕ) (words : List ℕ) → is_line words ≡ true → bare_if true before (rest_of words) ≡ None
-no_bare before words h =
+no_bare : (before : Option ℕ) (words tail : List ℕ) → is_line words ≡ true → IsTail tail → bare_if true before (rest_of words ++ tail) ≡ None
+no_bare before words tail h t =
     let p = may_precede_web before in
     let q = may_precede_mail before in
-    ap (λ (o : Option Bare). or_bare (cond p o None) (cond q (mail_of (rest_of words)) None)) (no_web words)
-    ∙ ap (λ (o : Option Bare). or_bare (cond p None None) (cond q o None)) (no_mail words h) ∙ none_or_none p q
+    ap (λ (o : Option Bare). or_bare (cond p o None) (cond q (mail_of (rest_of words ++ tail)) None)) (no_web words tail t)
+    ∙ ap (λ (o : Option Bare). or_bare (cond p None None) (cond q o None)) (no_mail words tail h t) ∙ none_or_none p q
 
 -- ---- bytes that stand for themselves
 
@@ -164,13 +196,13 @@ stays_here b rest h f e =
     (λ k. ap (λ (t : Bool). t || (is_blank_byte b && not (ends_line rest))) (stays_plain b h f k))
 
 -- Words that are split: the first are plain, and the others are written behind them.
-pub record Split (before : Option ℕ) (words : List ℕ) : Type 0 where
-  pub plain : List ℕ
-  pub others : List ℕ
-  pub words_are : words ≡ plain ++ others
-  pub bytes_are : rest_of words ≡ plain ++ rest_of others
-  pub many : plain_from true before (rest_of words) ≡ length plain
-  pub line : is_line others ≡ true
+record Split (before : Option ℕ) (words tail : List ℕ) : Type 0 where
+  plain : List ℕ
+  others : List ℕ
+  words_are : words ≡ plain ++ others
+  bytes_are : rest_of words ≡ plain ++ rest_of others
+  many : plain_from true before (rest_of words ++ tail) ≡ length plain
+  line : is_line others ≡ true
 
 from_slash : (before : Option ℕ) (bytes : List ℕ) → plain_from true before (92 ∷ bytes) ≡ 0
 unfolding plain_from
@@ -182,40 +214,48 @@ from_plain before b bs h e =
     let next = suc (plain_from true (Some b) bs) in
     ap (λ (t : Bool). cond (t && not (is_some (bare_if true before (b ∷ bs)))) next 0) h ∙ ap (λ (o : Option Bare). cond (not (is_some o)) next 0) e
 
-none_plain : (before : Option ℕ) → plain_from true before [] ≡ 0
+none_plain : (before : Option ℕ) (tail : List ℕ) → IsTail tail → plain_from true before tail ≡ 0
 unfolding plain_from
-none_plain before = refl
+none_plain before tail none_follows = refl
+none_plain before tail (code_follows bs) = refl
 
-split : (before : Option ℕ) (words : List ℕ) → is_line words ≡ true → Split before words
-split before [] h = record { plain = []; others = []; words_are = refl; bytes_are = refl; many = none_plain before; line = refl }
-split before (b ∷ bs) h =
+split : (before : Option ℕ) (words tail : List ℕ) → is_line words ≡ true → IsTail tail → Split before words tail
+split before [] tail h t = record { plain = []; others = []; words_are = refl; bytes_are = refl; many = none_plain before tail t; line = refl }
+split before (b ∷ bs) tail h t =
     let parts = and_parts (not (is_tab_or_end b)) (is_line bs) h in
-    by_test (is_mark b) (Split before (b ∷ bs))
-    (λ e. record { plain = []; others = b ∷ bs; words_are = refl; bytes_are = refl; many = ap (plain_from true before) (sign_rest b bs e) ∙ from_slash before (b ∷ rest_of bs); line = h })
+    by_test (is_mark b) (Split before (b ∷ bs) tail)
+    (λ e. record {
+      plain = [];
+      others = b ∷ bs;
+      words_are = refl;
+      bytes_are = refl;
+      many = ap (λ (ws : List ℕ). plain_from true before (ws ++ tail)) (sign_rest b bs e) ∙ from_slash before (b ∷ (rest_of bs ++ tail));
+      line = h;
+    })
     (λ e.
-    let more = split (Some b) bs parts.1 in
+    let more = split (Some b) bs tail parts.1 t in
     let are = plain_rest b bs e in
-    let ends : ends_line (b ∷ rest_of bs) ≡ false = ap ends_line (sym are) ∙ no_line_end (b ∷ bs) h in
-    let bare : bare_if true before (b ∷ rest_of bs) ≡ None = ap (bare_if true before) (sym are) ∙ no_bare before (b ∷ bs) h in
+    let ends : ends_line (b ∷ (rest_of bs ++ tail)) ≡ false = ap (λ (ws : List ℕ). ends_line (ws ++ tail)) (sym are) ∙ no_line_end (b ∷ bs) tail h t in
+    let bare : bare_if true before (b ∷ (rest_of bs ++ tail)) ≡ None = ap (λ (ws : List ℕ). bare_if true before (ws ++ tail)) (sym are) ∙ no_bare before (b ∷ bs) tail h t in
     record {
       plain = b ∷ more.plain;
       others = more.others;
       words_are = ap (λ (ws : List ℕ). b ∷ ws) more.words_are;
       bytes_are = are ∙ ap (λ (ws : List ℕ). b ∷ ws) more.bytes_are;
-      many = ap (plain_from true before) are ∙ from_plain before b (rest_of bs) (stays_here b (b ∷ rest_of bs) e parts.0 ends) bare ∙ ap suc more.many;
+      many = ap (λ (ws : List ℕ). plain_from true before (ws ++ tail)) are ∙ from_plain before b (rest_of bs ++ tail) (stays_here b (b ∷ (rest_of bs ++ tail)) e parts.0 ends) bare ∙ ap suc more.many;
       line = more.line;
     })
 
 -- ---- a step
 
-index_is : (text : List ℕ) (at b : ℕ) (rest : List ℕ) → drop at text ≡ b ∷ rest → slice_index text at ≡ b
+pub index_is : (text : List ℕ) (at b : ℕ) (rest : List ℕ) → drop at text ≡ b ∷ rest → slice_index text at ≡ b
 index_is text at b rest e = ap (λ (n : ℕ). slice_index text n) (omega arith) ∙ sym (get_or-drop at text 0 0) ∙ ap (λ (bs : List ℕ). slice_index bs 0) e
 
-other_of : (labels : List (List ℕ)) (text : List ℕ) (at index c : ℕ) (rest : List ℕ) → (c == 91) ≡ false → (c == 33) ≡ false → (c == 93) ≡ false
+pub other_of : (labels : List (List ℕ)) (text : List ℕ) (at index c : ℕ) (rest : List ℕ) → (c == 91) ≡ false → (c == 33) ≡ false → (c == 93) ≡ false
     → read_with c labels text at index nothing_read rest ≡ step_of (piece_at true text at rest) index nothing_read
 other_of labels text at index c rest e f g = rw e (rw f (rw g refl))
 
-capped_is : (text : List ℕ) (at index : ℕ) (p : Piece) (rest : List ℕ) → drop at text ≡ rest → p.more < length rest → capped_step (step_of p index nothing_read) (length text - at - 1) ≡ record { piece = p; reading = (step_of p index nothing_read).reading }
+pub capped_is : (text : List ℕ) (at index : ℕ) (p : Piece) (rest : List ℕ) → drop at text ≡ rest → p.more < length rest → capped_step (step_of p index nothing_read) (length text - at - 1) ≡ record { piece = p; reading = (step_of p index nothing_read).reading }
 capped_is text at index p rest e few =
     let left : length text - at ≡ length rest = sym (length-drop at text) ∙ ap length e in
     let same : min p.more (length text - at - 1) ≡ p.more = omega (arith, left, few) in
@@ -264,12 +304,12 @@ step_plain labels text at index b bs e h ends bare many =
 
 -- ---- pieces, one after the other
 
-skipped : (labels : List (List ℕ)) (text : List ℕ) (at index : ℕ) (xs ys : List ℕ) → cut_from labels text (length xs) at index nothing_read (xs ++ ys) ≡ cut_from labels text 0 (at + length xs) index nothing_read ys
+pub skipped : (labels : List (List ℕ)) (text : List ℕ) (at index : ℕ) (xs ys : List ℕ) → cut_from labels text (length xs) at index nothing_read (xs ++ ys) ≡ cut_from labels text 0 (at + length xs) index nothing_read ys
 unfolding cut_from
 skipped labels text at index [] ys = ap (λ (n : ℕ). cut_from labels text 0 n index nothing_read ys) (omega arith)
 skipped labels text at index (x ∷ xs) ys = skipped labels text (at + 1) index xs ys ∙ ap (λ (n : ℕ). cut_from labels text 0 n index nothing_read ys) (omega arith)
 
-cut_by : (labels : List (List ℕ)) (text : List ℕ) (at index b : ℕ) (bs : List ℕ) (p : Piece) → step labels text at index nothing_read (b ∷ bs) ≡ record { piece = p; reading = nothing_read }
+pub cut_by : (labels : List (List ℕ)) (text : List ℕ) (at index b : ℕ) (bs : List ℕ) (p : Piece) → step labels text at index nothing_read (b ∷ bs) ≡ record { piece = p; reading = nothing_read }
     → cut_from labels text 0 at index nothing_read (b ∷ bs) ≡ onto p (cut_from labels text p.more (at + 1) (index + 1) nothing_read bs)
 unfolding cut_from
 cut_by labels text at index b bs p e = ap (λ (s : Step). onto s.piece (cut_from labels text s.piece.more (at + 1) (index + 1) s.reading bs)) e
@@ -277,10 +317,6 @@ cut_by labels text at index b bs p e = ap (λ (s : Step). onto s.piece (cut_from
 nothing_cut : (labels : List (List ℕ)) (text : List ℕ) (at index : ℕ) → (cut_from labels text 0 at index nothing_read []).pieces ≡ []
 unfolding cut_from
 nothing_cut labels text at index = refl
-
--- what is cut of the words behind a place
-abbrev pieces_at : List (List ℕ) → (text : List ℕ) (at index : ℕ) (bytes : List ℕ) → List Piece
-pieces_at labels text at index bytes = (cut_from labels text 0 at index nothing_read bytes).pieces
 
 zero_more : (m : ℕ) → 0 + m ≡ m
 zero_more m = omega arith
@@ -297,7 +333,7 @@ drop_more zero m zs = ap (λ (k : ℕ). drop k zs) (zero_more m)
 drop_more (suc n) m [] = nil_drop (suc n + m) ∙ sym (nil_drop m)
 drop_more (suc n) m (z ∷ zs) = ap (λ (k : ℕ). drop k (z ∷ zs)) (suc_more n m) ∙ drop_more n m zs
 
-behind_more : (text : List ℕ) (at n : ℕ) (xs ys : List ℕ) → drop at text ≡ xs ++ ys → n ≡ length xs → drop (at + n) text ≡ ys
+pub behind_more : (text : List ℕ) (at n : ℕ) (xs ys : List ℕ) → drop at text ≡ xs ++ ys → n ≡ length xs → drop (at + n) text ≡ ys
 behind_more text at n xs ys e m = ap (λ (k : ℕ). drop (at + k) text) m ∙ drop_more at (length xs) text ∙ ap (drop (length xs)) e ∙ drop-append_seam xs ys
 
 few_signs : (b : ℕ) → is_ascii_punctuation b ≡ true → b < 128
@@ -306,34 +342,9 @@ few_signs b h = grind (arith, nat_tests, h)
 no_newline : (b : ℕ) → is_ascii_punctuation b ≡ true → (b == 10) ≡ false
 no_newline b h = is_false (b == 10) (λ e. ap is_ascii_punctuation (sym (eqb-true b 10 e)) ∙ h)
 
-said_sign : (labels : List (List ℕ)) (text : List ℕ) (at index b : ℕ) (bs : List ℕ) → drop at text ≡ 92 ∷ b ∷ rest_of bs → is_ascii_punctuation b ≡ true
-    → AreWords (rest_of bs) (pieces_at labels text (at + 1 + 1) (index + 1) (rest_of bs)) bs → AreWords (92 ∷ b ∷ rest_of bs) (pieces_at labels text at index (92 ∷ b ∷ rest_of bs)) (b ∷ bs)
-said_sign labels text at index b bs e h later =
-    let p = piece (Shown b None) 1 in
-    let cut = cut_by labels text at index 92 (b ∷ rest_of bs) p (step_sign labels text at index b (rest_of bs) e (no_newline b h) h) ∙ ap (onto p) (skipped labels text (at + 1) (index + 1) (b ∷ []) (rest_of bs)) in
-    subst (λ (c : Pieces). AreWords (92 ∷ b ∷ rest_of bs) c.pieces (b ∷ bs)) (sym cut) (b ∷ [], bs, refl, (refl, few_signs b h), later)
-
 taken_plain : (b n : ℕ) (xs ys : List ℕ) → n ≡ length xs → (b ∷ xs ≡ take (suc n) (b ∷ (xs ++ ys))) × (ys ≡ drop (suc n) (b ∷ (xs ++ ys)))
 taken_plain b n xs ys e =
     (ap (λ (ws : List ℕ). b ∷ ws) (sym (take-append_seam xs ys)) ∙ ap (λ (k : ℕ). take (suc k) (b ∷ (xs ++ ys))) (sym e), sym (drop-append_seam xs ys) ∙ ap (λ (k : ℕ). drop (suc k) (b ∷ (xs ++ ys))) (sym e))
-
-said_plain : (labels : List (List ℕ)) (text : List ℕ) (at index b : ℕ) (bs : List ℕ) → drop at text ≡ b ∷ rest_of bs → is_mark b ≡ false → is_line (b ∷ bs) ≡ true → (s : Split (Some b) bs)
-    → AreWords (rest_of s.others) (pieces_at labels text (at + 1 + length s.plain) (index + 1) (rest_of s.others)) s.others → AreWords (b ∷ rest_of bs) (pieces_at labels text at index (b ∷ rest_of bs)) (b ∷ bs)
-said_plain labels text at index b bs e h line s later =
-    let are = plain_rest b bs h in
-    let ends : ends_line (b ∷ rest_of bs) ≡ false = ap ends_line (sym are) ∙ no_line_end (b ∷ bs) line in
-    let bare : bare_if true (byte_before text at) (b ∷ rest_of bs) ≡ None = ap (bare_if true (byte_before text at)) (sym are) ∙ no_bare (byte_before text at) (b ∷ bs) line in
-    let n = plain_from true (Some b) (rest_of bs) in
-    let many : n ≤ length (rest_of bs) = omega (arith, s.many, ap length s.bytes_are, length-append s.plain (rest_of s.others)) in
-    let p = piece Plain n in
-    let cut = cut_by labels text at index b (rest_of bs) p (step_plain labels text at index b (rest_of bs) e h ends bare many)
-    ∙ ap (λ (k : ℕ). onto p (cut_from labels text k (at + 1) (index + 1) nothing_read (rest_of bs))) s.many
-    ∙ ap (λ (ws : List ℕ). onto p (cut_from labels text (length s.plain) (at + 1) (index + 1) nothing_read ws)) s.bytes_are
-    ∙ ap (onto p) (skipped labels text (at + 1) (index + 1) s.plain (rest_of s.others)) in
-    let taken = taken_plain b n s.plain (rest_of s.others) s.many in
-    subst (λ (c : Pieces). AreWords (b ∷ rest_of bs) c.pieces (b ∷ bs)) (sym cut)
-    (subst (λ (ws : List ℕ). AreWords (b ∷ ws) (p ∷ pieces_at labels text (at + 1 + length s.plain) (index + 1) (rest_of s.others)) (b ∷ bs)) (sym s.bytes_are)
-    (b ∷ s.plain, s.others, ap (λ (ws : List ℕ). b ∷ ws) s.words_are, taken.0, subst (λ (ws : List ℕ). AreWords ws (pieces_at labels text (at + 1 + length s.plain) (index + 1) (rest_of s.others)) s.others) taken.1 later))
 
 no_mark : (b : ℕ) → is_ascii_punctuation b ≡ false → is_mark b ≡ false
 no_mark b f =
@@ -354,38 +365,144 @@ two_more at = omega arith
 one_and : (at n : ℕ) → at + 1 + n ≡ at + suc n
 one_and at n = omega arith
 
-said_rest : (labels : List (List ℕ)) (text : List ℕ) (fuel at index : ℕ) (words : List ℕ) → length words ≤ fuel → is_line words ≡ true → drop at text ≡ rest_of words
-    → AreWords (rest_of words) (pieces_at labels text at index (rest_of words)) words
-said_rest labels text fuel at index [] few line e = subst (λ (ps : List Piece). AreWords [] ps []) (sym (nothing_cut labels text at index)) (refl, refl)
-said_rest labels text zero at index (b ∷ bs) few line e = absurd (omega (arith, few))
-said_rest labels text (suc fuel) at index (b ∷ bs) few line e =
+-- ---- words, and what follows them
+
+-- pieces that say these words, where so much is left behind them
+abbrev pub AreWordsTo : (tail rest : List ℕ) → List Piece → (words : List ℕ) → Type 0
+AreWordsTo tail rest [] words = (rest ≡ tail) × (words ≡ [])
+AreWordsTo tail rest (p ∷ ps) words = (own : List ℕ) × (later : List ℕ) × (words ≡ own ++ later) × Says p.kind p.more rest own × AreWordsTo tail (drop (suc p.more) rest) ps later
+
+-- how many bytes pieces have
+abbrev pub bytes_in : List Piece → ℕ
+bytes_in [] = 0
+bytes_in (p ∷ ps) = p.more + 1 + bytes_in ps
+
+-- pieces before others
+abbrev pub before_others : List Piece → Pieces → Pieces
+before_others ps c = record { pieces = ps ++ c.pieces; reading = c.reading }
+
+-- Some bytes are cut into pieces that say words, and what follows them is cut as it would be anyhow.
+pub record IsCut (labels : List (List ℕ)) (text : List ℕ) (at index : ℕ) (bytes words tail : List ℕ) : Type 0 where
+  pub pieces : List Piece
+  pub cut : cut_from labels text 0 at index nothing_read (bytes ++ tail) ≡ before_others pieces (cut_from labels text 0 (at + length bytes) (index + length pieces) nothing_read tail)
+  pub many : bytes_in pieces ≡ length bytes
+  pub are : AreWordsTo tail (bytes ++ tail) pieces words
+
+-- the same at places that are the same
+pub same_places : (labels : List (List ℕ)) (text : List ℕ) (at other index next : ℕ) (tail : List ℕ) → at ≡ other → index ≡ next
+    → cut_from labels text 0 at index nothing_read tail ≡ cut_from labels text 0 other next nothing_read tail
+same_places labels text at other index next tail e f = ap (λ (n : ℕ). cut_from labels text 0 n index nothing_read tail) e ∙ ap (λ (n : ℕ). cut_from labels text 0 other n nothing_read tail) f
+
+none_cut : (labels : List (List ℕ)) (text : List ℕ) (at index : ℕ) (tail : List ℕ) → IsCut labels text at index [] [] tail
+none_cut labels text at index tail = record { pieces = []; cut = same_places labels text at (at + 0) index (index + 0) tail (omega arith) (omega arith); many = refl; are = (refl, refl) }
+
+sign_cut : (labels : List (List ℕ)) (text : List ℕ) (at index b : ℕ) (bytes words tail : List ℕ) → drop at text ≡ 92 ∷ b ∷ (bytes ++ tail) → is_ascii_punctuation b ≡ true
+    → IsCut labels text (at + 1 + 1) (index + 1) bytes words tail → IsCut labels text at index (92 ∷ b ∷ bytes) (b ∷ words) tail
+sign_cut labels text at index b bytes words tail e h later =
+    let p = piece (Shown b None) 1 in
+    let count = length later.pieces in
+    record {
+      pieces = p ∷ later.pieces;
+      cut =
+          cut_by labels text at index 92 (b ∷ (bytes ++ tail)) p (step_sign labels text at index b (bytes ++ tail) e (no_newline b h) h)
+          ∙ ap (onto p) (skipped labels text (at + 1) (index + 1) (b ∷ []) (bytes ++ tail) ∙ later.cut)
+          ∙ ap (λ (c : Pieces). before_others (p ∷ later.pieces) c)
+          (same_places labels text (at + 1 + 1 + length bytes) (at + length (92 ∷ b ∷ bytes)) (index + 1 + count) (index + length (p ∷ later.pieces)) tail (omega arith) (omega arith));
+      many = omega (arith, later.many);
+      are = (b ∷ [], words, refl, (refl, few_signs b h), later.are);
+    }
+
+plain_cut : (labels : List (List ℕ)) (text : List ℕ) (at index b : ℕ) (bs tail : List ℕ) → drop at text ≡ b ∷ (rest_of bs ++ tail) → is_mark b ≡ false → is_line (b ∷ bs) ≡ true → IsTail tail
+    → (s : Split (Some b) bs tail) → IsCut labels text (at + 1 + length s.plain) (index + 1) (rest_of s.others) s.others tail → IsCut labels text at index (b ∷ rest_of bs) (b ∷ bs) tail
+plain_cut labels text at index b bs tail e h line t s later =
+    let are = plain_rest b bs h in
+    let rest = rest_of bs ++ tail in
+    let ends : ends_line (b ∷ rest) ≡ false = ap (λ (ws : List ℕ). ends_line (ws ++ tail)) (sym are) ∙ no_line_end (b ∷ bs) tail line t in
+    let bare : bare_if true (byte_before text at) (b ∷ rest) ≡ None = ap (λ (ws : List ℕ). bare_if true (byte_before text at) (ws ++ tail)) (sym are) ∙ no_bare (byte_before text at) (b ∷ bs) tail line t in
+    let n = plain_from true (Some b) rest in
+    let behind = rest_of s.others ++ tail in
+    let bytes_are : rest ≡ s.plain ++ behind = ap (λ (ws : List ℕ). ws ++ tail) s.bytes_are ∙ append_assoc s.plain (rest_of s.others) tail in
+    let many : n ≤ length rest = omega (arith, s.many, ap length bytes_are, length-append s.plain behind) in
+    let p = piece Plain n in
+    let taken = taken_plain b n s.plain behind s.many in
+    let all : length (rest_of bs) ≡ length s.plain + length (rest_of s.others) = ap length s.bytes_are ∙ length-append s.plain (rest_of s.others) in
+    let count = length later.pieces in
+    record {
+      pieces = p ∷ later.pieces;
+      cut =
+          cut_by labels text at index b rest p (step_plain labels text at index b rest e h ends bare many)
+          ∙ ap (λ (k : ℕ). onto p (cut_from labels text k (at + 1) (index + 1) nothing_read rest)) s.many
+          ∙ ap (λ (ws : List ℕ). onto p (cut_from labels text (length s.plain) (at + 1) (index + 1) nothing_read ws)) bytes_are
+          ∙ ap (onto p) (skipped labels text (at + 1) (index + 1) s.plain behind ∙ later.cut)
+          ∙ ap (λ (c : Pieces). before_others (p ∷ later.pieces) c)
+          (same_places labels text (at + 1 + length s.plain + length (rest_of s.others)) (at + length (b ∷ rest_of bs)) (index + 1 + count) (index + length (p ∷ later.pieces)) tail (omega (arith, all)) (omega arith));
+      many = omega (arith, later.many, s.many, all);
+      are = (
+        b ∷ s.plain,
+        s.others,
+        ap (λ (ws : List ℕ). b ∷ ws) s.words_are,
+        taken.0 ∙ ap (λ (ws : List ℕ). take (suc n) (b ∷ ws)) (sym bytes_are),
+        subst (λ (ws : List ℕ). AreWordsTo tail ws later.pieces s.others) (taken.1 ∙ ap (λ (ws : List ℕ). drop (suc n) (b ∷ ws)) (sym bytes_are)) later.are,
+      );
+    }
+
+rest_cut : (labels : List (List ℕ)) (text : List ℕ) (fuel at index : ℕ) (words tail : List ℕ) → length words ≤ fuel → is_line words ≡ true → IsTail tail → drop at text ≡ rest_of words ++ tail
+    → IsCut labels text at index (rest_of words) words tail
+rest_cut labels text fuel at index [] tail few line t e = none_cut labels text at index tail
+rest_cut labels text zero at index (b ∷ bs) tail few line t e = absurd (omega (arith, few))
+rest_cut labels text (suc fuel) at index (b ∷ bs) tail few line t e =
     let parts = and_parts (not (is_tab_or_end b)) (is_line bs) line in
-    by_test (is_mark b) (AreWords (rest_of (b ∷ bs)) (pieces_at labels text at index (rest_of (b ∷ bs))) (b ∷ bs))
+    by_test (is_mark b) (IsCut labels text at index (rest_of (b ∷ bs)) (b ∷ bs) tail)
     (λ h.
     let are = sign_rest b bs h in
-    let here : drop at text ≡ 92 ∷ b ∷ rest_of bs = e ∙ are in
-    subst (λ (ws : List ℕ). AreWords ws (pieces_at labels text at index ws) (b ∷ bs)) (sym are)
-    (said_sign labels text at index b bs here (punctuation b h) (said_rest labels text fuel (at + 1 + 1) (index + 1) bs (omega (arith, few)) parts.1
-    (ap (λ (n : ℕ). drop n text) (two_more at) ∙ behind_more text at 2 (92 ∷ b ∷ []) (rest_of bs) here refl))))
+    let here : drop at text ≡ 92 ∷ b ∷ (rest_of bs ++ tail) = e ∙ ap (λ (ws : List ℕ). ws ++ tail) are in
+    subst (λ (ws : List ℕ). IsCut labels text at index ws (b ∷ bs) tail) (sym are)
+    (sign_cut labels text at index b (rest_of bs) bs tail here (punctuation b h) (rest_cut labels text fuel (at + 1 + 1) (index + 1) bs tail (omega (arith, few)) parts.1 t
+    (ap (λ (n : ℕ). drop n text) (two_more at) ∙ behind_more text at 2 (92 ∷ b ∷ []) (rest_of bs ++ tail) here refl))))
     (λ h.
     let are = plain_rest b bs h in
-    let here : drop at text ≡ b ∷ rest_of bs = e ∙ are in
-    let s = split (Some b) bs parts.1 in
-    subst (λ (ws : List ℕ). AreWords ws (pieces_at labels text at index ws) (b ∷ bs)) (sym are)
-    (said_plain labels text at index b bs here h line s (said_rest labels text fuel (at + 1 + length s.plain) (index + 1) s.others (fewer fuel b bs s.plain s.others few s.words_are) s.line
-    (ap (λ (n : ℕ). drop n text) (one_and at (length s.plain)) ∙ behind_more text at (suc (length s.plain)) (b ∷ s.plain) (rest_of s.others) (here ∙ ap (λ (ws : List ℕ). b ∷ ws) s.bytes_are) refl))))
+    let here : drop at text ≡ b ∷ (rest_of bs ++ tail) = e ∙ ap (λ (ws : List ℕ). ws ++ tail) are in
+    let s = split (Some b) bs tail parts.1 t in
+    let behind = rest_of s.others ++ tail in
+    let bytes_are : rest_of bs ++ tail ≡ s.plain ++ behind = ap (λ (ws : List ℕ). ws ++ tail) s.bytes_are ∙ append_assoc s.plain (rest_of s.others) tail in
+    subst (λ (ws : List ℕ). IsCut labels text at index ws (b ∷ bs) tail) (sym are)
+    (plain_cut labels text at index b bs tail here h line t s (rest_cut labels text fuel (at + 1 + length s.plain) (index + 1) s.others tail (fewer fuel b bs s.plain s.others few s.words_are) s.line t
+    (ap (λ (n : ℕ). drop n text) (one_and at (length s.plain)) ∙ behind_more text at (suc (length s.plain)) (b ∷ s.plain) behind (here ∙ ap (λ (ws : List ℕ). b ∷ ws) bytes_are) refl))))
+
+-- words in a line are cut into pieces that say them
+pub others_cut : (labels : List (List ℕ)) (text : List ℕ) (at index : ℕ) (words tail : List ℕ) → is_line words ≡ true → IsTail tail → drop at text ≡ rest_of words ++ tail
+    → IsCut labels text at index (rest_of words) words tail
+others_cut labels text at index words tail line t e = rest_cut labels text (length words) at index words tail (omega arith) line t e
+
+-- and so are those at its beginning
+pub first_cut : (labels : List (List ℕ)) (words tail : List ℕ) → is_line words ≡ true → IsTail tail → IsCut labels (escaped words ++ tail) 0 0 (escaped words) words tail
+first_cut labels [] tail line t = none_cut labels tail 0 0 tail
+first_cut labels (b ∷ bs) tail line t =
+    let parts = and_parts (not (is_tab_or_end b)) (is_line bs) line in
+    by_test (is_ascii_punctuation b) (IsCut labels (escaped (b ∷ bs) ++ tail) 0 0 (escaped (b ∷ bs)) (b ∷ bs) tail)
+    (λ h.
+    let text = 92 ∷ b ∷ (rest_of bs ++ tail) in
+    subst (λ (ws : List ℕ). IsCut labels (ws ++ tail) 0 0 ws (b ∷ bs) tail) (sym (ap (λ (t : Bool). escaped_if t b ++ rest_of bs) h))
+    (sign_cut labels text 0 0 b (rest_of bs) bs tail refl h (others_cut labels text (0 + 1 + 1) (0 + 1) bs tail parts.1 t refl)))
+    (λ h.
+    let same : rest_of (b ∷ bs) ≡ escaped (b ∷ bs) = plain_rest b bs (no_mark b h) ∙ sym (ap (λ (t : Bool). escaped_if t b ++ rest_of bs) h) in
+    subst (λ (ws : List ℕ). IsCut labels (ws ++ tail) 0 0 ws (b ∷ bs) tail) same (others_cut labels (rest_of (b ∷ bs) ++ tail) 0 0 (b ∷ bs) tail line t refl))
+
+-- ---- words alone
+
+nothing_left : (rest : List ℕ) (ps : List Piece) (words : List ℕ) → AreWordsTo [] rest ps words → AreWords rest ps words
+nothing_left rest [] words h = h
+nothing_left rest (p ∷ ps) words h = (h.0, h.1, h.2, h.3, nothing_left (drop (suc p.more) rest) ps h.1 h.4)
+
+-- what is cut where nothing follows
+pub ended_cut : (labels : List (List ℕ)) (text : List ℕ) (at index : ℕ) (bytes words : List ℕ) (c : IsCut labels text at index bytes words []) → cut_from labels text 0 at index nothing_read (bytes ++ []) ≡ record { pieces = c.pieces; reading = nothing_read }
+unfolding cut_from
+ended_cut labels text at index bytes words c = c.cut ∙ ap (λ (ps : List Piece). record { pieces = ps; reading = nothing_read }) (append-nil c.pieces)
 
 -- escaped words are read as these words
 pub words_said : WordsAreSaid
-words_said labels [] line = subst (λ (ps : List Piece). AreWords [] ps []) (sym (nothing_cut labels [] 0 0)) (refl, refl)
-words_said labels (b ∷ bs) line =
-    let parts = and_parts (not (is_tab_or_end b)) (is_line bs) line in
-    by_test (is_ascii_punctuation b) (AreWords (escaped (b ∷ bs)) (pieces_at labels (escaped (b ∷ bs)) 0 0 (escaped (b ∷ bs))) (b ∷ bs))
-    (λ h.
-    let text = 92 ∷ b ∷ rest_of bs in
-    subst (λ (ws : List ℕ). AreWords ws (pieces_at labels ws 0 0 ws) (b ∷ bs)) (sym (ap (λ (t : Bool). escaped_if t b ++ rest_of bs) h))
-    (said_sign labels text 0 0 b bs refl h (said_rest labels text (length bs) (0 + 1 + 1) (0 + 1) bs (omega arith) parts.1 refl)))
-    (λ h.
-    let text = rest_of (b ∷ bs) in
-    let same : text ≡ escaped (b ∷ bs) = plain_rest b bs (no_mark b h) ∙ sym (ap (λ (t : Bool). escaped_if t b ++ rest_of bs) h) in
-    subst (λ (ws : List ℕ). AreWords ws (pieces_at labels ws 0 0 ws) (b ∷ bs)) same (said_rest labels text (length (b ∷ bs)) 0 0 (b ∷ bs) (omega arith) line refl))
+words_said labels words line =
+    let found = first_cut labels words [] line none_follows in
+    let same = append-nil (escaped words) in
+    subst (λ (bs : List ℕ). AreWords bs (cut_text labels bs).pieces words) same
+    (subst (λ (c : Pieces). AreWords (escaped words ++ []) c.pieces words) (sym (ended_cut labels (escaped words ++ []) 0 0 (escaped words) words found)) (nothing_left (escaped words ++ []) found.pieces words found.are))

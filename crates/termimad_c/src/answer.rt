@@ -178,8 +178,8 @@ pub fn count_out(made: Result<usize, Refusal>) -> Answer
     }
 }
 
-// Copies what fits into the buffer.
-fn copy_front(whole: &[u8], buffer: &mut [u8]) -> Answer
+/// Copies what fits into the buffer.
+pub(crate) fn copy_front(whole: &[u8], buffer: &mut [u8]) -> Answer
     ensures { HandsOut whole.now buffer.old result buffer.new }
 {
     let count = whole.len();

@@ -1,17 +1,21 @@
 //! The calls as C sees them: a slice is a pointer and then a length, and an allocator is passed by nothing.
 //!
-//! None requires anything of its arguments. What C has to keep is what the types say: each pointer is not null, what it points to has
-//! the length that is told, and the buffer shares no byte with the text or the skin.
+//! None requires anything of its arguments but that a text in pieces was begun. What C has to keep is what the types say: each pointer is not null,
+//! what it points to has the length that is told, and the buffer shares no byte with the text or the skin.
 
-ghost use Rattle.std.specs.Prelude.{◌≡◌, ◌⊎◌, ◌≤◌, ◌^◌, []};
+ghost use Rattle.std.specs.Prelude.{◌≡◌, ◌⊎◌, ◌≤◌, ◌^◌, [], None};
 ghost use Rattle.termimad_run.specs.declared.call.Command.TheVariants.{Inline};
 ghost use Rattle.termimad_c.specs.Answers.{Answers, Counts, Progresses};
 ghost use Rattle.termimad_c.specs.Inputs.{RefusesCall, RefusesCode, RefusesPage, RefusesParts, IsNoArea, IsNoFit, is_told};
 ghost use Rattle.termimad_c.specs.DataTables.{IsNoTable, IsTableWritten};
 ghost use Rattle.termimad_c.specs.Making.{IsWritten, IsAreaWritten, IsTextWritten, IsCodeWritten, IsMarkdownWritten, IsRowCount, IsFittedLine, IsMadePrintable, ArePartsOf};
 ghost use Rattle.termimad_c.specs.Outlines.{AreHeadingsOf, AreLinksOf};
+ghost use Rattle.termimad_c.specs.HeldTexts.{IsBegun};
+ghost use Rattle.termimad_c.specs.TextsInPieces.{Begins, Takes};
 
-use crate::answer::{Answer, Progress, count_out, hand_out, hand_out_parts};
+use crate::answer::{Answer, Progress, count_out, hand_out, hand_out_parts, refuse};
+use crate::coming::Coming;
+use crate::held::Stream;
 use crate::making::{
     area_bytes, code_bytes, fitted_bytes, inline_bytes, markdown_bytes, parts_made,
     printable_bytes, rows_count, table_bytes, text_bytes,
@@ -119,6 +123,58 @@ pub extern "C" fn termimad_parts(
     let is_open = fenced != 0;
     let made = parts_made(alloc, text, skin, width, is_open, last != 0);
     hand_out_parts(made, is_open, buffer)
+}
+
+/// Begins a text of Markdown as people write it that comes in pieces, to be laid out at a width, in columns.
+///
+/// Where it isn't refused, the text lives behind the pointer until `termimad_stream_end`. What stood there is forgotten.
+#[unsafe(no_mangle)]
+pub extern "C" fn termimad_stream_begin(
+    alloc: Global,
+    stream: &mut Stream,
+    skin: &[u8],
+    width: usize,
+) -> Answer
+    ensures { Begins skin.now width result stream.old.coming stream.new.coming }
+{
+    match Coming::boxed(alloc, skin, width) {
+        Ok(coming) => {
+            stream.put_in(coming);
+            count_out(Ok(0))
+        }
+        Err(refusal) => refuse(refusal),
+    }
+}
+
+/// Takes the next piece of a text, where `last` isn't 0 the last one, and hands out the rows that wait then: those of the leaves that are complete,
+/// or all.
+///
+/// A piece is cut anywhere, inside a character too. Rows that don't fit the buffer wait for the next call, also one with an empty piece. In all the
+/// rows are those that `termimad-view markdown-stream` writes of the whole text.
+#[unsafe(no_mangle)]
+pub extern "C" fn termimad_stream_take(
+    alloc: Global,
+    stream: &mut Stream,
+    text: &[u8],
+    last: usize,
+    buffer: &mut [u8],
+) -> Answer
+    requires { IsBegun stream.old.coming }
+    ensures { Takes (is_told last) stream.old.coming text.now buffer.old result stream.new.coming buffer.new }
+{
+    let mut coming = stream.take_out(alloc);
+    let answer = coming.take(alloc, text, last != 0, buffer);
+    stream.put_in(coming);
+    answer
+}
+
+/// Ends a text that was begun, whether all of it came or not, and gives its memory back.
+#[unsafe(no_mangle)]
+pub extern "C" fn termimad_stream_end(alloc: Global, stream: &mut Stream)
+    requires { IsBegun stream.old.coming }
+    ensures { stream.new.coming ≡ None }
+{
+    let _ended = stream.take_out(alloc);
 }
 
 /// A text as one line with its inline marks, and a newline: what `termimad-view inline` writes.

@@ -6,13 +6,19 @@
 //! 2. [`inputs`]: what a caller hands: texts, skins, numbers.
 //! 3. [`making`]: what each call makes of its inputs.
 //! 4. [`outlines`]: links and headings, as lines.
-//! 5. [`exports`]: the calls as C sees them.
+//! 5. [`coming`]: a text that comes in pieces. [`loose`], [`held`]: such a text behind a pointer, which C keeps from call to call.
+//! 6. [`exports`]: the calls as C sees them.
 #![tactic(auto)]
 
 mod answer;
+mod coming;
 mod exports;
+mod held;
 mod inputs;
+mod loose;
 mod making;
 mod outlines;
 
 pub use answer::{Answer, Parts, Progress, Refusal};
+pub use coming::Coming;
+pub use held::Stream;

@@ -1,5 +1,5 @@
 -- What the words of a call ask for, and why they are no call.
-use Rattle.std.specs.Prelude.{◌≡◌, ◌≢◌, ◌⊎◌, ◌&&◌, Bool, true, false, List, [], ◌∷◌, map, drop, Option, is_some, option_map, codes, ⊤, if◌then◌else◌}
+use Rattle.std.specs.Prelude.{◌≡◌, ◌≢◌, ◌⊎◌, ◌&&◌, ◌||◌, Bool, true, false, List, [], ◌∷◌, map, drop, Option, is_some, option_map, codes, ⊤, if◌then◌else◌}
 use Rattle.std.specs.Borrow.{Bor}
 use Rattle.std.specs.Str.{bytes_eq}
 use Rattle.clap.specs.Words.{IsAmong, Text}
@@ -35,7 +35,7 @@ pub record AreParted (args options : List Text) (place : Option Text) : Type 0 w
 
 -- the call asks for what isn't there yet: what isn't Markdown as it comes
 abbrev pub asks_more : Call → Bool
-asks_more call = call.streams && is_some call.grammar
+asks_more call = (call.streams || call.lives) && is_some call.grammar
 
 -- the words ask for an answer: help or the version
 abbrev pub AsksAnswer : List Text → Type 0

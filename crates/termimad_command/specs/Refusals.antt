@@ -39,7 +39,7 @@ short_line = codes "termimad: a text can't be read\n"
 abbrev pub Says : Refusal → Trace → Trace → Type 0
 Says (Mistaken text) old new = SaysOnce old (string_bytes text) new
 Says Undecoded old new = SaysOnce old (codes "termimad: a word isn't UTF-8\n") new
-Says Lacking old new = SaysOnce old (codes "termimad: --stream of what isn't Markdown isn't there yet\n") new
+Says Lacking old new = SaysOnce old (codes "termimad: --stream and --live of what isn't Markdown aren't there yet\n") new
 Says Skin old new = SaysOnce old (codes "termimad: SKIN is no name, no file and no JSON of a skin\n") new
 Says (Unreadable name) old new = SaysOnce old (name_line name.now) new ⊎ SaysOnce old short_line new
 Says NotUtf8 old new = SaysOnce old (codes "termimad: what came isn't UTF-8\n") new

@@ -31,7 +31,7 @@ Outcome = Result (Unit {0}) Refusal
 
 -- how texts are written by a plan, in this skin
 abbrev pub look_of : Plan → PageSkin → Look
-look_of plan skin = record { skin = skin; columns = plan.columns; is_styled = not (bytes_eq plan.skin.now (codes "none")); streams = plan.streams; says_links = plan.says_links }
+look_of plan skin = record { skin = skin; columns = plan.columns; is_styled = not (bytes_eq plan.skin.now (codes "none")); streams = plan.streams; screen = plan.screen; says_links = plan.says_links }
 
 -- that of the input, where there is none
 abbrev pub names_or_input : List Text → List Text

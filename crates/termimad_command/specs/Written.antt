@@ -1,5 +1,5 @@
 -- What is written of a text.
-use Rattle.std.specs.Prelude.{◌≡◌, ◌⊎◌, ℕ, Bool, true, false, List, Some, Result, Ok, Err, MatchResult, IsErrOf, chars, encode_utf8_all}
+use Rattle.std.specs.Prelude.{◌≡◌, ◌⊎◌, ◌-◌, ℕ, min, Bool, true, false, List, Some, Result, Ok, Err, MatchOption, MatchResult, IsErrOf, chars, encode_utf8_all}
 use Rattle.std.specs.Bool.{MatchBool}
 use Rattle.std.specs.Borrow.{Bor}
 use Rattle.std.specs.Str.Lossy.{utf8_lossy}
@@ -20,8 +20,10 @@ use Rattle.markdown_lines.specs.Texts.{behind_mark}
 use Rattle.markdown_reader.specs.LinkMarks.{markdown_link_marks}
 use Rattle.markdown_linked_pages.specs.LinkedPages.{WritesLinked}
 use Rattle.markdown_reader.specs.Markdown.{markdown_links, markdown_sections}
+use Rattle.markdown_live.specs.Sources.{ShowsSource}
 use Rattle.markdown_stream.specs.Sources.{StreamsMarkdown}
 use Rattle.termimad_options.specs.Calls.{Reading, as_code, as_markdown, as_plain, by_lines}
+use Rattle.termimad_options.specs.declared.plans.Screen.{Screen}
 use Rattle.termimad_command.specs.Refusals.{refusal_of, stream_refusal}
 use Rattle.termimad_command.specs.declared.refusals.Refusal.{Refusal}
 use Rattle.termimad_command.specs.declared.refusals.Refusal.TheVariants.{Memory}
@@ -89,9 +91,15 @@ pub record Streams : Type 0 where
 abbrev pub streams : Trace → Trace → Streams
 streams input out = record { input = input; out = out }
 
--- the input is written as it comes: Markdown in which words stay whole, each leaf once it is complete
+-- so many columns, but one less than a screen's at most: what fills a terminal's last column isn't redrawn the same everywhere
+abbrev pub columns_on : ℕ → Screen → ℕ
+columns_on columns screen = min columns (screen.columns - 1)
+
+-- the input is written as it comes: Markdown in which words stay whole, each leaf once it is complete; on a screen what is growing is shown too, redrawn in place
 abbrev pub StreamsText : Look → Streams → Result (Unit {0}) SourceError → Streams → Type 0
-StreamsText look old r new = StreamsMarkdown (with_words look.skin true) (Some look.columns) old.input old.out r new.input new.out
+StreamsText look old r new = MatchOption look.screen
+    (StreamsMarkdown (with_words look.skin true) (Some look.columns) old.input old.out r new.input new.out)
+    (λ screen. ShowsSource (with_words look.skin true) (Some (columns_on look.columns screen)) screen.rows old.input old.out r new.input new.out)
 
 -- it is so, to its end
 abbrev pub IsStreamed : Look → Streams → Streams → Type 0

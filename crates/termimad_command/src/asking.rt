@@ -42,7 +42,7 @@ pub(crate) fn asked<'a>(alloc: Global, words: &'a [&str]) -> Result<Request<'a>,
 fn asks_more(call: &Call) -> bool
     ensures { result ≡ asks_more call.now }
 {
-    call.streams && call.grammar.is_some()
+    (call.streams || call.lives) && call.grammar.is_some()
 }
 
 // What an error tells of words that are no call.

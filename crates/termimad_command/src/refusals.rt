@@ -109,7 +109,7 @@ fn say_refusal<E: Out>(alloc: Global, err: &mut E, refusal: Refusal)
         Refusal::Lacking => {
             say(
                 err,
-                "termimad: --stream of what isn't Markdown isn't there yet\n",
+                "termimad: --stream and --live of what isn't Markdown aren't there yet\n",
             )
         }
         Refusal::Skin => say(

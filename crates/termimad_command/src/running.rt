@@ -19,7 +19,8 @@ use termimad_options::{Call, Plan, Surroundings, plan_line, plan_of};
 /// Does what the words after the program's name ask for, and answers the status.
 ///
 /// The texts are written in their order, each as it is read, in the columns and the skin that are planned where the call is made, and then the
-/// output is flushed; without a name the input is written. With `--stream` the input is written and flushed as it comes. Help and the version are written
+/// output is flushed; without a name the input is written. With `--stream` the input is written and flushed as it comes; with
+/// `--live` it is shown so on a terminal, and what still changes is redrawn in place. Help and the version are written
 /// too. Where the first word is `--plan`, what the call would do is written instead, as a line that a shell reads. A refusal is said once, on `err`.
 /// Statuses are 0, and of a refusal 1 to 5 and 141.
 pub fn run<T: Texts, I: Source, O: Out, E: Out>(
@@ -205,6 +206,7 @@ fn look_of(plan: &Plan, skin: PageSkin) -> Look
         columns: plan.columns,
         is_styled: plan.skin != "none",
         streams: plan.streams,
+        screen: plan.screen,
         says_links: plan.says_links,
     }
 }

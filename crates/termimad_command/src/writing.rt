@@ -3,7 +3,7 @@
 ghost use Rattle.std.specs.Prelude.{◌≡◌, ◌⊎◌, MatchResult};
 ghost use Rattle.mad_term.specs.Trace.{failed, flushed};
 ghost use Rattle.termimad_options.specs.Calls.{reading_of};
-ghost use Rattle.termimad_command.specs.Written.{FailsInStream, FlushesOut, IsStreamed, WritesBytes, WritesLines, WritesOrRefuses, WritesOut, WritesPage, WritesText, streams, with_words};
+ghost use Rattle.termimad_command.specs.Written.{FailsInStream, FlushesOut, IsStreamed, WritesBytes, WritesLines, WritesOrRefuses, WritesOut, WritesPage, WritesText, StreamsText, columns_on, streams, with_words};
 
 use crate::refusals::{Refusal, refusal_of, stream_refusal};
 use mad_measure::printable;
@@ -11,14 +11,16 @@ use mad_page_skin::PageSkin;
 use mad_plain::lossy_text;
 use mad_plain_rows::write_plain_on;
 use mad_steady::steady;
+use mad_stream::SourceError;
 use mad_term::{Error, Out, Source, put_text};
 use markdown_code::write_code_on;
 use markdown_layout::write_markdown_on;
 use markdown_lines::texts::behind_mark;
 use markdown_linked_pages::write_markdown_with_links_on;
+use markdown_live::show_markdown_source_on;
 use markdown_stream::write_markdown_source_on;
 use std::alloc::Global;
-use termimad_options::Grammar;
+use termimad_options::{Grammar, Screen};
 
 /// How texts are written.
 #[derive(Clone, Copy)]
@@ -31,6 +33,8 @@ pub(crate) struct Look {
     pub is_styled: bool,
     /// Whether the input is written as it comes.
     pub streams: bool,
+    /// The screen that it is shown on as it comes, and redrawn, if it is.
+    pub screen: Option<Screen>,
     /// Whether links of Markdown are written as such, for a terminal to follow.
     pub says_links: bool,
 }
@@ -130,7 +134,8 @@ fn write_lines<O: Out>(
     skin.text.write_parts_on(alloc, out, &shown, Some(width))
 }
 
-/// Writes the input, which has that name, as it comes: Markdown, each leaf of it once it is complete. The output is flushed after each block that is read.
+/// Writes the input, which has that name, as it comes: Markdown, each leaf of it once it is complete. On a screen what is growing is shown too, and redrawn
+/// in place. The output is flushed after each block that is read.
 ///
 /// # Errors
 ///
@@ -146,12 +151,40 @@ pub(crate) fn stream_text<'a, I: Source, O: Out>(
         (λ _. IsStreamed look.now (streams (I.seen input.old) (O.seen out.old)) (streams (I.seen input.new) (O.seen out.new)))
         (λ refusal. FailsInStream look.now name.now refusal (streams (I.seen input.old) (O.seen out.old)) (streams (I.seen input.new) (O.seen out.new))) }
 {
-    let skin = with_words(look.skin, true);
-    let columns = usize::from(look.columns);
-    match write_markdown_source_on(alloc, input, out, &skin, Some(columns)) {
+    match write_as_it_comes(alloc, look, input, out) {
         Ok(()) => Ok(()),
         Err(e) => Err(stream_refusal(name, e)),
     }
+}
+
+// Writes the input as it comes, or shows it so on a screen.
+fn write_as_it_comes<I: Source, O: Out>(
+    alloc: Global,
+    look: &Look,
+    input: &mut I,
+    out: &mut O,
+) -> Result<(), SourceError>
+    ensures { StreamsText look.now (streams (I.seen input.old) (O.seen out.old)) result (streams (I.seen input.new) (O.seen out.new)) }
+{
+    let skin = with_words(look.skin, true);
+    match look.screen {
+        Some(screen) => {
+            let columns = columns_on(look.columns, screen);
+            let rows = usize::from(screen.rows);
+            show_markdown_source_on(alloc, input, out, &skin, Some(columns), rows)
+        }
+        None => {
+            let columns = usize::from(look.columns);
+            write_markdown_source_on(alloc, input, out, &skin, Some(columns))
+        }
+    }
+}
+
+// So many columns, but one less than a screen's at most.
+fn columns_on(columns: u16, screen: Screen) -> usize
+    ensures { result ≡ columns_on columns screen }
+{
+    usize::from(columns).min(usize::from(screen.columns).saturating_sub(1))
 }
 
 /// Writes a text as it is, and flushes the output.

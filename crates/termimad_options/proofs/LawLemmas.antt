@@ -9,7 +9,7 @@ use Rattle.termimad_options.specs.Plans.{obeys}
 use Rattle.termimad_options.specs.Laws.{LinksNeedStyles, NamesAskNothing, OptionsWin, PipesStayPlain, SomeCalls, SomeNames, TerminalsPage}
 
 pub pipes_plain : PipesStayPlain
-pipes_plain call around e = (rw e refl, λ s t. rw (s, t, e) refl, rw e refl)
+pipes_plain call around e = (rw e refl, rw e refl, λ s t. rw (s, t, e) refl, rw e refl)
 
 and_false : (b : Bool) → b && false ≡ false
 and_false false = refl
@@ -45,13 +45,14 @@ nothing_asked program call h = record {
   grammar = none_before _ _ h.grammar;
   links = ap (λ o. unwrap_or o Auto) h.links;
   streams = h.streams;
+  lives = h.lives;
   writes = h.writes;
   fits = h.fits;
 }
 
 pub terminals_page : TerminalsPage
 terminals_page call around h e =
-    (rw (e, h.writes, h.streams, h.fits) refl, λ columns t. rw (h.width, t) refl, λ s n. rw (h.skin, s, e, n) refl)
+    (rw (e, h.writes, h.streams, h.lives, h.fits) refl, λ columns t. rw (h.width, t) refl, λ s n. rw (h.skin, s, e, n) refl)
 
 pub calls_read : SomeCalls
 unfolding clap_on_literals termimad_rules

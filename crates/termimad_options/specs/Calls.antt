@@ -73,6 +73,7 @@ pub record IsAskedBy (rows : List Row) (call : Call) : Type 0 where
   pub grammar : option_map reading_of call.grammar ≡ reading_said rows
   pub links : Some call.links ≡ links_said rows
   pub streams : call.streams ≡ is_said (codes "stream") rows
+  pub lives : call.lives ≡ is_said (codes "live") rows
   pub writes : call.writes ≡ is_said (codes "no-pager") rows
   pub fits : call.fits ≡ is_said (codes "fits") rows
 

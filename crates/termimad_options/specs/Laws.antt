@@ -6,17 +6,18 @@ use Rattle.clap.specs.Words.{Row, Text, matches_of}
 use Rattle.termimad_options.specs.Rules.{termimad_rules}
 use Rattle.termimad_options.specs.Calls.{IsCallOf, Reading, as_code, as_markdown, as_plain, columns_written, is_call, is_said, last_said}
 use Rattle.termimad_options.specs.Names.{reading_of_file}
-use Rattle.termimad_options.specs.Plans.{columns_of, obeys, says_links, skin_of, suiting, way_of}
+use Rattle.termimad_options.specs.Plans.{columns_of, obeys, says_links, screen_of, skin_of, suiting, way_of}
 use Rattle.termimad_options.specs.declared.calls.Call.{Call}
 use Rattle.termimad_options.specs.declared.calls.Links.{Links}
 use Rattle.termimad_options.specs.declared.calls.Links.TheVariants.{Auto}
 use Rattle.termimad_options.specs.declared.plans.Surroundings.{Surroundings}
 use Rattle.termimad_options.specs.declared.plans.Way.TheVariants.{Pages, Writes}
 
--- where standard output is no terminal, texts are written, and where no skin is named, without styles, and without what only a terminal is told
+-- where standard output is no terminal, texts are written, nothing is redrawn, and where no skin is named there are no styles, nor what only a terminal is told
 abbrev pub PipesStayPlain : Type 0
 PipesStayPlain = (call : Call) (around : Surroundings) → around.is_terminal ≡ false
     → (way_of call around ≡ Writes)
+    × (screen_of call around ≡ None)
     × (call.skin ≡ None → around.skin ≡ None → skin_of call around ≡ codes "none")
     × (says_links Auto around (skin_of call around) ≡ false)
 
@@ -39,6 +40,7 @@ pub record AsksNothing (call : Call) : Type 0 where
   pub grammar : call.grammar ≡ None
   pub links : call.links ≡ Auto
   pub streams : call.streams ≡ false
+  pub lives : call.lives ≡ false
   pub writes : call.writes ≡ false
   pub fits : call.fits ≡ false
 

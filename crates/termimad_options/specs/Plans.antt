@@ -7,6 +7,7 @@ use Rattle.termimad_options.specs.declared.calls.Call.{Call}
 use Rattle.termimad_options.specs.declared.calls.Links.{Links}
 use Rattle.termimad_options.specs.declared.calls.Links.TheVariants.{Auto, Always, Never}
 use Rattle.termimad_options.specs.declared.plans.Plan.{Plan}
+use Rattle.termimad_options.specs.declared.plans.Screen.{Screen}
 use Rattle.termimad_options.specs.declared.plans.Shade.{Shade}
 use Rattle.termimad_options.specs.declared.plans.Shade.TheVariants.{Dark, Light, Unknown}
 use Rattle.termimad_options.specs.declared.plans.Surroundings.{Surroundings}
@@ -17,10 +18,23 @@ use Rattle.termimad_options.specs.declared.plans.Way.TheVariants.{Writes, Pages,
 abbrev pub obeys : Surroundings → Bool
 obeys around = around.is_terminal && not around.is_dumb
 
+-- the input is written as it comes
+abbrev pub comes : Call → Bool
+comes call = call.streams || call.lives
+
+-- a screen of so many columns and rows, where both are known
+abbrev pub screen_sized : Option ℕ → Option ℕ → Option Screen
+screen_sized (Some columns) (Some rows) = Some (record { columns = columns; rows = rows })
+screen_sized _ _ = None
+
+-- the screen on which what comes is redrawn in place: with --live that of a terminal that obeys commands and says its size
+abbrev pub screen_of : Call → Surroundings → Option Screen
+screen_of call around = if not (obeys around) || not call.lives then None else screen_sized around.columns around.rows
+
 -- a terminal pages, unless an option says that it is written to: all of a text, or with -F only what has more rows than the terminal, or than 24
 abbrev pub way_of : Call → Surroundings → Way
 way_of call around =
-    if not (obeys around) || (call.writes || call.streams) then Writes
+    if not (obeys around) || (call.writes || comes call) then Writes
     else if call.fits then PagesBeyond (unwrap_or around.rows 24) else Pages
 
 -- the columns that -w says, else those of the terminal, else those of COLUMNS, else 80
@@ -59,4 +73,5 @@ pub record IsPlanOf (call : Call) (around : Surroundings) (plan : Plan) : Type 0
   pub columns : plan.columns ≡ columns_of call around
   pub skin : plan.skin.now ≡ skin_of call around
   pub links : plan.says_links ≡ says_links call.links around (skin_of call around)
-  pub streams : plan.streams ≡ call.streams
+  pub streams : plan.streams ≡ comes call
+  pub screen : plan.screen ≡ screen_of call around

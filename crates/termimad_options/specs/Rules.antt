@@ -38,4 +38,4 @@ unfoldable pub termimad_rules : App
 termimad_rules =
     with_rules (versioned (codes "termimad"))
     (files_rule ∷ width_rule ∷ valued (codes "skin") ∷ valued (codes "code") ∷ valued (codes "links") ∷ flag (codes "lines") ∷ flag (codes "plain")
-    ∷ flag (codes "stream") ∷ flag (codes "no-pager") ∷ fits_rule ∷ [])
+    ∷ flag (codes "stream") ∷ flag (codes "live") ∷ flag (codes "no-pager") ∷ fits_rule ∷ [])

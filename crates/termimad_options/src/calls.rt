@@ -49,6 +49,8 @@ pub struct Call<'a> {
     pub links: Links,
     /// Whether each part is written as it comes.
     pub streams: bool,
+    /// Whether a terminal is shown what comes, and what still changes is redrawn.
+    pub lives: bool,
     /// Whether nothing is paged.
     pub writes: bool,
     /// Whether what fits on one screen isn't paged.
@@ -104,6 +106,7 @@ fn asked<'a>(alloc: Global, matches: &ArgMatches<'a>, links: Links) -> Result<Ca
         grammar: grammar_asked(matches),
         links,
         streams: is_there(matches, "stream"),
+        lives: is_there(matches, "live"),
         writes: is_there(matches, "no-pager"),
         fits: is_there(matches, "fits"),
     })

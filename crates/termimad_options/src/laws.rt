@@ -2,7 +2,7 @@
 
 ghost use Rattle.termimad_options.specs.Laws.{LinksNeedStyles, NamesAskNothing, OptionsWin, PipesStayPlain, SomeCalls, SomeNames, TerminalsPage};
 
-/// Where standard output is no terminal, texts are written, and without styles where no skin is named.
+/// Where standard output is no terminal, texts are written, nothing is redrawn, and there are no styles where no skin is named.
 #[tactic(auto, using(crate::proofs::LawLemmas::pipes_plain))]
 pub fn pipes_stay_plain()
     ensures { PipesStayPlain }

@@ -22,6 +22,6 @@ pub use calls::{Call, Grammar, Links, call_of, columns_written};
 pub use names::grammar_of_file;
 pub use places::{Parted, part_places};
 pub use plan_lines::plan_line;
-pub use plans::{Plan, Shade, Surroundings, Way, plan_of};
+pub use plans::{Plan, Screen, Shade, Surroundings, Way, plan_of};
 pub use rules::options;
 pub use telling::{Told, surroundings_of};

@@ -1,7 +1,7 @@
 //! What a call does where it is made.
 
 ghost use Rattle.std.specs.Prelude.{◌≡◌};
-ghost use Rattle.termimad_options.specs.Plans.{IsPlanOf, columns_of, obeys, says_links, skin_of, suiting, way_of};
+ghost use Rattle.termimad_options.specs.Plans.{IsPlanOf, columns_of, comes, obeys, says_links, screen_of, skin_of, suiting, way_of};
 
 use crate::calls::{Call, Links};
 
@@ -50,6 +50,15 @@ pub enum Way {
     PagesBeyond(u16),
 }
 
+/// The screen of a terminal, on which what comes is redrawn in place.
+#[derive(Clone, Copy, Debug, PartialEq, Eq)]
+pub struct Screen {
+    /// Its columns.
+    pub columns: u16,
+    /// Its rows.
+    pub rows: u16,
+}
+
 /// What a call does.
 #[derive(Clone, Copy)]
 pub struct Plan<'a> {
@@ -61,8 +70,10 @@ pub struct Plan<'a> {
     pub skin: &'a str,
     /// Whether it is written where links lead.
     pub says_links: bool,
-    /// Whether each part is written as it comes.
+    /// Whether the input is written as it comes.
     pub streams: bool,
+    /// The screen that it is shown on as it comes, and redrawn, if it is.
+    pub screen: Option<Screen>,
 }
 
 /// What a call does where it is made.
@@ -75,8 +86,28 @@ pub fn plan_of<'a>(call: &Call<'a>, around: &Surroundings<'a>) -> Plan<'a>
         columns: columns_of(call, around),
         skin,
         says_links: says_links(call.links, around, skin),
-        streams: call.streams,
+        streams: comes(call),
+        screen: screen_of(call, around),
     }
+}
+
+// Whether the input is written as it comes.
+fn comes(call: &Call) -> bool
+    ensures { result ≡ comes call.now }
+{
+    call.streams || call.lives
+}
+
+// The screen on which what comes is redrawn: that of a terminal which says its size.
+fn screen_of(call: &Call, around: &Surroundings) -> Option<Screen>
+    ensures { result ≡ screen_of call.now around.now }
+{
+    if !obeys(around) || !call.lives {
+        return None;
+    }
+    let columns = around.columns?;
+    let rows = around.rows?;
+    Some(Screen { columns, rows })
 }
 
 // Whether standard output is a terminal that obeys commands.
@@ -90,7 +121,7 @@ fn obeys(around: &Surroundings) -> bool
 fn way_of(call: &Call, around: &Surroundings) -> Way
     ensures { result ≡ way_of call.now around.now }
 {
-    if !obeys(around) || call.writes || call.streams {
+    if !obeys(around) || call.writes || comes(call) {
         Way::Writes
     } else if call.fits {
         Way::PagesBeyond(around.rows.unwrap_or(24))

@@ -45,6 +45,11 @@ pub fn options<'a>(alloc: Global) -> Result<Command<'a>, AllocError>
         "Shows text that isn't Markdown, with its colors",
     );
     let stream = flag(alloc, "stream", "Writes Markdown from a pipe as it comes");
+    let live = flag(
+        alloc,
+        "live",
+        "Shows it so on a terminal, word by word, redrawn in place",
+    );
     let no_pager = flag(alloc, "no-pager", "Writes, and doesn't page");
     bare(alloc)
         .arg(files(alloc))?
@@ -55,6 +60,7 @@ pub fn options<'a>(alloc: Global) -> Result<Command<'a>, AllocError>
         .arg(lines)?
         .arg(plain)?
         .arg(stream)?
+        .arg(live)?
         .arg(no_pager)?
         .arg(fits(alloc))
 }

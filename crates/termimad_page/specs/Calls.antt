@@ -1,6 +1,7 @@
 -- What the words after the program's name ask for. A word is its bytes.
-use Rattle.std.specs.Prelude.{◌≡◌, ℕ, false, List, [], ◌∷◌, codes, Option, Some, None, if◌then◌else◌}
+use Rattle.std.specs.Prelude.{◌≡◌, ℕ, ◌^◌, ◌<◌, false, List, [], ◌∷◌, codes, Option, Some, None, if◌then◌else◌}
 use Rattle.std.specs.Str.{bytes_eq}
+use Rattle.std.specs.Str.Parse.{IsNumeral, digits_value}
 use Rattle.mad_page.specs.Pages.{files_named}
 use Rattle.mad_page.specs.declared.page.Files.{Files}
 use Rattle.termimad_page_run.specs.declared.program.Grammar.{Grammar}
@@ -9,33 +10,45 @@ use Rattle.termimad_words.specs.Numbers.{IsNumber}
 use Rattle.termimad_page.specs.declared.call.Place.{Place}
 use Rattle.termimad_page.specs.declared.call.Place.TheVariants.{OnScreen, Whole}
 
--- where a text is shown: under a name on a screen of so many columns and rows, with these files beside it; or whole, in so many columns
+-- where a text is shown: under a name on a screen of so many columns and rows, with these files beside it, from the row of this number on; or whole, in
+-- so many columns
 pub data Where : Type 0 where
-  on_screen : List ℕ → ℕ → ℕ → Files → Where
+  on_screen : List ℕ → ℕ → ℕ → Files → ℕ → Where
   as_whole : ℕ → Where
 
 -- where a place is
 abbrev pub where_of : Place → Where
-where_of (OnScreen screen) = on_screen screen.name.now screen.columns screen.rows screen.files
+where_of (OnScreen screen) = on_screen screen.name.now screen.columns screen.rows screen.files screen.start
 where_of (Whole columns) = as_whole columns
 
 -- no files beside it
 abbrev pub no_files : Files
 no_files = record { has_next = false; has_previous = false }
 
--- the words after ROWS: SKIN, NAME, which is FILE without one, and PLACE; those at the end may be left out
-abbrev pub SaysMore : List ℕ → List (List ℕ) → Option (List ℕ) → List ℕ → Files → Type 0
-SaysMore file [] skin name files = (skin ≡ None) × (name ≡ file) × (files ≡ no_files)
-SaysMore file (s ∷ []) skin name files = (skin ≡ Some s) × (name ≡ file) × (files ≡ no_files)
-SaysMore file (s ∷ n ∷ []) skin name files = (skin ≡ Some s) × (name ≡ n) × (files ≡ no_files)
-SaysMore file (s ∷ n ∷ p ∷ []) skin name files = (skin ≡ Some s) × (name ≡ n) × (files_named p ≡ Some files)
-SaysMore file _ skin name files = ⊥
+-- The word is one or more ASCII digits, leading zeros allowed, of this value, which 64 bits hold.
+pub record IsRowNumber (word : List ℕ) (n : ℕ) : Type 0 where
+  pub digits : IsNumeral 10 word
+  pub value : n ≡ digits_value 10 word
+  pub limit : n < 2 ^ 64
 
--- the words after `page`: FILE COLUMNS ROWS [SKIN [NAME [PLACE]]]
-abbrev pub AsksScreen : List (List ℕ) → List ℕ → Option (List ℕ) → List ℕ → ℕ → ℕ → Files → Type 0
-AsksScreen (given ∷ wide ∷ high ∷ more) file skin name columns rows files =
-    (file ≡ given) × IsNumber wide columns × IsNumber high rows × SaysMore given more skin name files
-AsksScreen _ file skin name columns rows files = ⊥
+-- the words after PLACE: ROW, which is 0 without one
+abbrev pub SaysStart : List (List ℕ) → ℕ → Type 0
+SaysStart [] start = start ≡ 0
+SaysStart (r ∷ []) start = IsRowNumber r start
+SaysStart _ start = ⊥
+
+-- the words after ROWS: SKIN, NAME, which is FILE without one, PLACE, and ROW; those at the end may be left out
+abbrev pub SaysMore : List ℕ → List (List ℕ) → Option (List ℕ) → List ℕ → Files → ℕ → Type 0
+SaysMore file [] skin name files start = (skin ≡ None) × (name ≡ file) × (files ≡ no_files) × (start ≡ 0)
+SaysMore file (s ∷ []) skin name files start = (skin ≡ Some s) × (name ≡ file) × (files ≡ no_files) × (start ≡ 0)
+SaysMore file (s ∷ n ∷ []) skin name files start = (skin ≡ Some s) × (name ≡ n) × (files ≡ no_files) × (start ≡ 0)
+SaysMore file (s ∷ n ∷ p ∷ rest) skin name files start = (skin ≡ Some s) × (name ≡ n) × (files_named p ≡ Some files) × SaysStart rest start
+
+-- the words after `page`: FILE COLUMNS ROWS [SKIN [NAME [PLACE [ROW]]]]
+abbrev pub AsksScreen : List (List ℕ) → List ℕ → Option (List ℕ) → List ℕ → ℕ → ℕ → Files → ℕ → Type 0
+AsksScreen (given ∷ wide ∷ high ∷ more) file skin name columns rows files start =
+    (file ≡ given) × IsNumber wide columns × IsNumber high rows × SaysMore given more skin name files start
+AsksScreen _ file skin name columns rows files start = ⊥
 
 -- the words after `whole`: FILE [SKIN [COLUMNS]]; without COLUMNS they are 80
 abbrev pub AsksWhole : List (List ℕ) → List ℕ → Option (List ℕ) → ℕ → Type 0
@@ -47,7 +60,7 @@ AsksWhole _ file skin columns = ⊥
 -- the words ask for this file, this word for the skin and this place
 abbrev pub AsksPlace : List (List ℕ) → List ℕ → Option (List ℕ) → Where → Type 0
 AsksPlace [] file skin place = ⊥
-AsksPlace (word ∷ words) file skin (on_screen name columns rows files) = (word ≡ codes "page") × AsksScreen words file skin name columns rows files
+AsksPlace (word ∷ words) file skin (on_screen name columns rows files start) = (word ≡ codes "page") × AsksScreen words file skin name columns rows files start
 AsksPlace (word ∷ words) file skin (as_whole columns) = (word ≡ codes "whole") × AsksWhole words file skin columns
 
 -- how the text is read: line by line behind `--lines`

@@ -1,5 +1,5 @@
 -- How a run ends: its status, and what is said where it failed.
-use Rattle.std.specs.Prelude.{◌≡◌, ℕ, List, codes}
+use Rattle.std.specs.Prelude.{◌≡◌, ◌⊎◌, ℕ, List, [], ◌∷◌, ◌++◌, codes, decimal, Option, Some, None}
 use Rattle.std.specs.IoError.{error_kind}
 use Rattle.std.specs.declared.io.Error.{Error as IoError}
 use Rattle.std.specs.declared.io.ErrorKind.{ErrorKind}
@@ -8,18 +8,31 @@ use Rattle.mad_term.specs.Trace.{Trace}
 use Rattle.mad_term.specs.declared.errors.Error.{Error}
 use Rattle.mad_term.specs.declared.errors.Error.TheVariants.{IO, InsufficientWidth, Memory as NoMemory}
 use Rattle.mad_pager.specs.declared.session.End.{End}
-use Rattle.mad_pager.specs.declared.session.End.TheVariants.{Quits, NextFile, PreviousFile}
+use Rattle.mad_pager.specs.declared.session.End.TheVariants.{Quits, NextFile, PreviousFile, Reload, Edit}
 use Rattle.termimad_words.specs.Failures.{SaysOnce, status_of as failure_status}
 use Rattle.termimad_words.specs.declared.failure.Failure.{Failure}
 use Rattle.termimad_words.specs.declared.failure.Failure.TheVariants.{Io, Usage, NotUtf8, Skin, Memory}
 use Rattle.termimad_page.specs.declared.failing.Refusal.{Refusal}
 use Rattle.termimad_page.specs.declared.failing.Refusal.TheVariants.{Failed, Unread}
 
--- the status of a run that didn't fail: 6 where the next file was asked for, 7 where the one before was, and else 0
+-- the status of a run that didn't fail: 6 where the next file was asked for, 7 where the one before was, 8 where the file as it is now was, 9 where an
+-- editor was, and else 0
 abbrev pub status_of_end : End → ℕ
 status_of_end Quits = 0
 status_of_end NextFile = 6
 status_of_end PreviousFile = 7
+status_of_end (Reload row) = 8
+status_of_end (Edit row) = 9
+
+-- the number of the row that an end tells, if it tells one
+abbrev pub row_of_end : End → Option ℕ
+row_of_end (Reload row) = Some row
+row_of_end (Edit row) = Some row
+row_of_end end = None
+
+-- the line that tells it: `row 12`, and a newline (10)
+abbrev pub row_line : ℕ → List ℕ
+row_line row = codes "row " ++ decimal row ++ 10 ∷ []
 
 -- the status of a refusal: that of its failure, or 141 where nobody reads the output
 abbrev pub status_of : Refusal → ℕ
@@ -29,7 +42,7 @@ status_of Unread = 141
 -- the line that is said of a failure
 abbrev pub failure_line : Failure → List ℕ
 failure_line Io = codes "termimad-page: the file can't be read, or the output failed\n"
-failure_line Usage = codes "usage: termimad-page [--lines] page FILE COLUMNS ROWS [SKIN [NAME [PLACE]]] | [--lines] whole FILE [SKIN [COLUMNS]]\n"
+failure_line Usage = codes "usage: termimad-page [--lines] page FILE COLUMNS ROWS [SKIN [NAME [PLACE [ROW]]]] | [--lines] whole FILE [SKIN [COLUMNS]]\n"
 failure_line NotUtf8 = codes "termimad-page: the file is not UTF-8\n"
 failure_line Skin = codes "termimad-page: skin\n"
 failure_line Memory = codes "termimad-page: memory\n"
@@ -38,6 +51,12 @@ failure_line Memory = codes "termimad-page: memory\n"
 abbrev pub Says : Refusal → Trace → Trace → Type 0
 Says (Failed failure) old new = SaysOnce old (failure_line failure) new
 Says Unread old new = new ≡ old
+
+-- what is said of an end with this status: the line of its row, once, where it tells one, and else nothing. Or there is no memory for the line, which is
+-- said.
+abbrev pub SaysEnd : Option ℕ → ℕ → Trace → ℕ → Trace → Type 0
+SaysEnd None is old status new = (status ≡ is) × (new ≡ old)
+SaysEnd (Some row) is old status new = ((status ≡ is) × SaysOnce old (row_line row) new) ⊎ ((status ≡ status_of (Failed Memory)) × Says (Failed Memory) old new)
 
 -- what a fault of this kind in writing makes of a run
 abbrev pub refusal_by : ErrorKind → Refusal

@@ -20,7 +20,7 @@ use Rattle.termimad_page_run.specs.declared.program.Sheet.{Sheet}
 use Rattle.termimad_words.specs.declared.failure.Failure.{Failure}
 use Rattle.termimad_words.specs.declared.failure.Failure.TheVariants.{Io, Usage, NotUtf8, Memory}
 use Rattle.termimad_page.specs.Calls.{Asks, IsNoCall, Where, as_whole, on_screen}
-use Rattle.termimad_page.specs.Ends.{Says, refusal_of, status_of, status_of_end}
+use Rattle.termimad_page.specs.Ends.{Says, SaysEnd, refusal_of, row_of_end, status_of, status_of_end}
 use Rattle.termimad_page.specs.Skins.{RefusesSkinFor, skin_for}
 use Rattle.termimad_page.specs.declared.failing.Refusal.{Refusal}
 use Rattle.termimad_page.specs.declared.failing.Refusal.TheVariants.{Failed, Unread}
@@ -88,27 +88,29 @@ WritesWhole grammar skin columns text old r new = MatchResult r
     (λ end. (end ≡ Quits) × HasWritten grammar skin columns text old flushed new)
     (λ refusal. IsUnwritten grammar skin columns text old refusal new)
 
--- The sheet has this text, read so, in this skin, under this name, on a screen of so many columns and rows, with these files beside it.
-pub record IsSheetOf (grammar : Grammar) (skin : PageSkin) (name : List ℕ) (columns rows : ℕ) (files : Files) (text : List ℕ) (sheet : Sheet) : Type 0 where
+-- The sheet has this text, read so, in this skin, under this name, on a screen of so many columns and rows, with these files beside it, from the row of this
+-- number on.
+pub record IsSheetOf (grammar : Grammar) (skin : PageSkin) (name : List ℕ) (columns rows : ℕ) (files : Files) (start : ℕ) (text : List ℕ) (sheet : Sheet) : Type 0 where
   pub grammar_is : sheet.grammar ≡ grammar
   pub skin_is : sheet.skin.now ≡ skin
   pub name_is : sheet.name.now ≡ name
   pub columns_are : sheet.columns ≡ columns
   pub rows_are : sheet.rows ≡ rows
   pub files_are : sheet.files ≡ files
+  pub start_is : sheet.start ≡ start
   pub text_is : sheet.text.now ≡ text
 
 -- a text is paged until a key or the input ends it, or up to a fault
-abbrev pub PagesText : Grammar → PageSkin → List ℕ → ℕ → ℕ → Files → List ℕ → Trace → Trace → Result End Refusal → Trace → Trace → Type 0
-PagesText grammar skin name columns rows files text keys screen r new_keys new_screen =
-    (sheet : Sheet) × IsSheetOf grammar skin name columns rows files text sheet
+abbrev pub PagesText : Grammar → PageSkin → List ℕ → ℕ → ℕ → Files → ℕ → List ℕ → Trace → Trace → Result End Refusal → Trace → Trace → Type 0
+PagesText grammar skin name columns rows files start text keys screen r new_keys new_screen =
+    (sheet : Sheet) × IsSheetOf grammar skin name columns rows files start text sheet
     × MatchResult r (λ end. IsPaged sheet end keys new_keys screen new_screen)
     (λ refusal. (e : Error) × (refusal ≡ refusal_of e) × IsBrokenRun sheet e keys new_keys screen new_screen)
 
 -- a text is shown in its place; the devices of the other one are left alone
 abbrev pub ShowsText : Grammar → PageSkin → Where → List ℕ → Devices → Result End Refusal → Devices → Type 0
-ShowsText grammar skin (on_screen name columns rows files) text old r new =
-    PagesText grammar skin name columns rows files text old.keys old.screen r new.keys new.screen × (new.out ≡ old.out)
+ShowsText grammar skin (on_screen name columns rows files start) text old r new =
+    PagesText grammar skin name columns rows files start text old.keys old.screen r new.keys new.screen × (new.out ≡ old.out)
 ShowsText grammar skin (as_whole columns) text old r new =
     WritesWhole grammar skin columns text old.out r new.out × (new.keys ≡ old.keys) × (new.screen ≡ old.screen)
 
@@ -150,9 +152,9 @@ Performs holds words old r new =
     HasShown holds words old r new
     ⊎ ((refusal : Refusal) × (r ≡ Err refusal) × (IsUnbegun words refusal ⊎ IsUnread words refusal) × (new ≡ old))
 
--- its status, and what is said
+-- its status, and what is said: of some ends a row
 abbrev pub Answers : Result End Refusal → Trace → ℕ → Trace → Type 0
-Answers (Ok end) old status new = (status ≡ status_of_end end) × (new ≡ old)
+Answers (Ok end) old status new = SaysEnd (row_of_end end) (status_of_end end) old status new
 Answers (Err refusal) old status new = (status ≡ status_of refusal) × Says refusal old new
 
 -- A run, whole: there is a way of ending that its devices show, and that its status and standard error tell.

@@ -2,7 +2,7 @@
 
 ghost use Rattle.std.specs.Prelude.{◌≡◌, ℕ, List, Option, MatchOption, map, option_map, string_bytes};
 ghost use Rattle.mad_page.specs.declared.page.Files.{Files as SomeFiles};
-ghost use Rattle.termimad_page.specs.Calls.{Asks, AsksPlace, AsksScreen, AsksWhole, IsNoCall, SaysMore, Where, grammar_said, where_of, words_behind};
+ghost use Rattle.termimad_page.specs.Calls.{Asks, AsksPlace, AsksScreen, AsksWhole, IsNoCall, IsRowNumber, SaysMore, SaysStart, Where, grammar_said, where_of, words_behind};
 
 use termimad_page_run::{Files, Grammar};
 use termimad_words::parse_number;
@@ -43,9 +43,11 @@ pub(crate) struct Screen<'w> {
     pub rows: u16,
     /// Which files there are beside FILE.
     pub files: Files,
+    /// The number of the row that is on top at first; 0 for the text's start.
+    pub start: usize,
 }
 
-/// The call that the words after the program's name are: `page FILE COLUMNS ROWS [SKIN [NAME [PLACE]]]` or `whole FILE [SKIN [COLUMNS]]`, with
+/// The call that the words after the program's name are: `page FILE COLUMNS ROWS [SKIN [NAME [PLACE [ROW]]]]` or `whole FILE [SKIN [COLUMNS]]`, with
 /// `--lines` before them where each line of the text stands for itself. None, where they are neither.
 pub(crate) fn parse_call(words: &[String]) -> Option<Call<'_>>
     ensures { MatchOption result (IsNoCall (map string_bytes words.now))
@@ -95,42 +97,70 @@ fn parse_place(words: &[String]) -> Option<(&str, Option<&str>, Place<'_>)>
 // The words after `page`.
 fn parse_page(words: &[String]) -> Option<(&str, Option<&str>, Screen<'_>)>
     ensures { MatchOption result
-        ((file : List ℕ) (skin : Option (List ℕ)) (name : List ℕ) (columns rows : ℕ) (files : SomeFiles)
-        → ¬ (AsksScreen (map string_bytes words.now) file skin name columns rows files))
+        ((file : List ℕ) (skin : Option (List ℕ)) (name : List ℕ) (columns rows : ℕ) (files : SomeFiles) (start : ℕ)
+        → ¬ (AsksScreen (map string_bytes words.now) file skin name columns rows files start))
         (λ asked. AsksScreen (map string_bytes words.now) asked.0.now (option_map (λ word. word.now) asked.1)
-        asked.2.name.now asked.2.columns asked.2.rows asked.2.files) }
+        asked.2.name.now asked.2.columns asked.2.rows asked.2.files asked.2.start) }
 {
     let [file, columns, rows, more @ ..] = words else {
         return None;
     };
     let columns = parse_number(columns.as_str())?;
     let rows = parse_number(rows.as_str())?;
-    let (skin, name, files) = parse_more(file.as_str(), more)?;
+    let (skin, name, files, start) = parse_more(file.as_str(), more)?;
     let screen = Screen {
         name,
         columns,
         rows,
         files,
+        start,
     };
     Some((file.as_str(), skin, screen))
 }
 
-// The words after ROWS, of which those at the end may be left out: for the skin, the name, which is the file's without one, and the place.
-fn parse_more<'w>(file: &'w str, words: &'w [String]) -> Option<(Option<&'w str>, &'w str, Files)>
+// The words after ROWS, of which those at the end may be left out: for the skin, the name, which is the file's without one, the place, and the row that is
+// on top at first.
+fn parse_more<'w>(
+    file: &'w str,
+    words: &'w [String],
+) -> Option<(Option<&'w str>, &'w str, Files, usize)>
     ensures { MatchOption result
-        ((skin : Option (List ℕ)) (name : List ℕ) (files : SomeFiles) → ¬ (SaysMore file.entry.now (map string_bytes words.entry.now) skin name files))
-        (λ said. SaysMore file.entry.now (map string_bytes words.entry.now) (option_map (λ word. word.now) said.0) said.1.now said.2) }
+        ((skin : Option (List ℕ)) (name : List ℕ) (files : SomeFiles) (start : ℕ)
+        → ¬ (SaysMore file.entry.now (map string_bytes words.entry.now) skin name files start))
+        (λ said. SaysMore file.entry.now (map string_bytes words.entry.now) (option_map (λ word. word.now) said.0) said.1.now said.2 said.3) }
 {
     match words {
-        [] => Some((None, file, Files::NONE)),
-        [skin] => Some((Some(skin.as_str()), file, Files::NONE)),
-        [skin, name] => Some((Some(skin.as_str()), name.as_str(), Files::NONE)),
-        [skin, name, place] => {
+        [] => Some((None, file, Files::NONE, 0)),
+        [skin] => Some((Some(skin.as_str()), file, Files::NONE, 0)),
+        [skin, name] => Some((Some(skin.as_str()), name.as_str(), Files::NONE, 0)),
+        [skin, name, place, rest @ ..] => {
             let files = Files::named(place.as_str())?;
-            Some((Some(skin.as_str()), name.as_str(), files))
+            let start = parse_start(rest)?;
+            Some((Some(skin.as_str()), name.as_str(), files, start))
         }
+    }
+}
+
+// The words after PLACE: the number of the row that is on top at first, which may be left out.
+fn parse_start(words: &[String]) -> Option<usize>
+    ensures { MatchOption result ((start : ℕ) → ¬ (SaysStart (map string_bytes words.now) start)) (λ start. SaysStart (map string_bytes words.now) start) }
+{
+    match words {
+        [] => Some(0),
+        [row] => parse_row(row.as_str()),
         _ => None,
     }
+}
+
+// The number of a row that a word is: one or more ASCII digits of a value of 64 bits, and nothing else.
+fn parse_row(word: &str) -> Option<usize>
+    ensures { MatchOption result ((n : ℕ) → ¬ (IsRowNumber word.now n)) (λ n. IsRowNumber word.now n) }
+{
+    // A number of the standard library may begin with a plus.
+    if word.as_bytes().first() == Some(&b'+') {
+        return None;
+    }
+    word.parse::<usize>().ok()
 }
 
 // The words after `whole`.

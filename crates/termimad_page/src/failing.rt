@@ -1,10 +1,11 @@
 //! How a run ends: its status, and what is said where it failed.
 
-ghost use Rattle.std.specs.Prelude.{◌≡◌};
+ghost use Rattle.std.specs.Prelude.{◌≡◌, IfOk, string_bytes};
 ghost use Rattle.termimad_words.specs.Failures.{SaysOnce};
-ghost use Rattle.termimad_page.specs.Ends.{Says, failure_line, refusal_of, refusal_reading, status_of, status_of_end};
+ghost use Rattle.termimad_page.specs.Ends.{Says, SaysEnd, failure_line, refusal_of, refusal_reading, row_line, row_of_end, status_of, status_of_end};
 
 use mad_term::{Error, Out, put_all};
+use std::alloc::{AllocError, Global};
 use std::io::{self, ErrorKind};
 use termimad_page_run::End;
 use termimad_words::Failure;
@@ -17,14 +18,21 @@ const NEXT_FILE: u8 = 6;
 
 const PREVIOUS_FILE: u8 = 7;
 
-/// The status of a run that didn't fail.
-pub(crate) fn status(end: End) -> u8
+// Those after the keys for the file as it is now, and for an editor.
+const RELOAD: u8 = 8;
+
+const EDIT: u8 = 9;
+
+// The status of a run that didn't fail.
+fn status(end: End) -> u8
     ensures { result ≡ status_of_end end }
 {
     match end {
         End::Quits => 0,
         End::NextFile => NEXT_FILE,
         End::PreviousFile => PREVIOUS_FILE,
+        End::Reload(_) => RELOAD,
+        End::Edit(_) => EDIT,
     }
 }
 
@@ -35,6 +43,40 @@ pub(crate) enum Refusal {
     Failed(Failure),
     /// Nobody reads its output any more, which is no fault.
     Unread,
+}
+
+/// Says on a device the row that was on top, in one line, where an end tells it, and answers the status. A fault of the device changes nothing. Out of
+/// memory for the line is a refusal, which is said.
+pub(crate) fn say_end<E: Out>(alloc: Global, err: &mut E, end: End) -> u8
+    ensures { SaysEnd (row_of_end end) (status_of_end end) (E.seen err.old) result (E.seen err.new) }
+{
+    let Some(row) = row_of_end(end) else {
+        return status(end);
+    };
+    match row_line(alloc, row) {
+        Ok(line) => {
+            let _ = put_all(err, line.as_bytes());
+            status(end)
+        }
+        Err(_) => refuse(err, Refusal::Failed(Failure::Memory)),
+    }
+}
+
+// The number of the row that an end tells, if it tells one.
+fn row_of_end(end: End) -> Option<usize>
+    ensures { result ≡ row_of_end end }
+{
+    match end {
+        End::Reload(row) | End::Edit(row) => Some(row),
+        _ => None,
+    }
+}
+
+// The line that tells a row.
+fn row_line(alloc: Global, row: usize) -> Result<String, AllocError>
+    ensures { IfOk result (λ line. string_bytes line ≡ row_line row) }
+{
+    format!(in alloc; "row {row}\n")
 }
 
 /// What the refusal of a writing call makes of a run.
@@ -84,7 +126,7 @@ fn line(failure: Failure) -> &'static [u8]
     match failure {
         Failure::Io => b"termimad-page: the file can't be read, or the output failed\n",
         Failure::Usage => {
-            b"usage: termimad-page [--lines] page FILE COLUMNS ROWS [SKIN [NAME [PLACE]]] | [--lines] whole FILE [SKIN [COLUMNS]]\n"
+            b"usage: termimad-page [--lines] page FILE COLUMNS ROWS [SKIN [NAME [PLACE [ROW]]]] | [--lines] whole FILE [SKIN [COLUMNS]]\n"
         }
         Failure::NotUtf8 => b"termimad-page: the file is not UTF-8\n",
         Failure::Skin => b"termimad-page: skin\n",

@@ -6,7 +6,7 @@ ghost use Rattle.termimad_page.specs.Calls.{where_of};
 ghost use Rattle.termimad_page.specs.Runs.{HasRun, IsBegun, IsSheetOf, IsUnbegun, PagesText, Performs, ReadsFile, Shows, WritesRows, WritesWhole, devices};
 
 use crate::call::{Call, Place, Screen, parse_call};
-use crate::failing::{Refusal, refusal_of, refusal_reading, refuse, status};
+use crate::failing::{Refusal, refusal_of, refusal_reading, refuse, say_end};
 use crate::skins::skin_for;
 use mad_measure::printable;
 use mad_page_skin::PageSkin;
@@ -22,8 +22,8 @@ use termimad_words::Failure;
 /// Does what the words after the program's name ask for, and answers the status: keys come from the input, and a text is paged on the screen, or
 /// written whole on the output, which is then flushed.
 ///
-/// The words are checked first, then the skin, and then the file is read. Statuses are 0, after the keys for another file 6 and 7, and of a
-/// refusal 1 to 5 and 141; a refusal is said on `err`, in one line.
+/// The words are checked first, then the skin, and then the file is read. Statuses are 0, after the keys for another file 6 and 7, after those for the
+/// file as it is now and for an editor 8 and 9, and of a refusal 1 to 5 and 141. A refusal is said on `err`, in one line, and of 8 and 9 the row on top.
 pub(crate) fn run<T: Texts, I: Source, S: Out, O: Out, E: Out>(
     alloc: Global,
     words: &[String],
@@ -37,7 +37,7 @@ pub(crate) fn run<T: Texts, I: Source, S: Out, O: Out, E: Out>(
         result (devices (I.seen input.new) (S.seen screen.new) (O.seen out.new)) (E.seen err.new) }
 {
     match perform(alloc, words, texts, input, screen, out) {
-        Ok(end) => status(end),
+        Ok(end) => say_end(alloc, err, end),
         Err(refusal) => refuse(err, refusal),
     }
 }
@@ -117,7 +117,7 @@ fn page_text<I: Source, S: Out>(
     input: &mut I,
     screen: &mut S,
 ) -> Result<End, Refusal>
-    ensures { PagesText grammar skin.now place.now.name.now place.now.columns place.now.rows place.now.files text.now
+    ensures { PagesText grammar skin.now place.now.name.now place.now.columns place.now.rows place.now.files place.now.start text.now
         (I.seen input.old) (S.seen screen.old) result (I.seen input.new) (S.seen screen.new) }
 {
     let sheet = Sheet {
@@ -127,6 +127,7 @@ fn page_text<I: Source, S: Out>(
         skin,
         columns: place.columns,
         rows: place.rows,
+        start: place.start,
         files: place.files,
     };
     match page(alloc, &sheet, input, screen) {

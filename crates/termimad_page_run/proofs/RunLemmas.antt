@@ -8,6 +8,10 @@ use Rattle.std.proofs.lemmas.Str.{encodes-append}
 use Rattle.mad_term.specs.Trace.{Trace, ahead_all, Filled}
 use Rattle.mad_term.specs.declared.errors.Error.{Error}
 use Rattle.mad_term.specs.declared.events.Event.{Event}
+use Rattle.mad_input.specs.Hearing.{awaiting}
+use Rattle.mad_input.specs.declared.input.Heard.{Heard}
+use Rattle.mad_input.specs.declared.input.Heard.TheVariants.{Typed, Pasted, Ready}
+use Rattle.mad_input.specs.declared.input.TerminalInput.{TerminalInput}
 use Rattle.mad_sections.specs.Sections.{SectionContent}
 use Rattle.mad_dressing.specs.Dressed.{Put, dressed, put_with}
 use Rattle.mad_dressing.specs.declared.heading_marks.HeadingMarks.{HeadingMarks}
@@ -15,11 +19,11 @@ use Rattle.mad_search.specs.PagedTexts.{grouped}
 use Rattle.mad_search.proofs.GroupLemmas.{page_grouped}
 use Rattle.markdown_reader.specs.MarkdownSays.{LinkSaid}
 use Rattle.mad_outline.specs.Sources.{TextSaid, plain_said}
-use Rattle.mad_pager.proofs.PagerOrder.{step_order, view_settled_order}
-use Rattle.mad_pager.specs.Pagers.{View, IsOpened, IsOrderlyView, IsViewShown}
+use Rattle.mad_pager.proofs.PagerOrder.{pasted_view_order, step_order, view_settled_order}
+use Rattle.mad_pager.specs.Pagers.{View, begun, pasted_in, IsOpened, IsOrderlyView, IsViewShown}
 use Rattle.mad_pager.specs.declared.pager.Pager.{Pager}
 use Rattle.mad_pager.specs.declared.session.End.{End}
-use Rattle.termimad_page_run.specs.Blocks.{IsBlockDone, IsSession}
+use Rattle.termimad_page_run.specs.Blocks.{IsBlockDone, IsEndedIn, IsHeardStep, IsSession}
 use Rattle.termimad_page_run.specs.Runs.{AreTurns, EndsAtInput, IsBrokenOff, IsBrokenRun, IsPaged, IsTurn, IsTurned, Moment, block_room, moment, name_row, printed_text, row_char, said_in, sheet_said, shown_text}
 use Rattle.markdown_reader.specs.Markdown.{markdown_sections, markdown_links}
 use Rattle.mad_steady.specs.Steady.{steady_text}
@@ -64,15 +68,20 @@ ended_input old new buffer count none h some = record {
 -- ---- turns
 
 -- the sessions stay orderly
-session_order : (events : List Event) (v : View) (asks : Bool) (new : View) → IsSession v events asks new → IsOrderlyView v → IsOrderlyView new
+heard_order : (one : Heard) (v new : View) → IsHeardStep one v new → IsOrderlyView v → IsOrderlyView new
+heard_order (Typed event) v new step h = step_order event v new step h
+heard_order (Pasted event) v new same h = subst IsOrderlyView (sym same) (pasted_view_order event v h)
+heard_order Ready v new same h = subst IsOrderlyView (sym same) h
+
+session_order : (heard : List Heard) (v : View) (asks : Bool) (new : View) → IsSession v heard asks new → IsOrderlyView v → IsOrderlyView new
 session_order [] v asks new (none, same) h = subst IsOrderlyView (sym same) h
-session_order (event ∷ events) v asks new (mid, others, step, goes, is, rest) h = session_order events mid others new rest (step_order event v mid step h)
+session_order (one ∷ heard) v asks new (mid, others, step, goes, is, rest) h = session_order heard mid others new rest (heard_order one v mid step h)
 
 -- a turn leaves the sessions orderly
 pub turn_order : (block : List ℕ) (before after : Moment) → IsTurn block before after → IsOrderlyView after.view
 turn_order block before after turn =
     let done = turn.done in
-    view_settled_order done.0 after.view done.2 (session_order done.1.events before.view after.asks done.0 done.1.session turn.orderly)
+    view_settled_order done.0 after.view done.2 (session_order done.1.heard before.view after.asks done.0 done.1.session turn.orderly)
 
 -- one turn more
 turns_more : (blocks : List (List ℕ)) (block : List ℕ) (old mid new : Moment) → AreTurns blocks old mid → IsTurn block mid new → AreTurns (blocks ++ block ∷ []) old new
@@ -80,15 +89,15 @@ turns_more [] block old mid new same turn = (new, subst (λ (m : Moment). IsTurn
 turns_more (b ∷ blocks) block old mid new (next, one, more) turn = (next, one, turns_more blocks block next mid new more turn)
 
 -- the same of what is equal
-pub turn_made : (blocks : List (List ℕ)) (block : List ℕ) (old mid : Moment) (pager : Pager) (waits : List ℕ) (asks told : Bool) (input out : Trace)
-    → told ≡ asks → AreTurns blocks old mid → IsTurn block mid (moment pager waits asks input out) → AreTurns (blocks ++ block ∷ []) old (moment pager waits told input out)
-turn_made blocks block old mid pager waits asks told input out is turns turn =
-    subst (λ (a : Bool). AreTurns (blocks ++ block ∷ []) old (moment pager waits a input out)) (sym is) (turns_more blocks block old mid (moment pager waits asks input out) turns turn)
+pub turn_made : (blocks : List (List ℕ)) (block : List ℕ) (old mid : Moment) (pager : Pager) (terminal : TerminalInput) (asks told : Bool) (input out : Trace)
+    → told ≡ asks → AreTurns blocks old mid → IsTurn block mid (moment pager terminal asks input out) → AreTurns (blocks ++ block ∷ []) old (moment pager terminal told input out)
+turn_made blocks block old mid pager terminal asks told input out is turns turn =
+    subst (λ (a : Bool). AreTurns (blocks ++ block ∷ []) old (moment pager terminal a input out)) (sym is) (turns_more blocks block old mid (moment pager terminal asks input out) turns turn)
 
 -- a block that was read by one fill is done
-pub block_done : (v new : View) (waits left block buffer : List ℕ) (count : ℕ) (asks : Bool) (old_input new_input old_out new_out : Trace) (before : Bool)
-    → IsOrderlyView v → IsViewShown before v old_out new_out → Filled old_input buffer count new_input → 0 < count → block ≡ take count buffer → IsBlockDone waits block (nat_lt count block_room) v left asks new
-    → IsTurn block (record { view = v; waits = waits; asks = before; input = old_input; out = old_out }) (record { view = new; waits = left; asks = asks; input = new_input; out = new_out })
+pub block_done : (v new : View) (waits left : TerminalInput) (block buffer : List ℕ) (count : ℕ) (asks : Bool) (old_input new_input old_out new_out : Trace) (before : Bool)
+    → IsOrderlyView v → IsViewShown before v old_out new_out → Filled old_input buffer count new_input → 0 < count → block ≡ take count buffer → IsBlockDone (awaiting before waits) block (nat_lt count block_room) v left asks new
+    → IsTurn block (record { view = v; terminal = waits; asks = before; input = old_input; out = old_out }) (record { view = new; terminal = left; asks = asks; input = new_input; out = new_out })
 block_done v new waits left block buffer count asks old_input new_input old_out new_out before orderly shown filled some is done =
     let long : length block ≡ count = ap length is ∙ length-take-le count buffer filled.within in
     record {
@@ -96,8 +105,15 @@ block_done v new waits left block buffer count asks old_input new_input old_out 
       shown = shown;
       some = omega (arith, long);
       read = filled.handed_out ∙ ap (λ (b : List ℕ). ahead_all b new_input) (sym is);
-      done = subst (λ (n : ℕ). IsBlockDone waits block (nat_lt n block_room) v left asks new) (sym long) done;
+      done = subst (λ (n : ℕ). IsBlockDone (awaiting before waits) block (nat_lt n block_room) v left asks new) (sym long) done;
     }
+
+-- what is heard by a reader that awaits an answer, along what is equal
+pub done_from : (s t : TerminalInput) (block : List ℕ) (pauses : Bool) (v : View) (left : TerminalInput) (asks : Bool) (new : View) → t ≡ s → IsBlockDone t block pauses v left asks new → IsBlockDone s block pauses v left asks new
+done_from s t block pauses v left asks new is h = subst (λ (x : TerminalInput). IsBlockDone x block pauses v left asks new) is h
+
+pub ended_from : (s t : TerminalInput) (block : List ℕ) (v : View) (end : End) → t ≡ s → IsEndedIn t block v end → IsEndedIn s block v end
+ended_from s t block v end is h = subst (λ (x : TerminalInput). IsEndedIn x block v end) is h
 
 -- ---- the end
 
@@ -132,10 +148,16 @@ opened_along sheet v name text row said h =
     subst (λ (t : TextSaid). IsOpened sheet.skin.now (name_row sheet.name.now) t sheet.columns sheet.rows sheet.files v) said
     (subst (λ (n : List ℕ). IsOpened sheet.skin.now n text sheet.columns sheet.rows sheet.files v) row h)
 
+-- what was made of a view, along what is equal
+pub turned_along : (v w : View) (r : Result End Error) (old_input new_input old_out new_out : Trace) → v ≡ w → MatchResult r (λ end. IsTurned v end old_input new_input old_out new_out) (λ e. IsBrokenOff v e old_input new_input old_out new_out)
+    → MatchResult r (λ end. IsTurned w end old_input new_input old_out new_out) (λ e. IsBrokenOff w e old_input new_input old_out new_out)
+turned_along v w r old_input new_input old_out new_out is h =
+    subst (λ (x : View). MatchResult r (λ end. IsTurned x end old_input new_input old_out new_out) (λ e. IsBrokenOff x e old_input new_input old_out new_out)) is h
+
 -- a run from the start of a sheet's text
 pub sheet_paged : (sheet : Sheet) (v : View) (r : Result End Error) (old_input new_input old_out new_out : Trace)
     → IsOpened sheet.skin.now (name_row sheet.name.now) (sheet_said sheet) sheet.columns sheet.rows sheet.files v
-    → MatchResult r (λ end. IsTurned v end old_input new_input old_out new_out) (λ e. IsBrokenOff v e old_input new_input old_out new_out)
+    → MatchResult r (λ end. IsTurned (begun sheet.start v) end old_input new_input old_out new_out) (λ e. IsBrokenOff (begun sheet.start v) e old_input new_input old_out new_out)
     → MatchResult r (λ end. IsPaged sheet end old_input new_input old_out new_out) (λ e. IsBrokenRun sheet e old_input new_input old_out new_out)
 sheet_paged sheet v (Ok end) old_input new_input old_out new_out start h = record { start = v; is = start; turned = h }
 sheet_paged sheet v (Err e) old_input new_input old_out new_out start h = inl (record { start = v; is = start; turned = h })

@@ -1,69 +1,82 @@
--- Blocks of keys: what they are read as, and what a session does of them.
+-- Blocks of bytes from the terminal: what is heard of them, and what a session does of that.
 use Rattle.std.specs.Prelude.{◌≡◌, ℕ, ◌||◌, Bool, true, false, List, [], ◌∷◌, ◌++◌, Option, Some, None}
-use Rattle.mad_term.specs.declared.events.Event.{Event}
-use Rattle.mad_keys.specs.Decoding.{BytesGive, PauseGives}
-use Rattle.mad_keys.specs.Readings.{listed}
-use Rattle.mad_pager.specs.Pagers.{View, IsStep, IsViewSettled, turn_in}
+use Rattle.mad_input.specs.Hearing.{BytesHear, PauseHears, all_heard}
+use Rattle.mad_input.specs.declared.input.Heard.{Heard}
+use Rattle.mad_input.specs.declared.input.Heard.TheVariants.{Typed, Pasted, Ready}
+use Rattle.mad_input.specs.declared.input.TerminalInput.{TerminalInput}
+use Rattle.mad_pager.specs.Pagers.{View, IsStep, IsViewSettled, pasted_in, turn_in}
 use Rattle.mad_pager.specs.Sessions.{asks_size, end_of}
 use Rattle.mad_pager.specs.declared.session.End.{End}
 use Rattle.mad_pager.specs.declared.session.Turn.{Turn}
-use Rattle.mad_pager.specs.declared.session.Turn.TheVariants.{Goes, Ends}
+use Rattle.mad_pager.specs.declared.session.Turn.TheVariants.{Goes, AsksSize, Ends}
 
--- ---- what is read
+-- ---- what is heard
 
--- what waited, a block after which there is a pause, or none, the events that these end, in order, and what waits then
-pub record IsBlockTold (w block : List ℕ) (pauses : Bool) (events : List Event) (left : List ℕ) : Type 0 where
-  pub before : List ℕ
-  pub own : List Event
-  pub told : BytesGive w block own before
-  pub last : Option Event
-  pub pause : pauses ≡ true → PauseGives before last left
-  pub none : pauses ≡ false → (last ≡ None) × (left ≡ before)
-  pub all : events ≡ own ++ listed last
+-- what is heard of a block after what came before, and of the pause after it, if there is one, in order, and what is so then
+pub record IsBlockHeard (s : TerminalInput) (block : List ℕ) (pauses : Bool) (heard : List Heard) (new : TerminalInput) : Type 0 where
+  pub before : TerminalInput
+  pub own : List Heard
+  pub told : BytesHear s block own before
+  pub last : Option Heard
+  pub pause : pauses ≡ true → PauseHears before.mode before last new
+  pub none : pauses ≡ false → (last ≡ None) × (new ≡ before)
+  pub all : heard ≡ own ++ all_heard last
 
 -- ---- what is done
 
--- what is done of an event, if one was told
-abbrev pub IsToldStep : Option Event → View → View → Type 0
+-- What is done of what is heard: an event that was typed, or one of a pasted text. That the terminal is ready changes nothing.
+abbrev pub IsHeardStep : Heard → View → View → Type 0
+IsHeardStep (Typed event) v new = IsStep event v new
+IsHeardStep (Pasted event) v new = new ≡ pasted_in event v
+IsHeardStep Ready v new = new ≡ v
+
+-- how the session goes on after it; a terminal that is ready is asked for its size
+abbrev pub turn_heard : Heard → View → Turn
+turn_heard (Typed event) v = turn_in event v
+turn_heard (Pasted event) v = Goes
+turn_heard Ready v = AsksSize
+
+-- what is done, if anything is heard
+abbrev pub IsToldStep : Option Heard → View → View → Type 0
 IsToldStep None v new = new ≡ v
-IsToldStep (Some event) v new = IsStep event v new
+IsToldStep (Some heard) v new = IsHeardStep heard v new
 
 -- how the session goes on after it
-abbrev pub turn_told : Option Event → View → Turn
+abbrev pub turn_told : Option Heard → View → Turn
 turn_told None v = Goes
-turn_told (Some event) v = turn_in event v
+turn_told (Some heard) v = turn_heard heard v
 
 -- it is done, and the session just goes on
-abbrev pub IsToldDone : Option Event → View → View → Type 0
+abbrev pub IsToldDone : Option Heard → View → View → Type 0
 IsToldDone told v new = IsToldStep told v new × (turn_told told v ≡ Goes)
 
--- events are done one after the other, and none of them ends the session; and whether one of them asks for the size of the screen
-abbrev pub IsSession : View → List Event → Bool → View → Type 0
+-- what is heard is done in order, and nothing of it ends the session; and whether something asks for the size of the screen
+abbrev pub IsSession : View → List Heard → Bool → View → Type 0
 IsSession v [] asks new = (asks ≡ false) × (new ≡ v)
-IsSession v (event ∷ events) asks new =
-    (mid : View) × (others : Bool) × IsStep event v mid × (end_of (turn_in event v) ≡ None) × (asks ≡ (asks_size (turn_in event v) || others))
-    × IsSession mid events others new
+IsSession v (one ∷ heard) asks new =
+    (mid : View) × (others : Bool) × IsHeardStep one v mid × (end_of (turn_heard one v) ≡ None) × (asks ≡ (asks_size (turn_heard one v) || others))
+    × IsSession mid heard others new
 
--- The events of a block are done, and none of them ends the session; and whether one of them asks for the size of the screen.
-pub record AreEventsDone (w block : List ℕ) (pauses : Bool) (v : View) (left : List ℕ) (asks : Bool) (new : View) : Type 0 where
-  pub events : List Event
-  pub told : IsBlockTold w block pauses events left
-  pub session : IsSession v events asks new
+-- What is heard of a block is done, and nothing of it ends the session; and whether something asks for the size of the screen.
+pub record AreHeardDone (s : TerminalInput) (block : List ℕ) (pauses : Bool) (v : View) (left : TerminalInput) (asks : Bool) (new : View) : Type 0 where
+  pub heard : List Heard
+  pub told : IsBlockHeard s block pauses heard left
+  pub session : IsSession v heard asks new
 
--- They are done, and then the text is laid out once, for the last size that the terminal told, if it told one.
-abbrev pub IsBlockDone : List ℕ → List ℕ → Bool → View → List ℕ → Bool → View → Type 0
-IsBlockDone w block pauses v left asks new = (mid : View) × AreEventsDone w block pauses v left asks mid × IsViewSettled mid new
+-- It is done, and then the text is laid out once, for the last size that the terminal told, if it told one.
+abbrev pub IsBlockDone : TerminalInput → List ℕ → Bool → View → TerminalInput → Bool → View → Type 0
+IsBlockDone s block pauses v left asks new = (mid : View) × AreHeardDone s block pauses v left asks mid × IsViewSettled mid new
 
--- The events of the front of a block are done, and the last of them ends the session so. The rest of the block isn't read.
-pub record IsEndedIn (w block : List ℕ) (v : View) (end : End) : Type 0 where
+-- What is heard of the front of a block is done, and the last of it ends the session so. The rest of the block isn't read.
+pub record IsEndedIn (s : TerminalInput) (block : List ℕ) (v : View) (end : End) : Type 0 where
   pub front : List ℕ
   pub rest : List ℕ
   pub whole : front ++ rest ≡ block
-  pub events : List Event
-  pub last : Event
-  pub left : List ℕ
-  pub told : BytesGive w front (events ++ last ∷ []) left
+  pub heard : List Heard
+  pub last : Heard
+  pub left : TerminalInput
+  pub told : BytesHear s front (heard ++ last ∷ []) left
   pub asks : Bool
   pub before : View
-  pub session : IsSession v events asks before
-  pub ends : turn_in last before ≡ Ends end
+  pub session : IsSession v heard asks before
+  pub ends : turn_heard last before ≡ Ends end

@@ -1,4 +1,4 @@
--- A run of the pager: which blocks of keys are read, what is done of them, and what goes out.
+-- A run of the pager: which blocks of bytes are read, what is done of them, and what goes out.
 use Rattle.std.specs.Prelude.{◌≡◌, ◌⊎◌, ℕ, ◌-◌, ◌^◌, ◌<◌, ◌==◌, nat_lt, Bool, false, List, [], ◌∷◌, length, map, Some, chars, encode_utf8_all, if◌then◌else◌}
 use Rattle.mad_term.specs.Trace.{Trace, ahead_all, failed, IsAtItsEnd}
 use Rattle.mad_term.specs.declared.errors.Error.{Error}
@@ -8,8 +8,10 @@ use Rattle.mad_steady.specs.Steady.{steady_text}
 use Rattle.mad_dressing.specs.Dressed.{dressed}
 use Rattle.mad_dressing.specs.declared.heading_marks.HeadingMarks.{HeadingMarks}
 use Rattle.markdown_reader.specs.Markdown.{markdown_sections, markdown_links}
-use Rattle.mad_pager.specs.Pagers.{View, IsOpened, IsOrderlyView, IsViewShown, IsViewUnshown, view_of}
+use Rattle.mad_pager.specs.Pagers.{View, begun, IsOpened, IsOrderlyView, IsViewShown, IsViewUnshown, view_of}
 use Rattle.mad_outline.specs.Sources.{TextSaid, plain_said}
+use Rattle.mad_input.specs.Hearing.{awaiting, quiet_input}
+use Rattle.mad_input.specs.declared.input.TerminalInput.{TerminalInput}
 use Rattle.mad_pager.specs.declared.pager.Pager.{Pager}
 use Rattle.mad_pager.specs.declared.session.End.{End}
 use Rattle.mad_pager.specs.declared.session.End.TheVariants.{Quits}
@@ -51,26 +53,26 @@ sheet_said sheet = said_in sheet.grammar sheet.skin.now.headings sheet.text.now
 
 -- ---- turns
 
--- What there is before a drawing: what the pager has, the bytes that wait as a beginning of a key, whether the terminal is to be asked for its size,
--- and the two devices.
+-- What there is before a drawing: what the pager has, how the terminal is heard, whether it is to be asked for its size, and the two devices.
 pub record Moment : Type 0 where
   pub view : View
-  pub waits : List ℕ
+  pub terminal : TerminalInput
   pub asks : Bool
   pub input : Trace
   pub out : Trace
 
 -- the moment of a pager
-abbrev pub moment : Pager → List ℕ → Bool → Trace → Trace → Moment
-moment p waits asks input out = record { view = view_of p; waits = waits; asks = asks; input = input; out = out }
+abbrev pub moment : Pager → TerminalInput → Bool → Trace → Trace → Moment
+moment p terminal asks input out = record { view = view_of p; terminal = terminal; asks = asks; input = input; out = out }
 
--- The sessions are orderly and one is shown, a block of keys is read, and what it says is done. It doesn't end the session.
+-- The sessions are orderly and one is shown, a block of bytes is read, and what it says is done. It doesn't end the session. Where the terminal was asked
+-- for its size, one answer more counts.
 pub record IsTurn (block : List ℕ) (old new : Moment) : Type 0 where
   pub orderly : IsOrderlyView old.view
   pub shown : IsViewShown old.asks old.view old.out new.out
   pub some : 0 < length block
   pub read : old.input ≡ ahead_all block new.input
-  pub done : IsBlockDone old.waits block (nat_lt (length block) block_room) old.view new.waits new.asks new.view
+  pub done : IsBlockDone (awaiting old.asks old.terminal) block (nat_lt (length block) block_room) old.view new.terminal new.asks new.view
 
 -- one turn after the other, one for each block
 abbrev pub AreTurns : List (List ℕ) → Moment → Moment → Type 0
@@ -88,7 +90,7 @@ pub record EndsAtInput (old new : Trace) : Type 0 where
 pub record EndsAtKey (last : Moment) (end : End) (new : Trace) : Type 0 where
   pub block : List ℕ
   pub read : last.input ≡ ahead_all block new
-  pub key : IsEndedIn last.waits block last.view end
+  pub key : IsEndedIn (awaiting last.asks last.terminal) block last.view end
 
 -- The last turn: the sessions are orderly and one is shown, and the input ends or a key ends the session. After the input nothing more is to be shown.
 pub record IsLastTurn (last : Moment) (end : End) (new_input new_out : Trace) : Type 0 where
@@ -119,27 +121,27 @@ pub record IsPastLast (blocks : List (List ℕ)) (last : Moment) (end : End) (ne
 pub record IsTurned (v : View) (end : End) (old_input new_input old_out new_out : Trace) : Type 0 where
   pub blocks : List (List ℕ)
   pub last : Moment
-  pub turns : AreTurns blocks (record { view = v; waits = []; asks = false; input = old_input; out = old_out }) last
+  pub turns : AreTurns blocks (record { view = v; terminal = quiet_input; asks = false; input = old_input; out = old_out }) last
   pub ends : IsLastTurn last end new_input new_out ⊎ IsPastLast blocks last end new_input new_out
 
 -- Turns are made from here on, and then comes a fault.
 pub record IsBrokenOff (v : View) (e : Error) (old_input new_input old_out new_out : Trace) : Type 0 where
   pub blocks : List (List ℕ)
   pub last : Moment
-  pub turns : AreTurns blocks (record { view = v; waits = []; asks = false; input = old_input; out = old_out }) last
+  pub turns : AreTurns blocks (record { view = v; terminal = quiet_input; asks = false; input = old_input; out = old_out }) last
   pub fault : IsFaultyTurn last e new_input new_out
 
--- The text is paged from its start on, and what is printable of its name is shown. It ends so.
+-- The text is paged from its start on, or from the row of the sheet on, and what is printable of its name is shown. It ends so.
 pub record IsPaged (sheet : Sheet) (end : End) (old_input new_input old_out new_out : Trace) : Type 0 where
   pub start : View
   pub is : IsOpened sheet.skin.now (name_row sheet.name.now) (sheet_said sheet) sheet.columns sheet.rows sheet.files start
-  pub turned : IsTurned start end old_input new_input old_out new_out
+  pub turned : IsTurned (begun sheet.start start) end old_input new_input old_out new_out
 
 -- The same up to a fault.
 pub record IsPagedSoFar (sheet : Sheet) (e : Error) (old_input new_input old_out new_out : Trace) : Type 0 where
   pub start : View
   pub is : IsOpened sheet.skin.now (name_row sheet.name.now) (sheet_said sheet) sheet.columns sheet.rows sheet.files start
-  pub turned : IsBrokenOff start e old_input new_input old_out new_out
+  pub turned : IsBrokenOff (begun sheet.start start) e old_input new_input old_out new_out
 
 -- nothing was read or drawn, since there was no memory
 pub record IsUnbegun (e : Error) (old_input new_input old_out new_out : Trace) : Type 0 where

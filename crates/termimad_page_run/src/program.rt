@@ -1,14 +1,14 @@
 //! A run: keys are read, and after each block of them the screen is drawn anew.
 
 ghost use Rattle.std.specs.Prelude.{◌≡◌, IfOk, IfErr, OnOk, MatchResult, List, ℕ, None, Some, string_bytes};
-ghost use Rattle.mad_pager.specs.Pagers.{view_of, IsOrderlyView};
+ghost use Rattle.mad_pager.specs.Pagers.{begun, view_of, IsOrderlyView};
 ghost use Rattle.mad_pager.specs.Sessions.{asks_size, end_of};
 ghost use Rattle.mad_outline.specs.Sources.{text_said};
 ghost use Rattle.termimad_page_run.specs.Runs.{moment, name_row, row_char, sheet_said, IsBrokenOff, IsBrokenRun, IsFaultyTurn, IsLastTurn, IsPaged, IsTurn, IsTurned};
 
 use crate::blocks::apply_block;
 use mad_dressing::dressings_of;
-use mad_keys::Keys;
+use mad_input::TerminalInput;
 use mad_measure::printable;
 use mad_page_skin::PageSkin;
 use mad_pager::{End, Files, Pager, Turn};
@@ -45,12 +45,18 @@ pub struct Sheet<'s> {
     pub columns: u16,
     /// Its rows.
     pub rows: u16,
+    /// The number of the text's row that is on top at first, counted from 1; 0 for its start. One that is past the text's last row is that row.
+    pub start: usize,
     /// Which files there are beside that of the text.
     pub files: Files,
 }
 
-/// Pages a text: draws its start, then reads blocks of keys, does what they say and draws the screen anew after each, until a key ends it
-/// or the input does. It answers how it ended: by the keys for another file that one is to be shown, and else nothing more.
+/// Pages a text: draws its start, then reads blocks of bytes from the terminal, does what they say and draws the screen anew after each, until a key
+/// ends it or the input does. It answers how it ended: by the keys for another file that one is to be shown, by those for the file as it is now or an
+/// editor with the number of the row on top, and else that nothing more is to be shown.
+///
+/// A size that the terminal tells counts where it was asked for, once for each question. Where the terminal says that it is ready, by `ESC [ 0 n`, it
+/// is asked. What is pasted goes into a search that is typed, or else nowhere.
 ///
 /// What is printable of the name and of the text is shown, made steady; of Markdown that people write, of what it is read as. A block that fills
 /// the room for it whole is no pause.
@@ -115,6 +121,7 @@ fn page<I: Source, O: Out>(
         sheet.rows,
         sheet.files,
     )?;
+    pager.begin_at(sheet.start);
     turn_pages(alloc, &mut pager, input, out)
 }
 
@@ -129,10 +136,10 @@ fn turn_pages<I: Source, O: Out>(
     ensures { MatchResult result (λ end. IsTurned (view_of pager.old) end (I.seen input.old) (I.seen input.new) (O.seen out.old) (O.seen out.new))
         (λ e. IsBrokenOff (view_of pager.old) e (I.seen input.old) (I.seen input.new) (O.seen out.old) (O.seen out.new)) }
 {
-    let mut keys = Keys::new();
+    let mut terminal = TerminalInput::new();
     let mut asks = false;
     for _turn in 0..u64::MAX {
-        let turn = turn_page(alloc, pager, &mut keys, asks, input, out)?;
+        let turn = turn_page(alloc, pager, &mut terminal, asks, input, out)?;
         if let Some(end) = turn.end() {
             return Ok(end);
         }
@@ -141,30 +148,31 @@ fn turn_pages<I: Source, O: Out>(
     Ok(End::Quits)
 }
 
-// Draws the screen, reads a block of keys and does what it says.
+// Draws the screen, reads a block of bytes and does what it says. The answer to a question for the size counts.
 fn turn_page<I: Source, O: Out>(
     alloc: Global,
     pager: &mut Pager,
-    keys: &mut Keys,
+    terminal: &mut TerminalInput,
     asks: bool,
     input: &mut I,
     out: &mut O,
 ) -> Result<Turn, Error>
     requires { IsOrderlyView (view_of pager.now) }
     ensures goes { IfOk result (λ turn. end_of turn ≡ None → (block : List ℕ) × IsTurn block
-        (moment pager.old keys.old asks (I.seen input.old) (O.seen out.old)) (moment pager.new keys.new (asks_size turn) (I.seen input.new) (O.seen out.new))) }
+        (moment pager.old terminal.old asks (I.seen input.old) (O.seen out.old)) (moment pager.new terminal.new (asks_size turn) (I.seen input.new) (O.seen out.new))) }
     ensures ends { IfOk result (λ turn. (end : End) → end_of turn ≡ Some end
-        → IsLastTurn (moment pager.old keys.old asks (I.seen input.old) (O.seen out.old)) end (I.seen input.new) (O.seen out.new)) }
+        → IsLastTurn (moment pager.old terminal.old asks (I.seen input.old) (O.seen out.old)) end (I.seen input.new) (O.seen out.new)) }
     ensures fault { IfErr result (λ e.
-        IsFaultyTurn (moment pager.old keys.old asks (I.seen input.old) (O.seen out.old)) e (I.seen input.new) (O.seen out.new)) }
+        IsFaultyTurn (moment pager.old terminal.old asks (I.seen input.old) (O.seen out.old)) e (I.seen input.new) (O.seen out.new)) }
 {
     pager.show(alloc, out, asks)?;
+    terminal.await_size(asks);
     let mut block = [0; BLOCK];
     let count = input.fill(&mut block)?;
     if count == 0 {
         return Ok(Turn::Ends(End::Quits));
     }
-    let turn = apply_block(alloc, pager, keys, &block[..count], count < BLOCK)?;
+    let turn = apply_block(alloc, pager, terminal, &block[..count], count < BLOCK)?;
     Ok(turn)
 }
 

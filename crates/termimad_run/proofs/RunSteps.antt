@@ -8,7 +8,7 @@ use Rattle.mad_term.specs.declared.errors.Error.TheVariants.{IO, InsufficientWid
 use Rattle.mad_page_skin.specs.declared.page_skin.PageSkin.{PageSkin}
 use Rattle.mad_stream.specs.declared.SourceError.{SourceError}
 use Rattle.termimad_run.specs.declared.call.Command.{Command}
-use Rattle.termimad_run.specs.declared.call.Command.TheVariants.{InArea, AtWidth, AsMarkdown, AsCode, AsItComes, MarkdownAsItComes, Live, Inline}
+use Rattle.termimad_run.specs.declared.call.Command.TheVariants.{InArea, AtWidth, AsMarkdown, AsCode, AsItComes, MarkdownAsItComes, Live, LiveMarkdown, Inline}
 use Rattle.mad_term.proofs.Traces.{took_flushed}
 use Rattle.mad_layout.specs.Headline.{AreShownAcross}
 use Rattle.mad_layout.specs.RowSkins.{row_skin}
@@ -30,6 +30,7 @@ allowed (name ∷ words) (AsCode language width) word h = tt
 allowed (name ∷ words) (AsItComes width) word h = tt
 allowed (name ∷ words) (MarkdownAsItComes width) word h = tt
 allowed (name ∷ words) (Live width height) word h = tt
+allowed (name ∷ words) (LiveMarkdown width height) word h = tt
 allowed (name ∷ words) Inline word h = tt
 allowed _ _ word h = absurd h.1
 
@@ -115,6 +116,7 @@ still_shown skin (AsCode language width) text old written new h is = tt
 still_shown skin (AsItComes width) text old written new h is = tt
 still_shown skin (MarkdownAsItComes width) text old written new h is = tt
 still_shown skin (Live width height) text old written new h is = tt
+still_shown skin (LiveMarkdown width height) text old written new h is = tt
 still_shown skin Inline text old written new h is = tt
 
 -- a command that is that one

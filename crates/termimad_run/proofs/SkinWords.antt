@@ -3,7 +3,7 @@ use Rattle.std.proofs.Common.{◌≡◌, ◌≢◌, ℕ, Bool, true, false, List
 use Rattle.mad_layout.specs.declared.MadSkin.{MadSkin}
 use Rattle.mad_page_skin.specs.declared.page_skin.PageSkin.{PageSkin}
 use Rattle.termimad_run.specs.declared.call.Command.{Command}
-use Rattle.termimad_run.specs.declared.call.Command.TheVariants.{InArea, AtWidth, AsMarkdown, AsCode, AsItComes, MarkdownAsItComes, Live, Inline}
+use Rattle.termimad_run.specs.declared.call.Command.TheVariants.{InArea, AtWidth, AsMarkdown, AsCode, AsItComes, MarkdownAsItComes, Live, LiveMarkdown, Inline}
 use Rattle.termimad_words.specs.declared.failure.Failure.{Failure}
 use Rattle.termimad_words.specs.declared.failure.Failure.TheVariants.{Io, Usage, NotUtf8, Skin, Memory}
 use Rattle.mad_term.specs.Trace.{Trace}
@@ -91,6 +91,23 @@ asked_once (name ∷ words) Inline (AsCode u v) a b h k = absurd (let e : 105 �
 asked_once (name ∷ words) (AsCode u v) Inline a b h k = absurd (let e : 99 ≡ 105 = first_byte 99 105 name _ _ h.0 k.0 in omega (arith, e))
 asked_once (name ∷ l ∷ w ∷ rest) (AsCode u v) (AsCode x y) a b h k = (one_word rest a b h.1.1.1 k.1.1.1, refl)
 asked_once (name ∷ l ∷ []) (AsCode u v) (AsCode x y) a b h k = absurd h.1.1
+asked_once (name ∷ words) (InArea x) (LiveMarkdown i j) a b h k = absurd (let e : 97 ≡ 108 = first_byte 97 108 name _ _ h.0 k.0 in omega (arith, e))
+asked_once (name ∷ words) (LiveMarkdown i j) (InArea y) a b h k = absurd (let e : 108 ≡ 97 = first_byte 108 97 name _ _ h.0 k.0 in omega (arith, e))
+asked_once (name ∷ words) (AtWidth n) (LiveMarkdown i j) a b h k = absurd (let e : 116 ≡ 108 = first_byte 116 108 name _ _ h.0 k.0 in omega (arith, e))
+asked_once (name ∷ words) (LiveMarkdown i j) (AtWidth m) a b h k = absurd (let e : 108 ≡ 116 = first_byte 108 116 name _ _ h.0 k.0 in omega (arith, e))
+asked_once (name ∷ words) (AsMarkdown n) (LiveMarkdown i j) a b h k = absurd (let e : 109 ≡ 108 = first_byte 109 108 name _ _ h.0 k.0 in omega (arith, e))
+asked_once (name ∷ words) (LiveMarkdown i j) (AsMarkdown m) a b h k = absurd (let e : 108 ≡ 109 = first_byte 108 109 name _ _ h.0 k.0 in omega (arith, e))
+asked_once (name ∷ words) (AsCode u v) (LiveMarkdown i j) a b h k = absurd (let e : 99 ≡ 108 = first_byte 99 108 name _ _ h.0 k.0 in omega (arith, e))
+asked_once (name ∷ words) (LiveMarkdown i j) (AsCode u v) a b h k = absurd (let e : 108 ≡ 99 = first_byte 108 99 name _ _ h.0 k.0 in omega (arith, e))
+asked_once (name ∷ words) (AsItComes n) (LiveMarkdown i j) a b h k = absurd (let e : 115 ≡ 108 = first_byte 115 108 name _ _ h.0 k.0 in omega (arith, e))
+asked_once (name ∷ words) (LiveMarkdown i j) (AsItComes m) a b h k = absurd (let e : 108 ≡ 115 = first_byte 108 115 name _ _ h.0 k.0 in omega (arith, e))
+asked_once (name ∷ words) (MarkdownAsItComes n) (LiveMarkdown i j) a b h k = absurd (let e : 109 ≡ 108 = first_byte 109 108 name _ _ h.0 k.0 in omega (arith, e))
+asked_once (name ∷ words) (LiveMarkdown i j) (MarkdownAsItComes m) a b h k = absurd (let e : 108 ≡ 109 = first_byte 108 109 name _ _ h.0 k.0 in omega (arith, e))
+asked_once (name ∷ words) Inline (LiveMarkdown i j) a b h k = absurd (let e : 105 ≡ 108 = first_byte 105 108 name _ _ h.0 k.0 in omega (arith, e))
+asked_once (name ∷ words) (LiveMarkdown i j) Inline a b h k = absurd (let e : 108 ≡ 105 = first_byte 108 105 name _ _ h.0 k.0 in omega (arith, e))
+asked_once (name ∷ words) (Live n x) (LiveMarkdown i j) a b h k = absurd (let e : 4 ≡ 13 = ap length (sym h.0 ∙ k.0) in omega (arith, e))
+asked_once (name ∷ words) (LiveMarkdown i j) (Live m y) a b h k = absurd (let e : 13 ≡ 4 = ap length (sym h.0 ∙ k.0) in omega (arith, e))
+asked_once (name ∷ w ∷ t ∷ rest) (LiveMarkdown n x) (LiveMarkdown m y) a b h k = (one_word rest a b h.1.2 k.1.2, refl)
 asked_once _ _ _ a b h k = absurd h.1
 
 known_skin : (is_page : Bool) (word : Option (List ℕ)) (given : PageSkin × List (List ℕ)) → skin_shown is_page word ≡ Some given → skin_shown is_page word ≡ None → ⊥

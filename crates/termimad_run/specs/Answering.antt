@@ -20,13 +20,14 @@ help_text =
     ++ (codes "termimad-view inline [SKIN]             the same, as one line with its marks\n"
     ++ (codes "termimad-view area L T W H [SKIN]       the same, in an area of the screen\n"
     ++ (codes "termimad-view markdown-stream W [SKIN]  what markdown writes, as the text comes\n"
+    ++ (codes "termimad-view live-markdown W H [SKIN]  the same in H rows, redrawn in place\n"
     ++ (codes "termimad-view stream W [SKIN]           what text writes, as the text comes\n"
     ++ (codes "termimad-view live W H [SKIN]           the same in H rows, redrawn in place\n"
     ++ (codes "termimad-view -h, --help                this page\n"
     ++ (codes "termimad-view -V, --version             the version\n"
     ++ (codes "\n"
     ++ (codes "SKIN is default, dark, light, or JSON text as {\"bold\":\"red\"}; of Markdown and\n"
-    ++ codes "of code it is sixteen and none too. Without it no style is written.\n")))))))))))))
+    ++ codes "of code it is sixteen and none too. Without it no style is written.\n"))))))))))))))
 
 -- the word asks for help
 abbrev pub asks_help : List ℕ → Bool

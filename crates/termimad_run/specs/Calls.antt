@@ -4,9 +4,9 @@ use Rattle.mad_measure.specs.Areas.{IsWithinLimits}
 use Rattle.mad_measure.specs.declared.Area.{Area}
 use Rattle.mad_page_skin.specs.declared.page_skin.PageSkin.{PageSkin}
 use Rattle.termimad_run.specs.declared.call.Command.{Command}
-use Rattle.termimad_run.specs.declared.call.Command.TheVariants.{InArea, AtWidth, AsMarkdown, AsCode, AsItComes, MarkdownAsItComes, Live, Inline}
+use Rattle.termimad_run.specs.declared.call.Command.TheVariants.{InArea, AtWidth, AsMarkdown, AsCode, AsItComes, MarkdownAsItComes, Live, LiveMarkdown, Inline}
 use Rattle.termimad_run.specs.declared.call.Pieces.{Pieces}
-use Rattle.termimad_run.specs.declared.call.Pieces.TheVariants.{Stream as StreamPieces, Markdown as MarkdownPieces, Live as LivePieces}
+use Rattle.termimad_run.specs.declared.call.Pieces.TheVariants.{Stream as StreamPieces, Markdown as MarkdownPieces, Live as LivePieces, LiveMarkdown as LiveMarkdownPieces}
 use Rattle.termimad_words.specs.declared.failure.Failure.{Failure}
 use Rattle.termimad_words.specs.declared.failure.Failure.TheVariants.{Usage, Skin, Memory}
 use Rattle.termimad_run.specs.ShownSkins.{skin_shown, IsJsonShown}
@@ -42,12 +42,12 @@ abbrev pub AsksCode : List (List ℕ) → List ℕ → ℕ → Option (List ℕ)
 AsksCode [] language width word = ⊥
 AsksCode (given ∷ rest) language width word = (language ≡ given) × AsksWidth rest width word
 
--- the words after `live`: W H [SKIN]
+-- the words after `live` or `live-markdown`: W H [SKIN]
 abbrev pub AsksSize : List (List ℕ) → ℕ → ℕ → Option (List ℕ) → Type 0
 AsksSize (wide ∷ high ∷ rest) width height word = IsNumber wide width × IsNumber high height × IsSkinWord rest word
 AsksSize _ width height word = ⊥
 
--- The words ask for this: area L T W H [SKIN], text W [SKIN], markdown W [SKIN], code LANG W [SKIN], stream W [SKIN], markdown-stream W [SKIN], live W H [SKIN], or inline [SKIN].
+-- The words ask for this: area L T W H [SKIN], text W [SKIN], markdown W [SKIN], code LANG W [SKIN], stream W [SKIN], markdown-stream W [SKIN], live W H [SKIN], live-markdown W H [SKIN], or inline [SKIN].
 abbrev pub Asks : List (List ℕ) → Command → Option (List ℕ) → Type 0
 Asks [] command word = ⊥
 Asks (name ∷ words) (InArea area) word = (name ≡ codes "area") × AsksArea words area word
@@ -57,6 +57,7 @@ Asks (name ∷ words) (AsCode language width) word = (name ≡ codes "code") × 
 Asks (name ∷ words) (AsItComes width) word = (name ≡ codes "stream") × AsksWidth words width word
 Asks (name ∷ words) (MarkdownAsItComes width) word = (name ≡ codes "markdown-stream") × AsksWidth words width word
 Asks (name ∷ words) (Live width height) word = (name ≡ codes "live") × AsksSize words width height word
+Asks (name ∷ words) (LiveMarkdown width height) word = (name ≡ codes "live-markdown") × AsksSize words width height word
 Asks (name ∷ words) Inline word = (name ≡ codes "inline") × IsSkinWord words word
 
 -- the command's area has four columns at least, and lies within the limits of a screen
@@ -68,6 +69,7 @@ IsAllowed (AsCode language width) = ⊤
 IsAllowed (AsItComes width) = ⊤
 IsAllowed (MarkdownAsItComes width) = ⊤
 IsAllowed (Live width height) = ⊤
+IsAllowed (LiveMarkdown width height) = ⊤
 IsAllowed Inline = ⊤
 
 -- the command wants the text whole: nothing is written before all of it was read
@@ -75,6 +77,7 @@ abbrev pub IsWhole : Command → Type 0
 IsWhole (AsItComes width) = ⊥
 IsWhole (MarkdownAsItComes width) = ⊥
 IsWhole (Live width height) = ⊥
+IsWhole (LiveMarkdown width height) = ⊥
 IsWhole _ = ⊤
 
 -- the command shows a page: of Markdown as people write it, or of code
@@ -82,6 +85,7 @@ abbrev pub shows_page : Command → Bool
 shows_page (AsMarkdown width) = true
 shows_page (AsCode language width) = true
 shows_page (MarkdownAsItComes width) = true
+shows_page (LiveMarkdown width height) = true
 shows_page _ = false
 
 -- the command that writes a text as it comes
@@ -89,6 +93,7 @@ abbrev pub command_of_pieces : Pieces → Command
 command_of_pieces (StreamPieces width) = AsItComes width
 command_of_pieces (MarkdownPieces width) = MarkdownAsItComes width
 command_of_pieces (LivePieces width height) = Live width height
+command_of_pieces (LiveMarkdownPieces width height) = LiveMarkdown width height
 
 -- the words ask for nothing that the program does
 abbrev pub IsNoCall : List (List ℕ) → Type 0

@@ -10,6 +10,7 @@ use Rattle.mad_layout.specs.InArea.{WritesInArea, ShowsText}
 use Rattle.mad_layout.specs.Inlines.{inline_bytes}
 use Rattle.markdown_reader.specs.Markdown.{markdown_sections}
 use Rattle.markdown_stream.specs.Sources.{StreamsMarkdown}
+use Rattle.markdown_live.specs.Sources.{ShowsSource as ShowsMarkdownSource}
 use Rattle.mad_layout.specs.RowSkins.{row_skin}
 use Rattle.mad_stream.specs.LiveSources.{ShowsSource}
 use Rattle.mad_stream.specs.Sources.{StreamsSource}
@@ -20,7 +21,7 @@ use Rattle.mad_layout.specs.declared.MadSkin.{MadSkin}
 use Rattle.mad_page_skin.specs.declared.page_skin.PageSkin.{PageSkin}
 use Rattle.mad_stream.specs.declared.SourceError.{SourceError}
 use Rattle.termimad_run.specs.declared.call.Command.{Command}
-use Rattle.termimad_run.specs.declared.call.Command.TheVariants.{InArea, AtWidth, AsMarkdown, AsCode, AsItComes, MarkdownAsItComes, Live, Inline}
+use Rattle.termimad_run.specs.declared.call.Command.TheVariants.{InArea, AtWidth, AsMarkdown, AsCode, AsItComes, MarkdownAsItComes, Live, LiveMarkdown, Inline}
 use Rattle.termimad_words.specs.declared.failure.Failure.{Failure}
 use Rattle.termimad_words.specs.declared.failure.Failure.TheVariants.{Io, Usage, NotUtf8, Skin, Memory}
 use Rattle.termimad_run.specs.Calls.{IsCall, IsWhole, IsNoCall, AsksRefusedSkin, AsksJson, RefusesWords}
@@ -68,6 +69,7 @@ WritesCall skin (AsCode language width) text old r new = WritesDressed skin (Som
 WritesCall skin (AsItComes width) text old r new = WritesParts (row_skin skin.text) (Some width) text old r new
 WritesCall skin (MarkdownAsItComes width) text old r new = WritesDressed skin (Some width) (markdown_sections text) old r new
 WritesCall skin (Live width height) text old r new = WritesParts (row_skin skin.text) (Some width) text old r new
+WritesCall skin (LiveMarkdown width height) text old r new = WritesDressed skin (Some width) (markdown_sections text) old r new
 WritesCall skin Inline text old r new = (line : List ℕ) × IsWithoutLineEnd text line × WritesLine skin.text line old r new
 
 -- What a plain terminal shows that reads what was written. It is the first rows of the text in its area, by its characters and by a
@@ -81,6 +83,7 @@ ShowsCall skin (AsCode language width) text old new = ⊤
 ShowsCall skin (AsItComes width) text old new = ⊤
 ShowsCall skin (MarkdownAsItComes width) text old new = ⊤
 ShowsCall skin (Live width height) text old new = ⊤
+ShowsCall skin (LiveMarkdown width height) text old new = ⊤
 ShowsCall skin Inline text old new = ⊤
 
 -- The input was read whole and is a text.
@@ -142,11 +145,12 @@ RunsWhole words old (Err Io) new = FailsToRead words old Io new ⊎ (FailsToWrit
 RunsWhole words old (Err Memory) new = (AsksJson words × (new ≡ old)) ⊎ (FailsToRead words old Memory new ⊎ FailsToWrite words old Memory new)
 
 -- What a command reads, and what goes out, that writes a text as it comes: `stream` writes the rows of its parts, `markdown-stream` those of the parts of
--- Markdown as people write it, and `live` shows it on a terminal that scrolls. No other does.
+-- Markdown as people write it. `live` shows it on a terminal that scrolls, and `live-markdown` shows Markdown there. No other does.
 abbrev pub ComesAs : {T : Type 0} → PageSkin → Command → Trace → Trace → Result T SourceError → Trace → Trace → Type 0
 ComesAs skin (AsItComes width) input out r input_now out_now = StreamsSource (row_skin skin.text) (Some width) input out r input_now out_now
 ComesAs skin (MarkdownAsItComes width) input out r input_now out_now = StreamsMarkdown skin (Some width) input out r input_now out_now
 ComesAs skin (Live width height) input out r input_now out_now = ShowsSource (row_skin skin.text) (Some width) height input out r input_now out_now
+ComesAs skin (LiveMarkdown width height) input out r input_now out_now = ShowsMarkdownSource skin (Some width) height input out r input_now out_now
 ComesAs skin command input out r input_now out_now = ⊥
 
 -- A run that writes its text as it comes: what it has read, and what went out.

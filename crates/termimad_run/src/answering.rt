@@ -94,6 +94,7 @@ termimad-view text W [SKIN]             the smaller grammar, line by line
 termimad-view inline [SKIN]             the same, as one line with its marks
 termimad-view area L T W H [SKIN]       the same, in an area of the screen
 termimad-view markdown-stream W [SKIN]  what markdown writes, as the text comes
+termimad-view live-markdown W H [SKIN]  the same in H rows, redrawn in place
 termimad-view stream W [SKIN]           what text writes, as the text comes
 termimad-view live W H [SKIN]           the same in H rows, redrawn in place
 termimad-view -h, --help                this page

@@ -31,6 +31,8 @@ pub enum Command<'w> {
     /// `live W H`: the text on a terminal that scrolls, laid out at that width, in columns, on a screen that has so many rows. It is shown
     /// as it comes, and what may change is redrawn in place.
     Live(u16, u16),
+    /// `live-markdown W H`: the same of the text, read as people write Markdown.
+    LiveMarkdown(u16, u16),
     /// `inline`: the text, as one line.
     Inline,
 }
@@ -47,7 +49,7 @@ pub struct Call<'w> {
 }
 
 /// The call that the words after the program's name are: `area L T W H [SKIN]`, `text W [SKIN]`, `markdown W [SKIN]`,
-/// `code LANG W [SKIN]`, `stream W [SKIN]`, `markdown-stream W [SKIN]`, `live W H [SKIN]` or `inline [SKIN]`.
+/// `code LANG W [SKIN]`, `stream W [SKIN]`, `markdown-stream W [SKIN]`, `live W H [SKIN]`, `live-markdown W H [SKIN]` or `inline [SKIN]`.
 ///
 /// # Errors
 ///
@@ -71,7 +73,10 @@ fn shows_page(command: &Command) -> bool
 {
     matches!(
         command,
-        Command::AsMarkdown(_) | Command::AsCode(_, _) | Command::MarkdownAsItComes(_)
+        Command::AsMarkdown(_)
+            | Command::AsCode(_, _)
+            | Command::MarkdownAsItComes(_)
+            | Command::LiveMarkdown(_, _)
     )
 }
 
@@ -109,6 +114,10 @@ fn parse_words(words: &[String]) -> Option<(Command<'_>, Option<&str>)>
         "live" => {
             let (width, height, word) = parse_live_call(words)?;
             Some((Command::Live(width, height), word))
+        }
+        "live-markdown" => {
+            let (width, height, word) = parse_live_call(words)?;
+            Some((Command::LiveMarkdown(width, height), word))
         }
         "inline" => Some((Command::Inline, skin_word(words)?)),
         _ => None,
@@ -151,7 +160,7 @@ fn parse_text_call(words: &[String]) -> Option<(u16, Option<&str>)>
     Some((width, skin_word(rest)?))
 }
 
-// What the words after `live` ask for.
+// What the words after `live` or `live-markdown` ask for.
 fn parse_live_call(words: &[String]) -> Option<(u16, u16, Option<&str>)>
     ensures { MatchOption result ((width height : ℕ) (word : Option (List ℕ)) → ¬ (AsksSize (map string_bytes words.now) width height word))
         (λ asked. AsksSize (map string_bytes words.now) asked.0 asked.1 (option_map (λ word. word.now) asked.2)) }
@@ -202,6 +211,8 @@ pub(crate) enum Pieces {
     Markdown(usize),
     /// It is shown on a terminal that scrolls, on a screen that has so many rows.
     Live(usize, usize),
+    /// The same, read as people write Markdown.
+    LiveMarkdown(usize, usize),
 }
 
 /// How a command writes a text as it comes; none, where it wants it whole.
@@ -213,6 +224,9 @@ pub(crate) fn pieces_of(command: &Command) -> Option<Pieces>
         Command::MarkdownAsItComes(width) => Some(Pieces::Markdown(usize::from(*width))),
         Command::Live(width, height) => {
             Some(Pieces::Live(usize::from(*width), usize::from(*height)))
+        }
+        Command::LiveMarkdown(width, height) => {
+            Some(Pieces::LiveMarkdown(usize::from(*width), usize::from(*height)))
         }
         Command::InArea(_)
         | Command::AtWidth(_)

@@ -16,7 +16,7 @@ use termimad_words::{Failure, refuse};
 /// Runs the program on its arguments, without its own name, and answers its status.
 ///
 /// The arguments are checked first, then the skin, whose unknown keys are said on `err`. Then the input is read whole
-/// and decoded, and then the output is written and flushed; `stream` and `live` write and flush as the input comes. A failure is said on
+/// and decoded, and then the output is written and flushed; those of text that comes write and flush as it does. A failure is said on
 /// `err`, in one line; a fault of `err` changes no status. Statuses are 0, and of a failure 1 to 5.
 pub fn run<I: Source, O: Out, E: Out>(
     alloc: Global,

@@ -12,6 +12,7 @@ use mad_stream::{SourceError, show_source_on, write_source_on};
 use mad_term::{Error, Out, Source, put_all};
 use markdown_code::write_code_on;
 use markdown_layout::write_markdown_on;
+use markdown_live::show_markdown_source_on;
 use markdown_stream::write_markdown_source_on;
 use std::alloc::Global;
 
@@ -41,7 +42,9 @@ pub fn write_call<O: Out>(
             skin.text
                 .write_parts_on(alloc, out, text, Some(usize::from(*width)))
         }
-        Command::AsMarkdown(width) | Command::MarkdownAsItComes(width) => {
+        Command::AsMarkdown(width)
+        | Command::MarkdownAsItComes(width)
+        | Command::LiveMarkdown(width, _) => {
             write_markdown_on(alloc, out, skin, text, Some(usize::from(*width)))
         }
         Command::AsCode(language, width) => {
@@ -68,6 +71,9 @@ pub(crate) fn write_as_it_comes<I: Source, O: Out>(
         }
         Pieces::Live(width, height) => {
             show_source_on(alloc, input, out, &skin.text, Some(width), height)
+        }
+        Pieces::LiveMarkdown(width, height) => {
+            show_markdown_source_on(alloc, input, out, skin, Some(width), height)
         }
     }
 }

@@ -12,7 +12,8 @@ use termimad_page_run::{End, Files, Grammar, Sheet, plain_skin, run};
 const SIZE_QUESTION: &[u8] = b"\x1b[999;999H\x1b[6n";
 
 /// What a session shows. The call has the columns and rows of the screen, and the name, after the word `markdown` where the text is read as
-/// people write Markdown. Before the columns stands what files there are beside it, if there are some: `first`, `between` or `last`. With the word
+/// people write Markdown. Before the columns stands what files there are beside it, if there are some: `first`, `between` or `last`, and after that `+N`,
+/// where the row of this number is on top at first. With the word
 /// `plain` before these the skin has no style; with `dark`, `light`, `sixteen` or `none` it is that of a page. With `pens` before that each picture is
 /// shown once more as letters of its pens. The text comes first, then a line `==`, and a block a line.
 pub fn shown(alloc: Global, call: &str, text: &str) -> Result<String, AllocError> {
@@ -28,6 +29,7 @@ pub fn shown(alloc: Global, call: &str, text: &str) -> Result<String, AllocError
     // As the program has it: words of Markdown stay whole.
     skin.text.whole_words = grammar == Grammar::Markdown;
     let (files, call) = files_in(call);
+    let (start, call) = start_in(call);
     let mut words = call.splitn(3, ' ');
     let columns = number(words.next());
     let rows = number(words.next());
@@ -43,6 +45,7 @@ pub fn shown(alloc: Global, call: &str, text: &str) -> Result<String, AllocError
         columns,
         rows,
         files,
+        start,
     };
     let mut out = Pictures::new(alloc);
     let ended = run(alloc, &sheet, &mut Blocks::new(blocks), &mut out);
@@ -54,7 +57,7 @@ pub fn shown(alloc: Global, call: &str, text: &str) -> Result<String, AllocError
     };
     push_pictures(&mut answer, setting, &out)?;
     match ended {
-        Ok(end) => answer.push_str(end_line(end))?,
+        Ok(end) => push_end(&mut answer, end)?,
         Err(Error::Memory) => return Err(AllocError),
         Err(_) => answer.push_str("a fault\n")?,
     }
@@ -83,12 +86,23 @@ fn files_in(call: &str) -> (Files, &str) {
     }
 }
 
+// Which row a call says is on top at first, as `+12`, and the rest of it.
+fn start_in(call: &str) -> (usize, &str) {
+    let (word, rest) = call.split_once(' ').unwrap_or((call, ""));
+    match word.strip_prefix('+') {
+        Some(row) => (row.parse().unwrap_or(0), rest),
+        None => (0, call),
+    }
+}
+
 // How a session ended, in a line.
-fn end_line(end: End) -> &'static str {
+fn push_end(answer: &mut String, end: End) -> Result<(), AllocError> {
     match end {
-        End::Quits => "ended\n",
-        End::NextFile => "ended for the next file\n",
-        End::PreviousFile => "ended for the file before\n",
+        End::Quits => answer.push_str("ended\n"),
+        End::NextFile => answer.push_str("ended for the next file\n"),
+        End::PreviousFile => answer.push_str("ended for the file before\n"),
+        End::Reload(row) => write!(answer, "ended for the file as it is, at row {row}\n"),
+        End::Edit(row) => write!(answer, "ended for an editor at row {row}\n"),
     }
 }
 
@@ -136,6 +150,7 @@ struct Setting<'b> {
 fn push_pictures(answer: &mut String, setting: Setting, out: &Pictures) -> Result<(), AllocError> {
     let mut screen = Screen::new(*answer.allocator(), setting.size.0, setting.size.1)?;
     let mut blocks = setting.blocks.split('\n');
+    let mut asked: u32 = 0;
     for (index, picture) in out.each().iter().enumerate() {
         if index > 0 {
             let block = blocks.next().unwrap_or("");
@@ -143,9 +158,12 @@ fn push_pictures(answer: &mut String, setting: Setting, out: &Pictures) -> Resul
                 answer.push(sign_of(c))?;
             }
             answer.push('\n')?;
-            if let Some((columns, rows)) = size_told(block) {
+            if let Some((columns, rows)) = size_told(block, &mut asked) {
                 screen = Screen::new(*answer.allocator(), columns, rows)?;
             }
+        }
+        if picture.starts_with(SIZE_QUESTION) {
+            asked = asked.saturating_add(1);
         }
         push_picture(answer, &mut screen, picture.as_slice())?;
         if setting.pens {
@@ -176,18 +194,26 @@ fn push_picture(
     }
 }
 
-// The columns and rows that a block tells last, of a million cells at most, if it tells some.
-fn size_told(block: &str) -> Option<(u16, u16)> {
-    block.rsplit("\u{1b}[").find_map(size_in)
+// The columns and rows that a block tells last, of a million cells at most, if it tells some. Only so many answers count as were asked for.
+fn size_told(block: &str, asked: &mut u32) -> Option<(u16, u16)> {
+    let mut told = None;
+    for sequence in block.split("\u{1b}[") {
+        match size_in(sequence) {
+            Some(size) if *asked > 0 => {
+                *asked -= 1;
+                if u32::from(size.0) * u32::from(size.1) <= 1_000_000 {
+                    told = Some(size);
+                }
+            }
+            _ => {}
+        }
+    }
+    told
 }
 
 // The size that is told after `ESC [`, if one is.
 fn size_in(sequence: &str) -> Option<(u16, u16)> {
     let (size, _) = sequence.split_once('R')?;
     let (rows, columns) = size.split_once(';')?;
-    let size: (u16, u16) = (columns.parse().ok()?, rows.parse().ok()?);
-    if u32::from(size.0) * u32::from(size.1) > 1_000_000 {
-        return None;
-    }
-    Some(size)
+    Some((columns.parse().ok()?, rows.parse().ok()?))
 }

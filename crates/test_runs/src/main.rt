@@ -1,7 +1,8 @@
 //! Rows of runs of the program, over any devices.
 //!
 //! The call `run WORDS` runs the program on words with bars between them. It answers what goes out, the status, and what the program says.
-//! `run_in_twenty_bytes` does the same on a device with that room. [`runs`] has both, and devices and inputs that fail.
+//! `run_in_twenty_bytes` does the same on a device with that room. [`runs`] has both, and devices and inputs that fail. `comes STEP WORDS` does
+//! it on an input that comes in steps of so many bytes.
 #![tactic(auto)]
 
 mod runs;
@@ -22,6 +23,7 @@ impl Calls for RunCalls {
         match name {
             "run" => runs::run(alloc, runs::ROOM, words, text),
             "run_in_twenty_bytes" => runs::run(alloc, 20, words, text),
+            "comes" => runs::comes(alloc, words, text),
             "devices" => on_devices(alloc, words, text),
             _ => String::from_str(alloc, "no such call"),
         }

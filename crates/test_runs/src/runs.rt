@@ -9,8 +9,25 @@ use test_rows::devices::Writing;
 /// What the program writes to a device with this room, run on words with bars between them; then its status and what it says.
 /// The input `<ff>` is a byte that no text has.
 pub fn run(alloc: Global, room: usize, words: &str, text: &str) -> Result<String, AllocError> {
+    on_input(alloc, room, words, ScriptSource::new(input_of(text), false))
+}
+
+/// The same on an input that comes in steps of so many bytes: `STEP WORDS`.
+pub fn comes(alloc: Global, call: &str, text: &str) -> Result<String, AllocError> {
+    let (step, words) = call.split_once(' ').unwrap_or((call, ""));
+    let step = step.parse().unwrap_or(1);
+    let input = ScriptSource::in_steps(input_of(text), step, false);
+    on_input(alloc, ROOM, words, input)
+}
+
+fn on_input(
+    alloc: Global,
+    room: usize,
+    words: &str,
+    input: ScriptSource,
+) -> Result<String, AllocError> {
     let args = args_of(alloc, words)?;
-    let mut input = ScriptSource::new(input_of(text), false);
+    let mut input = input;
     let mut out = CutOut::new(alloc, room, room, false)?;
     let mut err = CutOut::new(alloc, ROOM, ROOM, false)?;
     let words = args.as_slice();
@@ -90,7 +107,7 @@ impl ProgramCall<'_> {
 }
 
 /// More bytes than the runs of these rows write.
-pub const ROOM: usize = 1000;
+pub const ROOM: usize = 2000;
 
 fn args_of(alloc: Global, words: &str) -> Result<Vec<String>, AllocError> {
     let mut args = Vec::new(alloc);

@@ -41,20 +41,41 @@ fn go_on_below<'t>(
     out: &mut CutOut,
     piece: &'t str,
 ) -> Result<&'t str, AllocError> {
-    let Some((size, rest)) = piece.strip_prefix('[').and_then(|s| s.split_once(']')) else {
+    let Some((width, height)) = size_in_front(piece) else {
         return Ok(piece);
     };
-    let (width, height) = size.split_once(' ').unwrap_or((size, ""));
-    let height = height.parse().unwrap_or(0);
-    let width = Some(width.parse().unwrap_or(0));
-    if live.go_on_below(asked.alloc, out, width, height).is_err() {
+    if live
+        .go_on_below(asked.alloc, out, Some(width), height)
+        .is_err()
+    {
         return Err(AllocError);
     }
     paper.resize(height);
-    Ok(rest)
+    Ok(behind_size(piece))
 }
 
-fn read(
+/// The size of another screen, where a piece begins with `[W H]`.
+pub fn size_in_front(piece: &str) -> Option<(usize, usize)> {
+    let Some((size, _)) = piece.strip_prefix('[').and_then(|s| s.split_once(']')) else {
+        return None;
+    };
+    let (width, height) = size.split_once(' ').unwrap_or((size, ""));
+    match (width.parse(), height.parse()) {
+        (Ok(width), Ok(height)) => Some((width, height)),
+        _ => None,
+    }
+}
+
+/// What comes behind such a size.
+pub fn behind_size(piece: &str) -> &str {
+    match piece.split_once(']') {
+        Some((_, rest)) => rest,
+        None => piece,
+    }
+}
+
+/// The terminal reads what went out, and its rows are told.
+pub fn read(
     asked: &Asked,
     paper: &mut Paper,
     out: &CutOut,

@@ -7,11 +7,13 @@
 //! 2. [`cuts`]: each cut of a text, devices that fail after each byte, and sources.
 //! 3. [`markdown`]: the same of Markdown as people write it.
 //! 4. [`paper`]: a terminal that scrolls. [`live`]: what it shows of texts that grow. [`live_faults`]: the same, of devices that fail.
+//!    [`live_markdown`]: of Markdown as people write it.
 #![tactic(auto)]
 
 mod cuts;
 mod live;
 mod live_faults;
+mod live_markdown;
 mod markdown;
 mod paper;
 mod pieces;
@@ -72,6 +74,7 @@ fn answer_asked(name: &str, asked: &Asked) -> Result<String, AllocError> {
         "markdown" => markdown::went_out(asked),
         "markdown_cuts" => markdown::at_each_byte(asked),
         "live" | "live_styled" => live::after_each(asked),
+        "live_markdown" => live_markdown::after_each(asked),
         "live_faults" => live_faults::gone_on_with(asked),
         "live_source" => live::source(asked),
         _ => String::from_str(asked.alloc, "no such call"),

@@ -9,7 +9,7 @@ _termimad() {
         case $word in
         -*)
             mapfile -t COMPREPLY < <(compgen -W \
-                "-w --width --skin --code --links --lines --plain --stream --no-pager -F -h --help -V --version" -- "$word")
+                "-w --width --skin --code --links --lines --plain --stream --live --no-pager -F -h --help -V --version" -- "$word")
             ;;
         *)
             compopt -o filenames

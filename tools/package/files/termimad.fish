@@ -6,6 +6,7 @@ complete -c termimad -l links -x -a 'auto always never' -d 'Write links that a t
 complete -c termimad -l lines -d 'Show each line by itself, in the smaller grammar'
 complete -c termimad -l plain -d "Show text that isn't Markdown, with its colors"
 complete -c termimad -l stream -d 'Write Markdown from a pipe as it comes'
+complete -c termimad -l live -d 'Show it so on a terminal, redrawn in place'
 complete -c termimad -l no-pager -d 'Write, and do not page'
 complete -c termimad -s F -d 'Do not page what fits on one screen'
 complete -c termimad -s h -l help -d 'Say the options'

@@ -11,6 +11,7 @@ _arguments -s \
     '--lines[show each line by itself, in the smaller grammar]' \
     "--plain[show text that isn't Markdown, with its colors]" \
     '--stream[write Markdown from a pipe as it comes]' \
+    '--live[show it so on a terminal, redrawn in place]' \
     '--no-pager[write, and do not page]' \
     '-F[do not page what fits on one screen]' \
     '(- *)'{-h,--help}'[say the options]' \

@@ -4,8 +4,8 @@
     Disks
     ══════════════════════════════
     <BLANKLINE>
-    • some words in a list
-    • a link
+    • some _words_ in a list
+    • [a link]
     >>> Markdown("> a quote\\n\\n- an item").rows(width=20)
     ['▌ a quote', '', '• an item']
     >>> print(table([{"disk": "/", "used": 7}, {"disk": "a|b", "used": 42}], width=40, aligns=[Align.LEFT, Align.RIGHT]), end="")
@@ -29,7 +29,8 @@
     table                  a table of lists, of dicts or of a CSV file
     Lines, text, area      a text of the small grammar: at a width, in an area of the screen
     inline, fit, rows      a line, a line that is cut, how many rows a text takes
-    text_of_pieces         the rows of a text as it comes
+    pieces, live           Markdown that comes in pieces: its rows as they are complete, and a `with` block that prints them
+    text_of_pieces         the same of a text of the small grammar
     printable              a text without what a terminal obeys
     background             the terminal's background, which it is asked for
     Refused                why a call answers nothing: WrongNumber, WrongSkin, NotUtf8, OutOfMemory
@@ -51,11 +52,11 @@ import os
 from typing import Iterable, Iterator, List, Mapping, Optional, Sequence, Union
 
 from ._calls import NotUtf8, OutOfMemory, Refused, Skin, Words, WrongNumber, WrongSkin, raw, result, row_count, rows_of_parts, skin_word, table_of_cells
-from ._pages import Code, Heading, Lines, Link, Markdown, background, code, columns_of, terminal_width
+from ._pages import Code, Heading, Lines, Link, Live, Markdown, background, code, columns_of, live, pieces, terminal_width
 
 __version__ = "0.3.0"
-__all__ = ["Align", "Code", "Heading", "Lines", "Link", "Markdown", "NotUtf8", "OutOfMemory", "Refused", "Skin", "Words", "WrongNumber", "WrongSkin", "area", "background", "code", "fit",
-    "inline", "markdown", "printable", "rows", "table", "terminal_width", "text", "text_of_pieces"]
+__all__ = ["Align", "Code", "Heading", "Lines", "Link", "Live", "Markdown", "NotUtf8", "OutOfMemory", "Refused", "Skin", "Words", "WrongNumber", "WrongSkin", "area", "background", "code", "fit",
+    "inline", "live", "markdown", "pieces", "printable", "rows", "table", "terminal_width", "text", "text_of_pieces"]
 
 Record = Union[Sequence[object], Mapping[str, object]]
 
@@ -84,7 +85,7 @@ def markdown(text: Words, width: Optional[int] = None, skin: Skin = "none") -> s
     """The text, read as people write Markdown and laid out in `width` columns, each row with a newline.
 
     >>> markdown("Two lines\\nof a [paragraph](there.md)", width=20)
-    'Two lines of a\\nparagraph\\n'
+    'Two lines of a\\n[paragraph]\\n'
     """
     return result("termimad_markdown", {"text": text, "skin": skin_word(skin)}, {"width": columns_of(width)})
 

@@ -66,12 +66,17 @@ class _Answer(ctypes.Structure):
     _fields_ = [("count", ctypes.c_size_t), ("status", ctypes.c_uint32)]
 
 
+class _Stream(ctypes.Structure):
+    _fields_ = [("text", ctypes.c_void_p)]
+
+
 class _Progress(ctypes.Structure):
     _fields_ = [("count", ctypes.c_size_t), ("used", ctypes.c_size_t), ("fenced", ctypes.c_uint32), ("status", ctypes.c_uint32)]
 
 
 _library = ctypes.CDLL(os.environ.get("TERMIMAD_LIBRARY", "libtermimad.so"))
 _BYTES = [ctypes.c_char_p, ctypes.c_size_t]
+_POINTER_TO_STREAM = ctypes.POINTER(_Stream)
 _PARAMETERS = {
     "termimad_area": _BYTES * 2 + [ctypes.c_size_t] * 4 + _BYTES,
     "termimad_text": _BYTES * 2 + [ctypes.c_size_t] + _BYTES,
@@ -80,15 +85,19 @@ _PARAMETERS = {
     "termimad_links": _BYTES * 2,
     "termimad_headings": _BYTES * 2,
     "termimad_parts": _BYTES * 2 + [ctypes.c_size_t] * 3 + _BYTES,
+    "termimad_stream_begin": [_POINTER_TO_STREAM, *_BYTES, ctypes.c_size_t],
+    "termimad_stream_take": [_POINTER_TO_STREAM, *_BYTES, ctypes.c_size_t, *_BYTES],
+    "termimad_stream_end": [_POINTER_TO_STREAM],
     "termimad_inline": _BYTES * 3,
     "termimad_rows": _BYTES * 2 + [ctypes.c_size_t],
     "termimad_fit": _BYTES * 2 + [ctypes.c_size_t] * 2 + _BYTES,
     "termimad_printable": _BYTES * 2,
     "termimad_table": _BYTES + [ctypes.POINTER(ctypes.c_size_t), ctypes.c_size_t] * 2 + _BYTES + [ctypes.c_size_t] * 2 + _BYTES,
 }
+_RESULTS: Dict[str, Any] = {"termimad_parts": _Progress, "termimad_stream_end": None}
 for _name, _parameters in _PARAMETERS.items():
     _call = getattr(_library, _name)
-    _call.argtypes, _call.restype = _parameters, _Progress if _name == "termimad_parts" else _Answer
+    _call.argtypes, _call.restype = _parameters, _RESULTS.get(_name, _Answer)
 
 
 def result(name: str, texts: Mapping[str, Words], numbers: Mapping[str, SupportsIndex]) -> str:
@@ -100,6 +109,39 @@ def rows_of_parts(left: bytes, skin: Skin, width: int, fenced: int, last: int) -
     """The rows of the complete parts of what is left, how many of its bytes they are of, and whether a fence is open then."""
     made, answer = _filled("termimad_parts", {"pieces": left, "skin": skin_word(skin)}, {"width": width, "fenced": fenced, "last": last})
     return made, answer.used, answer.fenced
+
+
+class Stream:
+    """A text of Markdown that comes in pieces, which the library keeps until it is closed."""
+
+    def __init__(self, width: SupportsIndex, skin: Skin) -> None:
+        self.is_open = False
+        self._kept = _Stream()
+        texts, numbers = _raw_texts({"skin": skin_word(skin)}), _sizes({"width": width})
+        _checked(_library.termimad_stream_begin(ctypes.byref(self._kept), *_handed(texts), *numbers.values()), texts, numbers)
+        self.is_open = True
+
+    def take(self, piece: bytes, is_last: bool = False) -> str:
+        """The rows that are complete with the next piece, or with the last one, and weren't before."""
+        if not self.is_open:
+            raise ValueError("a piece comes behind the end of its text")
+        rows, capacity, left = b"", _FIRST_CAPACITY, piece
+        while True:
+            buffer = ctypes.create_string_buffer(capacity)
+            answer = _checked(_library.termimad_stream_take(ctypes.byref(self._kept), left, len(left), int(is_last), buffer, capacity), {"a piece": piece}, {})
+            rows += buffer.raw[: min(answer.count, capacity)]
+            if answer.status == _DONE:
+                return rows.decode()
+            left, capacity = b"", answer.count - capacity
+
+    def close(self) -> None:
+        """Gives its memory back. There are no more rows."""
+        if self.is_open:
+            self.is_open = False
+            _library.termimad_stream_end(ctypes.byref(self._kept))
+
+    def __del__(self) -> None:
+        self.close()
 
 
 def lines_of(name: str, source: bytes) -> List[List[str]]:
@@ -170,7 +212,8 @@ def _checked(answer: Any, texts: Mapping[str, bytes], numbers: Mapping[str, int]
     if answer.status == _CONDITION:
         raise WrongNumber(_said_of(numbers))
     if answer.status == _NOT_UTF8:
-        raise NotUtf8(f"{' and '.join(name for name, text in texts.items() if not _is_utf8(text))} is not UTF-8.")
+        wrong = [name for name, text in texts.items() if not _is_utf8(text)] or [*texts]
+        raise NotUtf8(f"{' and '.join(wrong)} is not UTF-8.")
     if answer.status == _SKIN:
         raise WrongSkin(f"skin={texts['skin'].decode()!r} is no name of a skin, and no JSON text of one.")
     raise OutOfMemory("There was no memory for the result.")

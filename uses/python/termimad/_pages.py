@@ -7,9 +7,9 @@ import select
 import shutil
 import sys
 import time
-from typing import Any, Dict, Iterator, List, NamedTuple, Optional, TextIO
+from typing import Any, Dict, Iterable, Iterator, List, NamedTuple, Optional, TextIO, Union
 
-from ._calls import Skin, Words, lines_of, raw, result, skin_word
+from ._calls import Skin, Stream, Words, lines_of, raw, result, skin_word
 
 _WIDEST = 65535
 _SECONDS_TO_ANSWER = 1.0
@@ -121,8 +121,8 @@ class _Shown:
     def rows(self, width: Optional[int] = None, skin: Skin = "none") -> List[str]:
         """Its rows in `width` columns, by default those of the terminal. A style that begins in a row ends there.
 
-        >>> Markdown("1. one\\n2. two *words*").rows(width=8)
-        ['1. one', '2. two', '   words']
+        >>> Markdown("1. one\\n2. two *words*").rows(width=10)
+        ['1. one', '2. two', '   _words_']
         >>> Markdown("**a**").rows(width=8, skin="dark")
         ['\\x1b[1ma\\x1b[0m']
         """
@@ -175,15 +175,15 @@ class Markdown(_Shown):
 
     >>> page = Markdown("> *three* disks\\n\\n|disk|used|\\n|-|-:|\\n|/|7|")
     >>> print(page)
-    ▌ three disks
+    ▌ _three_ disks
     <BLANKLINE>
     ╭────┬────╮
     │disk│used│
     ├────┼────┤
     │/   │   7│
     ╰────┴────╯
-    >>> page.rows(width=8)[:2]
-    ['▌ three', '▌ disks']
+    >>> page.rows(width=9)[:2]
+    ['▌ _three_', '▌ disks']
 
     rich shows it too, in the width that it has there: `rich.print(rich.panel.Panel(page))`.
     """
@@ -260,3 +260,66 @@ def code(text: Words, language: str = "") -> Code:
     ['  let a = `b`;']
     """
     return Code(text, language)
+
+
+class Live:
+    """What `live` answers: a text of Markdown whose rows are printed as they are complete."""
+
+    def __init__(self, width: Optional[int], skin: Skin, file: Optional[TextIO]) -> None:
+        self._out = sys.stdout if file is None else file
+        self._stream = Stream(columns_of(width), skin_for(skin, self._out.isatty()))
+
+    def write(self, piece: Union[str, bytes]) -> None:
+        """Takes the next piece, cut anywhere, and prints the rows that are complete with it."""
+        self._print(raw(piece, "a piece"), False)
+
+    def __enter__(self) -> "Live":
+        return self
+
+    def __exit__(self, kind: object, fault: object, trace: object) -> None:
+        """At the end of the text the rest of its rows is printed. After an exception it isn't."""
+        try:
+            if kind is None:
+                self._print(b"", True)
+        finally:
+            self._stream.close()
+
+    def _print(self, piece: bytes, is_last: bool) -> None:
+        rows = self._stream.take(piece, is_last)
+        if rows:
+            print(rows, end="", file=self._out, flush=True)
+
+
+def live(width: Optional[int] = None, skin: Skin = "auto", file: Optional[TextIO] = None) -> Live:
+    """Prints Markdown as people write it that comes in pieces: the rows of each paragraph, heading, table or block of code as soon as it ends.
+
+    >>> with live(width=20) as out:
+    ...     for piece in ["# He", "ad\\n\\n* on", "e\\n* two"]:
+    ...         out.write(piece)
+    Head
+    ════════════════════
+    <BLANKLINE>
+    • one
+    • two
+
+    A link is told by a definition that came before it or with it. For the rest the rows are those that `Markdown(..).show()` prints of the whole.
+    """
+    return Live(width, skin, file)
+
+
+def pieces(source: Iterable[Union[str, bytes]], width: Optional[int] = None, skin: Skin = "none") -> Iterator[str]:
+    """The rows of Markdown as people write it that comes in pieces, each as soon as its paragraph, heading, table or block of code ends.
+
+    The pieces are `str` or `bytes`, cut anywhere: a list, a file that is open, what a model answers, or `iter(lambda: file.read1(4096), b"")`,
+    which waits for no more than there is.
+
+    >>> list(pieces(["> a qu", "ote\\n\\n- an ite", "m"], width=20))
+    ['▌ a quote', '', '• an item']
+    """
+    stream = Stream(columns_of(width), skin)
+    try:
+        for piece in source:
+            yield from stream.take(raw(piece, "a piece")).split("\n")[:-1]
+        yield from stream.take(b"", True).split("\n")[:-1]
+    finally:
+        stream.close()

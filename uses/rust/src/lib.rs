@@ -3,7 +3,8 @@
 //! A skin is `""` for no style, `default`, `dark` or `light`, or JSON text as `{"bold":"red"}`, which changes the default skin. For [`markdown`] and
 //! [`code`] it is that of a page: `none`, `sixteen` and the key `page` too.
 
-use std::{fmt, io};
+use std::ffi::c_void;
+use std::{fmt, io, ptr};
 
 #[repr(C)]
 #[derive(Clone, Copy)]
@@ -19,6 +20,12 @@ struct Progress {
     used: usize,
     fenced: u32,
     status: u32,
+}
+
+// A text in pieces, which the library keeps.
+#[repr(C)]
+struct Kept {
+    text: *mut c_void,
 }
 
 const DONE: u32 = 0;
@@ -89,6 +96,21 @@ extern "C" {
         buffer: *mut u8,
         capacity: usize,
     ) -> Progress;
+    fn termimad_stream_begin(
+        stream: *mut Kept,
+        skin: *const u8,
+        skin_length: usize,
+        width: usize,
+    ) -> Answer;
+    fn termimad_stream_take(
+        stream: *mut Kept,
+        text: *const u8,
+        text_length: usize,
+        last: usize,
+        buffer: *mut u8,
+        capacity: usize,
+    ) -> Answer;
+    fn termimad_stream_end(stream: *mut Kept);
     fn termimad_inline(
         text: *const u8,
         text_length: usize,
@@ -224,7 +246,7 @@ pub fn text(text: &str, width: usize, skin: &str) -> Result<String, Refused> {
 ///
 /// ```
 /// let rows = termimad_proved::markdown("Two lines\nof a [paragraph](x)", 20, "none");
-/// assert_eq!(rows.as_deref(), Ok("Two lines of a\nparagraph\n"));
+/// assert_eq!(rows.as_deref(), Ok("Two lines of a\n[paragraph]\n"));
 /// ```
 pub fn markdown(text: &str, width: usize, skin: &str) -> Result<String, Refused> {
     filled(|buffer| unsafe {
@@ -245,7 +267,7 @@ pub fn markdown(text: &str, width: usize, skin: &str) -> Result<String, Refused>
 /// ```
 /// # use termimad_proved::Page;
 /// let page = Page { text: "> a quote\n\n- *one*", width: 80, skin: "none" };
-/// assert_eq!(page.to_string(), "▌ a quote\n\n• one\n");
+/// assert_eq!(page.to_string(), "▌ a quote\n\n• _one_\n");
 /// ```
 #[derive(Clone, Copy, Debug)]
 pub struct Page<'t> {
@@ -385,6 +407,138 @@ fn read_block(reader: &mut impl io::Read, left: &mut Vec<u8>) -> io::Result<usiz
                 return Ok(count);
             }
         }
+    }
+}
+
+/// Markdown as people write it that comes in pieces: the rows of each leaf, as a paragraph or a table, as soon as it ends.
+///
+/// A link is told by a definition that came before it or with it. For the rest the rows are those of [`markdown`].
+///
+/// ```
+/// let mut stream = termimad_proved::MarkdownStream::new(20, "none").unwrap();
+/// assert_eq!(stream.take(b"> a qu").unwrap(), "");
+/// assert_eq!(stream.take(b"ote\n\n- an ite").unwrap(), "\u{258c} a quote\n");
+/// assert_eq!(stream.finish().unwrap(), "\n\u{2022} an item\n");
+/// ```
+pub struct MarkdownStream {
+    kept: Kept,
+}
+
+impl MarkdownStream {
+    /// A text of which nothing has come, to be laid out at a width, in columns.
+    pub fn new(width: usize, skin: &str) -> Result<MarkdownStream, Refused> {
+        let mut kept = Kept {
+            text: ptr::null_mut(),
+        };
+        let answer =
+            unsafe { termimad_stream_begin(&mut kept, skin.as_ptr(), skin.len(), width) };
+        match answer.status {
+            DONE => Ok(MarkdownStream { kept }),
+            status => Err(refusal(status)),
+        }
+    }
+
+    /// Takes the next piece, cut anywhere, also inside a character, and answers the rows that are complete with it.
+    ///
+    /// Bytes that aren't UTF-8 are an error of the kind `InvalidData`. Then nothing of the piece was taken.
+    pub fn take(&mut self, piece: &[u8]) -> io::Result<String> {
+        self.taken(piece, false)
+    }
+
+    /// The text is at its end: the rows that are left.
+    pub fn finish(mut self) -> io::Result<String> {
+        self.taken(b"", true)
+    }
+
+    fn taken(&mut self, piece: &[u8], is_last: bool) -> io::Result<String> {
+        let (mut piece, mut rows, mut buffer) = (piece, Vec::new(), vec![0; 4096]);
+        loop {
+            let answer = unsafe {
+                termimad_stream_take(
+                    &mut self.kept,
+                    piece.as_ptr(),
+                    piece.len(),
+                    is_last.into(),
+                    buffer.as_mut_ptr(),
+                    buffer.len(),
+                )
+            };
+            match answer.status {
+                DONE => {
+                    rows.extend_from_slice(&buffer[..answer.count]);
+                    return Ok(String::from_utf8(rows).expect("rows are UTF-8"));
+                }
+                SHORT => {
+                    rows.extend_from_slice(&buffer);
+                    buffer.resize(answer.count - buffer.len(), 0);
+                    piece = b"";
+                }
+                3 => return Err(io::ErrorKind::InvalidData.into()),
+                status => return Err(io::Error::other(refusal(status))),
+            }
+        }
+    }
+}
+
+impl Drop for MarkdownStream {
+    fn drop(&mut self) {
+        unsafe { termimad_stream_end(&mut self.kept) }
+    }
+}
+
+/// The rows of Markdown as people write it that a reader gives, as soon as they are complete, as [`MarkdownStream`] has them.
+///
+/// Each item is the rows of one or more leaves. After an error there is no other item.
+///
+/// ```
+/// let text = "# Head\n\nwords";
+/// let rows: Result<String, _> = termimad_proved::markdown_as_read(text.as_bytes(), 20, "none").collect();
+/// assert_eq!(rows.unwrap(), termimad_proved::markdown(text, 20, "none").unwrap());
+/// ```
+pub fn markdown_as_read<R: io::Read>(reader: R, width: usize, skin: &str) -> MarkdownAsRead<R> {
+    MarkdownAsRead {
+        reader: Some(reader),
+        stream: MarkdownStream::new(width, skin),
+    }
+}
+
+/// The iterator of [`markdown_as_read`].
+pub struct MarkdownAsRead<R> {
+    // None, once it is at its end, or failed.
+    reader: Option<R>,
+    stream: Result<MarkdownStream, Refused>,
+}
+
+impl<R: io::Read> Iterator for MarkdownAsRead<R> {
+    type Item = io::Result<String>;
+
+    fn next(&mut self) -> Option<Self::Item> {
+        while self.reader.is_some() {
+            match self.read_rows() {
+                Ok(rows) if rows.is_empty() => {}
+                Ok(rows) => return Some(Ok(rows)),
+                Err(error) => {
+                    self.reader = None;
+                    return Some(Err(error));
+                }
+            }
+        }
+        None
+    }
+}
+
+impl<R: io::Read> MarkdownAsRead<R> {
+    // The rows that the next block completes.
+    fn read_rows(&mut self) -> io::Result<String> {
+        let stream = self.stream.as_mut().map_err(|it| io::Error::other(*it))?;
+        let mut block = Vec::new();
+        if let Some(reader) = &mut self.reader {
+            read_block(reader, &mut block)?;
+        }
+        if block.is_empty() {
+            self.reader = None;
+        }
+        stream.taken(&block, block.is_empty())
     }
 }
 

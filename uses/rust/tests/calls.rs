@@ -1,8 +1,8 @@
 //! What the calls answer, and how they refuse.
 
 use termimad_proved::{
-    code, fit, headings, links, markdown, printable, rows, rows_as_read, table, text, Align, Page,
-    Refused,
+    code, fit, headings, links, markdown, markdown_as_read, printable, rows, rows_as_read, table, text,
+    Align, MarkdownStream, Page, Refused,
 };
 
 #[test]
@@ -40,6 +40,36 @@ fn pieces_make_the_whole() {
         .collect();
     assert_eq!(made, text(whole, 20, "").unwrap());
     assert_eq!(rows(whole, 20, ""), Ok(made.lines().count()));
+}
+
+#[test]
+fn markdown_in_pieces_makes_the_whole() {
+    let whole = "# head\n\n> - an item\n>   of a quote\n\n|a|b|\n|-|-|\n|1|2|\n\nlast *words* \u{65e5}";
+    let wanted = markdown(whole, 20, "dark").unwrap();
+    for size in [1, 3, 50] {
+        let mut stream = MarkdownStream::new(20, "dark").unwrap();
+        let mut made: String = whole
+            .as_bytes()
+            .chunks(size)
+            .map(|piece| stream.take(piece).unwrap())
+            .collect();
+        made += &stream.finish().unwrap();
+        assert_eq!(made, wanted);
+    }
+    let read: std::io::Result<String> = markdown_as_read(whole.as_bytes(), 20, "dark").collect();
+    assert_eq!(read.unwrap(), wanted);
+}
+
+#[test]
+fn markdown_in_pieces_is_refused() {
+    assert_eq!(MarkdownStream::new(65536, "").err(), Some(Refused::Number));
+    assert_eq!(MarkdownStream::new(20, "nothing").err(), Some(Refused::Skin));
+    let mut stream = MarkdownStream::new(20, "none").unwrap();
+    assert!(stream.take(b"a\xff").is_err());
+    assert_eq!(stream.take(b"b\n\n").unwrap(), "b\n");
+    let mut refused = markdown_as_read("a".as_bytes(), 20, "nothing");
+    assert!(refused.next().is_some_and(|made| made.is_err()));
+    assert!(refused.next().is_none());
 }
 
 #[test]

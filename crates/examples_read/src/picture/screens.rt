@@ -36,6 +36,7 @@ pub fn page_screen(alloc: Global, text: &str, skin: &PageSkin) -> Result<Screen,
         skin,
         columns: COLUMNS,
         rows: PAGE_ROWS,
+        start: 0,
         files: Files::NONE,
     };
     let mut terminal = TestTerminal::new(alloc, COLUMNS, PAGE_ROWS);

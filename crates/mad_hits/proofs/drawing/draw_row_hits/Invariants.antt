@@ -10,9 +10,9 @@ abbrev pub invariant-rows : goal.invariant-rows
 invariant-rows g l = record {
   within : l.y ≤ l.count;
   writes : (r : Result (Unit {0}) Error) (new : Trace) (row n : ℕ) → row ≡ l.top + l.y → n + l.y ≡ l.count
-      → WritesRowsHits l.skin l.style l.width l.sought l.lines l.fronts l.starts l.y (range_with_len row n) (g.O.Out.seen l.out) r new
-      → WritesRowsHits l.skin l.style l.width l.sought l.lines l.fronts l.starts 0 (range_with_len l.top l.count) (g.O.Out.seen l.fn.out) r new;
-  marked : TookWith (g.O.Out.seen l.fn.out) (g.O.Out.seen l.out) (AreRowsMarked l.skin l.style l.width l.sought l.lines l.fronts l.starts 0 (range_with_len l.top l.y));
+      → WritesRowsHits l.skin l.style l.room l.sought l.lines l.fronts l.starts l.y (range_with_len row n) (g.O.Out.seen l.out) r new
+      → WritesRowsHits l.skin l.style l.room l.sought l.lines l.fronts l.starts 0 (range_with_len l.top l.count) (g.O.Out.seen l.fn.out) r new;
+  marked : TookWith (g.O.Out.seen l.fn.out) (g.O.Out.seen l.out) (AreRowsMarked l.skin l.style l.room l.sought l.lines l.fronts l.starts 0 (range_with_len l.top l.y));
 }
 
 abbrev pub decreases-rows : goal.decreases-rows

@@ -16,4 +16,6 @@ returns c = record {
   quote_mark = search rules;
   rule = search rules;
   page = c.know_signs.ensures;
+  head = search rules;
+  titles = c.know_titles.ensures;
 }

@@ -15,5 +15,6 @@ returns c =
     let six = c.in_ok-arg-6.ensures.shape c.flag-lines.ensures.own ∙ ap₂ with_rule five c.flag-lines.ensures.rule in
     let seven = c.in_ok-arg-7.ensures.shape c.flag-plain.ensures.own ∙ ap₂ with_rule six c.flag-plain.ensures.rule in
     let eight = c.in_ok-arg-8.ensures.shape c.flag-stream.ensures.own ∙ ap₂ with_rule seven c.flag-stream.ensures.rule in
-    let nine = c.in_ok-arg-9.ensures.shape c.flag-no_pager.ensures.own ∙ ap₂ with_rule eight c.flag-no_pager.ensures.rule in
-    IfOk-weaker c.arg-10.result _ _ (λ m h. h.shape c.fits.ensures.own ∙ ap₂ with_rule nine c.fits.ensures.rule) c.arg-10.ensures
+    let nine = c.in_ok-arg-9.ensures.shape c.flag-live.ensures.own ∙ ap₂ with_rule eight c.flag-live.ensures.rule in
+    let ten = c.in_ok-arg-10.ensures.shape c.flag-no_pager.ensures.own ∙ ap₂ with_rule nine c.flag-no_pager.ensures.rule in
+    IfOk-weaker c.arg-11.result _ _ (λ m h. h.shape c.fits.ensures.own ∙ ap₂ with_rule ten c.fits.ensures.rule) c.arg-11.ensures

@@ -13,10 +13,10 @@ use Rattle.termimad_page.specs.declared.failing.Refusal.{Refusal}
 use Rattle.termimad_page.proofs.running.show.Goals as goal
 
 -- what is paged of bytes that are a text
-pages_shown : (grammar : Grammar) (skin : PageSkin) (place : Place) (screen : Screen) (bytes slice text : List ℕ) (old : Devices) (r : Result End Refusal) (keys drawn : Trace) → place ≡ OnScreen screen → IsUtf8 bytes → slice ≡ bytes → text ≡ behind_mark slice → PagesText grammar skin screen.name.now screen.columns screen.rows screen.files text old.keys old.screen r keys drawn → Shows grammar skin (where_of place) bytes old r (devices keys drawn old.out)
+pages_shown : (grammar : Grammar) (skin : PageSkin) (place : Place) (screen : Screen) (bytes slice text : List ℕ) (old : Devices) (r : Result End Refusal) (keys drawn : Trace) → place ≡ OnScreen screen → IsUtf8 bytes → slice ≡ bytes → text ≡ behind_mark slice → PagesText grammar skin screen.name.now screen.columns screen.rows screen.files screen.start text old.keys old.screen r keys drawn → Shows grammar skin (where_of place) bytes old r (devices keys drawn old.out)
 pages_shown grammar skin place screen bytes slice text old r keys drawn is utf8 p q pages =
     subst (λ (w : Place). Shows grammar skin (where_of w) bytes old r (devices keys drawn old.out)) (sym is)
-    (inl (utf8, (subst (λ (t : List ℕ). PagesText grammar skin screen.name.now screen.columns screen.rows screen.files t old.keys old.screen r keys drawn) (q ∙ ap behind_mark p) pages, refl)))
+    (inl (utf8, (subst (λ (t : List ℕ). PagesText grammar skin screen.name.now screen.columns screen.rows screen.files screen.start t old.keys old.screen r keys drawn) (q ∙ ap behind_mark p) pages, refl)))
 
 pub returns-in-OnScreen : goal.returns-in-OnScreen
 returns-in-OnScreen g c =

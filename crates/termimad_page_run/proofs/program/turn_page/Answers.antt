@@ -1,6 +1,6 @@
 use Rattle.std.proofs.Common.{◌≡◌, Some, inl, inr, refl, take, arith}
 use Rattle.mad_pager.specs.declared.session.End.TheVariants.{Quits}
-use Rattle.termimad_page_run.proofs.RunLemmas.{ended_input, block_done}
+use Rattle.termimad_page_run.proofs.RunLemmas.{block_done, done_from, ended_from, ended_input}
 use Rattle.termimad_page_run.proofs.program.turn_page.Goals as goal
 
 pub returns-then-count-eq0-clause-ends : goal.returns-then-count-eq0-clause-ends
@@ -12,12 +12,12 @@ returns-then-count-eq0-clause-ends g c = λ end is.
 pub returns-clause-goes : goal.returns-clause-goes
 returns-clause-goes g c = λ goes. (
   take c.in_ok-count.count c.fill.new.buffer,
-  block_done _ _ _ _ _ c.fill.new.buffer c.in_ok-count.count _ _ _ _ _ _ c.requires c.in_ok-show.ensures c.in_ok-count.ensures (omega arith) refl (c.in_ok-turn.ensures.goes goes),
+  block_done _ _ _ _ _ c.fill.new.buffer c.in_ok-count.count _ _ _ _ _ _ c.requires c.in_ok-show.ensures c.in_ok-count.ensures (omega arith) refl (done_from _ _ _ _ _ _ _ _ c.await_size.ensures (c.in_ok-turn.ensures.goes goes)),
 )
 
 pub returns-clause-ends : goal.returns-clause-ends
 returns-clause-ends g c = λ end is. record {
   orderly = c.requires;
   shown = c.in_ok-show.ensures;
-  ends = inr (record { block = take c.in_ok-count.count c.fill.new.buffer; read = c.in_ok-count.ensures.handed_out; key = c.in_ok-turn.ensures.ends end is });
+  ends = inr (record { block = take c.in_ok-count.count c.fill.new.buffer; read = c.in_ok-count.ensures.handed_out; key = ended_from _ _ _ _ _ c.await_size.ensures (c.in_ok-turn.ensures.ends end is) });
 }

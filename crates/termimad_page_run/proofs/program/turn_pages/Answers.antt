@@ -10,7 +10,7 @@ loop-turn-preserved g c =
     record {
       blocks = inv.blocks ++ it.0 ∷ [];
       count = omega (arith, length-append inv.blocks (it.0 ∷ []), inv.count);
-      turns = turn_made inv.blocks it.0 _ _ c.turn_page.new.pager c.turn_page.new.keys _ _ _ _ c.asks_size-asks.ensures inv.turns it.1;
+      turns = turn_made inv.blocks it.0 _ _ c.turn_page.new.pager c.turn_page.new.terminal _ _ _ _ c.asks_size-asks.ensures inv.turns it.1;
       orderly = turn_order _ _ _ it.1;
     }
 
@@ -20,7 +20,7 @@ returns-in_err-turn g c =
     broken_exit _ _ _ _ _ _ c.in_err-turn.field-0.0 c.from_residual.ensures.1
     (record {
       blocks = inv.blocks;
-      last = moment c.loop-turn.pager c.loop-turn.keys c.loop-turn.asks (g.I.Source.seen c.loop-turn.input) (g.O.Out.seen c.loop-turn.out);
+      last = moment c.loop-turn.pager c.loop-turn.terminal c.loop-turn.asks (g.I.Source.seen c.loop-turn.input) (g.O.Out.seen c.loop-turn.out);
       turns = inv.turns;
       fault = c.in_err-turn.ensures.fault;
     })
@@ -30,7 +30,7 @@ returns-in-Some g c =
     let inv = c.loop-turn.invariant in
     record {
       blocks = inv.blocks;
-      last = moment c.loop-turn.pager c.loop-turn.keys c.loop-turn.asks (g.I.Source.seen c.loop-turn.input) (g.O.Out.seen c.loop-turn.out);
+      last = moment c.loop-turn.pager c.loop-turn.terminal c.loop-turn.asks (g.I.Source.seen c.loop-turn.input) (g.O.Out.seen c.loop-turn.out);
       turns = inv.turns;
       ends = inl (c.in_ok-turn.ensures.ends c.in-Some.end (sym c.end.ensures ∙ c.in-Some.is));
     }
@@ -40,7 +40,7 @@ returns g c =
     let inv = c.loop-turn.invariant in
     record {
       blocks = inv.blocks;
-      last = moment c.loop-turn.pager c.loop-turn.keys c.loop-turn.asks (g.I.Source.seen c.loop-turn.input) (g.O.Out.seen c.loop-turn.out);
+      last = moment c.loop-turn.pager c.loop-turn.terminal c.loop-turn.asks (g.I.Source.seen c.loop-turn.input) (g.O.Out.seen c.loop-turn.out);
       turns = inv.turns;
       ends = inr (record { quits = refl; count = omega (arith, inv.count); input = refl; out = refl });
     }

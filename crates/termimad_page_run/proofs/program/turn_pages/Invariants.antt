@@ -1,4 +1,5 @@
 use Rattle.std.proofs.Common.{◌≡◌, List, ℕ, [], length, false}
+use Rattle.mad_input.specs.Hearing.{quiet_input}
 use Rattle.mad_pager.specs.Pagers.{IsOrderlyView, view_of}
 use Rattle.termimad_page_run.specs.Runs.{AreTurns, moment}
 use Rattle.termimad_page_run.proofs.program.turn_pages.Given as goal
@@ -8,6 +9,6 @@ abbrev pub invariant-loop-turn : goal.invariant-loop-turn
 invariant-loop-turn g l = record {
   blocks : List (List ℕ);
   count : length blocks ≡ l._turn;
-  turns : AreTurns blocks (moment l.fn.pager [] false (g.I.Source.seen l.fn.input) (g.O.Out.seen l.fn.out)) (moment l.pager l.keys l.asks (g.I.Source.seen l.input) (g.O.Out.seen l.out));
+  turns : AreTurns blocks (moment l.fn.pager quiet_input false (g.I.Source.seen l.fn.input) (g.O.Out.seen l.fn.out)) (moment l.pager l.terminal l.asks (g.I.Source.seen l.input) (g.O.Out.seen l.out));
   orderly : IsOrderlyView (view_of l.pager);
 }

@@ -14,5 +14,5 @@ draw_rows-requires g c = subst (λ (a : Area). IsWithinLimits a) (sym c.prompt_c
 pub returns : goal.returns
 returns g c =
     let s = state_of c.args.self.now in
-    let prompt = rw c.prompt_cell.ensures at c.in_ok-draw_rows.ensures.shown (prompt_fills (prompt_cell s.page.rows) s.page.rows refl) in
-    took_in_turn (g.O.Out.seen c.args.out.now) (g.O.Out.seen c.draw_rows.new.out) (g.O.Out.seen c.draw_field.new.out) (AreRowsShown prompt_row (prompt_cell s.page.rows)) (IsFieldShown s) (IsFieldRow s) (typed_shown s) prompt c.in_ok-draw_field.ensures
+    let prompt = rw c.prompt_cell.ensures at c.in_ok-draw_rows.ensures.shown (prompt_fills s.types_back (prompt_cell s.page.rows) s.page.rows refl) in
+    took_in_turn (g.O.Out.seen c.args.out.now) (g.O.Out.seen c.draw_rows.new.out) (g.O.Out.seen c.draw_field.new.out) (AreRowsShown (prompt_row s.types_back) (prompt_cell s.page.rows)) (IsFieldShown s) (IsFieldRow s) (typed_shown s) prompt c.in_ok-draw_field.ensures

@@ -6,10 +6,13 @@ use Rattle.mad_pager.proofs.session.Session.new.Goals as goal
 pub returns-clause-start : goal.returns-clause-start
 returns-clause-start c = record {
   laid = c.in_ok-laid.ensures;
-  page = ap (λ (n : ℕ). let p : Page = record { columns = c.args.columns; rows = c.args.rows; height = n; top = 0; count = 0; holds_bar = false; has_colon = false; files = c.args.files } in p) c.height_of.ensures;
+  page = ap (λ (n : ℕ). let p : Page = record { columns = c.args.columns; rows = c.args.rows; height = n; top = 0; count = 0; holds_bar = false; has_colon = false; tells = false; files = c.args.files } in p) c.height_of.ensures;
   field = c.in_ok-field.ensures ∙ ap new_field c.field_row.ensures;
   is_typing = refl;
+  types_back = refl;
   sought = search rules;
+  is_backward = refl;
+  last = search rules;
   found = refl;
   is_missing = refl;
   told = refl;

@@ -15,7 +15,10 @@ returns-clause-step c =
           (c.row_kept-top.ensures ∙ ap (λ (l : List ℕ). kept_row old.page.columns c.args.columns old.laid.starts.items l old.page.top) c.as_slice.ensures.value);
       field = moved _ _ _ _ c.field_row.ensures c.set_area.ensures.same c.set_area.ensures.changed;
       is_typing = refl;
+      types_back = refl;
       sought = refl;
+      is_backward = refl;
+      last = refl;
       found = refl;
       is_missing = refl;
       told = refl;

@@ -1,4 +1,0 @@
-use Rattle.mad_pager.proofs.session.Session.find_previous.Goals as goal
-
-pub returns-clause-found : goal.returns-clause-found
-returns-clause-found c = (c.in_ok-row.row, c.in_ok-row.ensures, c.show_found.ensures.shown)
