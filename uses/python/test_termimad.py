@@ -89,7 +89,7 @@ class Texts(unittest.TestCase):
             path = pathlib.Path(folder) / "a.md"
             path.write_text("é *b*")
             self.assertEqual(termimad.markdown(path, 20), termimad.markdown("é *b*", 20))
-            self.assertEqual(termimad.Markdown(path).rows(20), ["é b"])
+            self.assertEqual(termimad.Markdown(path).rows(20), ["é _b_"])
 
     def test_only_a_terminal_gets_styles(self):
         file = io.StringIO()

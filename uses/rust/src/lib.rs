@@ -417,7 +417,7 @@ fn read_block(reader: &mut impl io::Read, left: &mut Vec<u8>) -> io::Result<usiz
 /// ```
 /// let mut stream = termimad_proved::MarkdownStream::new(20, "none").unwrap();
 /// assert_eq!(stream.take(b"> a qu").unwrap(), "");
-/// assert_eq!(stream.take(b"ote\n\n- an ite").unwrap(), "\u{258c} a quote\n");
+/// assert_eq!(stream.take(b"ote\n\n- an item").unwrap(), "\u{258c} a quote\n");
 /// assert_eq!(stream.finish().unwrap(), "\n\u{2022} an item\n");
 /// ```
 pub struct MarkdownStream {
