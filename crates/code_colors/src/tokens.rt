@@ -3,9 +3,10 @@
 ghost use Rattle.std.specs.Prelude.{◌≡◌, IfOk, OnOk};
 ghost use Rattle.code_colors.specs.Tokens.{turned, innermost, tokens_of, plain_tokens, tokens_by};
 
-use crate::places::{nothing_before, passed};
-use crate::token_at::token_at;
+use crate::places::{nothing_before, passed, passed_all};
+use crate::token_at::token_in;
 use code_tables::rules::{Class, Language, Turn};
+use code_tables::tables::mode_at;
 use std::alloc::{AllocError, Global};
 
 /// A token of a byte and so many more.
@@ -54,32 +55,31 @@ fn turn(modes: &mut Vec<usize>, turn: Turn) -> Result<(), AllocError>
 /// # Errors
 ///
 /// Out of memory is the only error.
-#[tactic(auto, unfolding(crate::specs::Tokens::tokens_from))]
+#[tactic(auto, unfolding(crate::specs::Tokens::tokens_from), using(crate::proofs::PassLemmas::passed_by))]
 pub fn tokens_of(alloc: Global, language: Language, text: &[u8]) -> Result<Vec<Token>, AllocError>
     ensures { IfOk result (λ tokens. tokens.items ≡ tokens_of language text.now) }
 {
     let mut tokens = Vec::new(alloc);
     let mut modes = Vec::new(alloc);
     modes.push(0)?;
+    let mut mode = mode_at(language, 0);
     let mut before = nothing_before();
-    let mut skip: usize = 0;
     let mut rest = text;
     while let [b, next @ ..] = rest {
-        if skip > 0 {
-            skip -= 1;
-            before = passed(*b, before);
-            rest = next;
-            continue;
-        }
-        let taken = token_at(language, innermost(&modes), before, rest);
+        let taken = token_in(language, innermost(&modes), &mode, before, rest);
         tokens.push(Token {
             more: taken.more,
             class: taken.class,
         })?;
-        turn(&mut modes, taken.turn)?;
-        skip = taken.more;
-        before = passed(*b, before);
-        rest = next;
+        match taken.turn {
+            Turn::Stays => {}
+            other => {
+                turn(&mut modes, other)?;
+                mode = mode_at(language, innermost(&modes));
+            }
+        }
+        before = passed_all(&next[..taken.more], passed(*b, before));
+        rest = &next[taken.more..];
     }
     Ok(tokens)
 }
