@@ -12,12 +12,13 @@
     more: '-'                        bytes that are in one, beside letters and digits
     otherwise: text                  the class of all else; without this line it is plain
     with: members capitals numbers   that a word behind a period is none of the list; that capitals are names; that digits begin numbers
+    with: exact                      that its words have letters as they stand, in a language that folds
         anywhere '#' line comment    the rules, in order: the first that fits is taken
 
 A rule has a place, one mark or several with `|` between them, an extent, a class; then it may have `if` and what has to follow past blanks, and
 `enters N`, `becomes N` or `leaves`. Marks are written as in Python. The words are those of crates/code_tables/src/rules.rt, in small letters:
 `through`, `through_lines` have what closes them and `never`, `backslash` or `doubled`; `up_to`, `nested`, `two_parts` have what closes them, `labelled` has
-`strict` or `loose`. A line that begins with `#` is a comment.
+`strict` or `loose`, and `word` may have what has to stand right behind it. A line that begins with `#` is a comment.
 """
 from __future__ import annotations
 
@@ -36,7 +37,7 @@ PLACES = "Anywhere FirstByte FirstWord Apart Value AfterColon".split()
 ESCAPES = "Never Backslash Doubled".split()
 EXTENTS = "Itself OneMore Line Word Digits UpTo Through ThroughLines Nested QuotedChar Pattern TwoParts Labelled".split()
 CLOSED = {"UpTo", "Through", "ThroughLines", "Nested", "TwoParts"}
-FLAGS = ("members", "capitals", "numbers")
+FLAGS = ("members", "capitals", "numbers", "exact")
 PART = re.compile(r"'(?:\\.|[^'\\])*'|\"(?:\\.|[^\"\\])*\"|\S+")
 
 
@@ -94,6 +95,9 @@ class Parts:
             raise ValueError("the line ends too early")
         return self.left.pop(0)
 
+    def is_text(self) -> bool:
+        return bool(self.left) and self.left[0][0] in "'\""
+
     def text(self) -> str:
         part = self.next()
         if part[0] not in "'\"":
@@ -115,7 +119,7 @@ def rules_of(line: str, folds: bool) -> list[Rule]:
     while parts.takes("|"):
         marks.append(parts.text())
     extent = named(parts.next(), EXTENTS)
-    close = parts.text() if extent in CLOSED else ""
+    close = parts.text() if extent in CLOSED or extent == "Word" and parts.is_text() else ""
     argument = ""
     if extent in ("Through", "ThroughLines"):
         argument = named(parts.next(), ESCAPES)
@@ -124,7 +128,7 @@ def rules_of(line: str, folds: bool) -> list[Rule]:
     kind = named(parts.next(), CLASSES)
     followed = []
     if parts.takes("if"):
-        while parts.left and parts.left[0][0] in "'\"":
+        while parts.is_text():
             followed.append(parts.text())
     # What shall stand behind a colon and a blank may stand at the line's end too.
     followed += [":\n"] if ": " in followed else []

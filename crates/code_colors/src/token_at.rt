@@ -1,9 +1,10 @@
 //! The token that begins at a place.
 
 ghost use Rattle.std.specs.Prelude.{◌≡◌, ◌<◌, ◌≤◌, ◌+◌, ◌-◌, ◌^◌, map, length, false};
+ghost use Rattle.code_colors.specs.Bytes.{first};
 ghost use Rattle.code_tables.specs.Rules.{bytes_of, rule_of, word_of, mode_of};
 ghost use Rattle.code_tables.specs.Tables.{mode_at, rules_at};
-ghost use Rattle.code_colors.specs.Tokens.{marked_word, marked_up_to, behind, extent_len, begins_any, is_followed, followed_len, is_marked, rule_len, taken_of, is_exponent, is_number_byte, number_from, is_base, is_based, number_len, lowered, is_same, find_class, other_class, word_class, word_taken, other_taken, first_rule, capped, token_at};
+ghost use Rattle.code_colors.specs.Tokens.{marked_word, word_before, marked_up_to, behind, extent_len, begins_any, is_followed, followed_len, is_marked, rule_len, taken_of, is_exponent, is_number_byte, number_from, is_base, is_based, number_len, lowered, is_same, find_class, other_class, word_class, word_taken, other_taken, first_rule, capped, token_at};
 
 use crate::bytes::{
     begins, begins_word, blanks_len, char_len, first, is_word_byte, line_len, tail, word_len,
@@ -39,6 +40,18 @@ fn marked_word(mode: &ModeRow, marks: usize, rest: &[u8]) -> usize
     word_len(mode.more.as_bytes(), rest)
 }
 
+// So many bytes, if `close` follows them at once; else 0.
+fn word_before(close: &[u8], len: usize, rest: &[u8]) -> usize
+    ensures value { result ≡ word_before close.now len rest.now }
+    ensures within { result ≤ len }
+{
+    if begins(tail(rest, len), close) {
+        len
+    } else {
+        0
+    }
+}
+
 fn marked_up_to(marks: usize, close: &[u8], rest: &[u8]) -> usize
     requires { marks + length rest.now < 2 ^ 63 }
     ensures { result ≡ marked_up_to marks close.now rest.now }
@@ -66,7 +79,10 @@ fn extent_len(mode: &ModeRow, r: &RuleRow, marks: usize, rest: &[u8]) -> usize
         Extent::Itself => marks,
         Extent::OneMore => marks + char_len(rest),
         Extent::Line => marks + line_len(rest),
-        Extent::Word => behind(marks, marked_word(mode, marks, rest)),
+        Extent::Word => {
+            let len = marked_word(mode, marks, rest);
+            behind(marks, word_before(close, len, rest))
+        }
         Extent::Digits => behind(marks, digits(rest)),
         Extent::UpTo => marked_up_to(marks, close, rest),
         Extent::Through(escape) => marks + through(close, escape, false, rest),
@@ -109,18 +125,25 @@ fn followed_len(marks: &[&str], len: usize, rest: &[u8]) -> usize
     }
 }
 
-fn is_marked(mark: &[u8], rest: &[u8]) -> bool
+// Whether the mark is in front, by the first byte: most marks begin with another.
+#[tactic(auto, using(crate::proofs::FirstLemmas::other_mark))]
+fn is_marked(mark: &[u8], head: u8, rest: &[u8]) -> bool
+    requires { head ≡ first rest.now }
     ensures { result ≡ is_marked mark.now rest.now }
 {
-    begins(rest, mark) && !(mark.is_empty() && is_space_byte(first(rest)))
+    match mark {
+        [] => !is_space_byte(head),
+        [m, ..] => *m == head && begins(rest, mark),
+    }
 }
 
 // How many bytes a token by this rule has here: 0 if it doesn't fit.
-fn rule_len(mode: &ModeRow, before: Before, rest: &[u8], r: &RuleRow) -> usize
+fn rule_len(mode: &ModeRow, before: Before, head: u8, rest: &[u8], r: &RuleRow) -> usize
+    requires { head ≡ first rest.now }
     ensures { result ≡ rule_len (mode_of mode.now) before rest.now (rule_of r.now) }
 {
     let mark = r.mark.as_bytes();
-    if is_marked(mark, rest) && is_placed(r.place, before) {
+    if is_marked(mark, head, rest) && is_placed(r.place, before) {
         let len = extent_len(mode, r, mark.len(), tail(rest, mark.len()));
         followed_len(r.followed, len, rest)
     } else {
@@ -202,14 +225,24 @@ fn is_same(folds: bool, w: &[u8], word: &[u8]) -> bool
     rest.is_empty()
 }
 
+// Whether a row has this word, by the word's first byte: most rows have another.
+#[tactic(auto, using(crate::proofs::FirstLemmas::other_word))]
+fn is_row(folds: bool, head: u8, w: &[u8], word: &[u8]) -> bool
+    requires { head ≡ lowered folds (first word.now) }
+    ensures { result ≡ is_same folds w.now word.now }
+{
+    first(w) == head && is_same(folds, w, word)
+}
+
 // What the first row with this word says.
 #[tactic(auto, unfolding(crate::specs::Tokens::find_class))]
 fn find_class(folds: bool, otherwise: Class, word: &[u8], rows: &[(&str, Class)]) -> Class
     ensures { result ≡ find_class folds otherwise word.now (map word_of rows.now) }
 {
+    let head = lowered(folds, first(word));
     let mut rest = rows;
     while let [(w, class), next @ ..] = rest {
-        if is_same(folds, w.as_bytes(), word) {
+        if is_row(folds, head, w.as_bytes(), word) {
             return *class;
         }
         rest = next;
@@ -285,9 +318,10 @@ fn other_taken(mode: &ModeRow, before: Before, rest: &[u8]) -> Taken
 fn first_rule(mode: &ModeRow, before: Before, bytes: &[u8], rules: &[RuleRow]) -> Taken
     ensures { result ≡ first_rule (mode_of mode.now) before bytes.now (map rule_of rules.now) }
 {
+    let head = first(bytes);
     let mut rest = rules;
     while let [r, next @ ..] = rest {
-        let len = rule_len(mode, before, bytes, r);
+        let len = rule_len(mode, before, head, bytes, r);
         if len > 0 {
             return taken_of(len - 1, r.class, r.turn);
         }

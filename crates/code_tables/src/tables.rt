@@ -4,7 +4,7 @@
 ghost use Rattle.std.specs.Prelude.{◌≡◌, map, filter};
 ghost use Rattle.code_tables.specs.Rules.{rule_of, word_of, mode_of};
 ghost use Rattle.code_tables.specs.Kinds.{may_begin};
-ghost use Rattle.code_tables.specs.Tables.{sh_rules_0, sh_rules_1, sh_rules_2, sh_rules_3, console_rules_0, console_rules_1, console_rules_2, console_rules_3, console_rules_4, python_rules_0, pycon_rules_0, pycon_rules_1, rust_rules_0, rust_rules_1, javascript_rules_0, javascript_rules_1, javascript_rules_2, typescript_rules_0, typescript_rules_1, typescript_rules_2, json_rules_0, yaml_rules_0, toml_rules_0, ini_rules_0, ini_rules_1, ini_rules_2, diff_rules_0, xml_rules_0, xml_rules_1, html_rules_0, html_rules_1, html_rules_2, html_rules_3, html_rules_4, html_rules_5, css_rules_0, css_rules_1, css_rules_2, c_rules_0, c_rules_1, cpp_rules_0, cpp_rules_1, java_rules_0, java_rules_1, csharp_rules_0, csharp_rules_1, kotlin_rules_0, kotlin_rules_1, swift_rules_0, swift_rules_1, go_rules_0, protobuf_rules_0, protobuf_rules_1, php_rules_0, php_rules_1, php_rules_2, php_rules_3, ruby_rules_0, ruby_rules_1, ruby_rules_2, perl_rules_0, lua_rules_0, sql_rules_0, make_rules_0, make_rules_1, make_rules_2, make_rules_3, dockerfile_rules_0, dockerfile_rules_1, dockerfile_rules_2, dockerfile_rules_3, cmake_rules_0, lisp_rules_0, haskell_rules_0, sh_0, sh_1, sh_2, sh_3, console_0, console_1, console_2, console_3, console_4, python_0, pycon_0, pycon_1, rust_0, rust_1, javascript_0, javascript_1, javascript_2, typescript_0, typescript_1, typescript_2, json_0, yaml_0, toml_0, ini_0, ini_1, ini_2, diff_0, xml_0, xml_1, html_0, html_1, html_2, html_3, html_4, html_5, css_0, css_1, css_2, c_0, c_1, cpp_0, cpp_1, java_0, java_1, csharp_0, csharp_1, kotlin_0, kotlin_1, swift_0, swift_1, go_0, protobuf_0, protobuf_1, php_0, php_1, php_2, php_3, ruby_0, ruby_1, ruby_2, perl_0, lua_0, sql_0, make_0, make_1, make_2, make_3, dockerfile_0, dockerfile_1, dockerfile_2, dockerfile_3, cmake_0, lisp_0, haskell_0, sh_mode, sh_rules, console_mode, console_rules, python_mode, python_rules, pycon_mode, pycon_rules, rust_mode, rust_rules, javascript_mode, javascript_rules, typescript_mode, typescript_rules, json_mode, json_rules, yaml_mode, yaml_rules, toml_mode, toml_rules, ini_mode, ini_rules, diff_mode, diff_rules, xml_mode, xml_rules, html_mode, html_rules, css_mode, css_rules, c_mode, c_rules, cpp_mode, cpp_rules, java_mode, java_rules, csharp_mode, csharp_rules, kotlin_mode, kotlin_rules, swift_mode, swift_rules, go_mode, go_rules, protobuf_mode, protobuf_rules, php_mode, php_rules, ruby_mode, ruby_rules, perl_mode, perl_rules, lua_mode, lua_rules, sql_mode, sql_rules, make_mode, make_rules, dockerfile_mode, dockerfile_rules, cmake_mode, cmake_rules, lisp_mode, lisp_rules, haskell_mode, haskell_rules, sh_words, python_words, rust_words, javascript_words, typescript_words, json_words, toml_words, c_words, cpp_words, java_words, csharp_words, kotlin_words, swift_words, go_words, protobuf_words, php_words, ruby_words, perl_words, lua_words, sql_words, make_words, make_words21, cmake_words, lisp_words, haskell_words, mode_at, rules_at, words_with};
+ghost use Rattle.code_tables.specs.Tables.{sh_rules_0, sh_rules_1, sh_rules_2, sh_rules_3, console_rules_0, console_rules_1, console_rules_2, console_rules_3, console_rules_4, python_rules_0, pycon_rules_0, pycon_rules_1, rust_rules_0, rust_rules_1, javascript_rules_0, javascript_rules_1, javascript_rules_2, typescript_rules_0, typescript_rules_1, typescript_rules_2, json_rules_0, yaml_rules_0, toml_rules_0, ini_rules_0, ini_rules_1, ini_rules_2, diff_rules_0, xml_rules_0, xml_rules_1, html_rules_0, html_rules_1, html_rules_2, html_rules_3, html_rules_4, html_rules_5, css_rules_0, css_rules_1, css_rules_2, c_rules_0, c_rules_1, cpp_rules_0, cpp_rules_1, java_rules_0, csharp_rules_0, csharp_rules_1, kotlin_rules_0, swift_rules_0, go_rules_0, protobuf_rules_0, php_rules_0, php_rules_1, php_rules_2, php_rules_3, ruby_rules_0, ruby_rules_1, ruby_rules_2, perl_rules_0, lua_rules_0, sql_rules_0, make_rules_0, make_rules_1, make_rules_2, make_rules_3, dockerfile_rules_0, dockerfile_rules_1, dockerfile_rules_2, dockerfile_rules_3, cmake_rules_0, lisp_rules_0, haskell_rules_0, sh_0, sh_1, sh_2, sh_3, console_0, console_1, console_2, console_3, console_4, python_0, pycon_0, pycon_1, rust_0, rust_1, javascript_0, javascript_1, javascript_2, typescript_0, typescript_1, typescript_2, json_0, yaml_0, toml_0, ini_0, ini_1, ini_2, diff_0, xml_0, xml_1, html_0, html_1, html_2, html_3, html_4, html_5, css_0, css_1, css_2, c_0, c_1, cpp_0, cpp_1, java_0, csharp_0, csharp_1, kotlin_0, swift_0, go_0, protobuf_0, php_0, php_1, php_2, php_3, ruby_0, ruby_1, ruby_2, perl_0, lua_0, sql_0, make_0, make_1, make_2, make_3, dockerfile_0, dockerfile_1, dockerfile_2, dockerfile_3, cmake_0, lisp_0, haskell_0, sh_mode, sh_rules, console_mode, console_rules, python_mode, python_rules, pycon_mode, pycon_rules, rust_mode, rust_rules, javascript_mode, javascript_rules, typescript_mode, typescript_rules, json_mode, json_rules, yaml_mode, yaml_rules, toml_mode, toml_rules, ini_mode, ini_rules, diff_mode, diff_rules, xml_mode, xml_rules, html_mode, html_rules, css_mode, css_rules, c_mode, c_rules, cpp_mode, cpp_rules, java_mode, java_rules, csharp_mode, csharp_rules, kotlin_mode, kotlin_rules, swift_mode, swift_rules, go_mode, go_rules, protobuf_mode, protobuf_rules, php_mode, php_rules, ruby_mode, ruby_rules, perl_mode, perl_rules, lua_mode, lua_rules, sql_mode, sql_rules, make_mode, make_rules, dockerfile_mode, dockerfile_rules, cmake_mode, cmake_rules, lisp_mode, lisp_rules, haskell_mode, haskell_rules, sh_words, python_words, rust_words, javascript_words, typescript_words, json_words, toml_words, c_words, cpp_words, java_words, csharp_words, kotlin_words, swift_words, go_words, protobuf_words, php_words, ruby_words, perl_words, lua_words, sql_words, make_words, make_words21, cmake_words, lisp_words, haskell_words, mode_at, rules_at, words_with};
 
 use crate::rules::{Class, Escape, Extent, Kind, Language, ModeRow, Place, RuleRow, Turn, Words};
 
@@ -822,7 +822,10 @@ static PYCON_0_LETTER: [RuleRow; 0] = [
 ];
 
 #[rattlefmt::skip]
-static PYCON_0_SIGN: [RuleRow; 2] = [
+static PYCON_0_SIGN: [RuleRow; 5] = [
+    rule!(FirstWord, ">>> @", Extent::UpTo, "( \t#", &[], Key, Turn::Enters(1)),
+    rule!(FirstWord, "... @", Extent::UpTo, "( \t#", &[], Key, Turn::Enters(1)),
+    rule!(FirstWord, "...     @", Extent::UpTo, "( \t#", &[], Key, Turn::Enters(1)),
     rule!(FirstWord, ">>> ", Extent::Itself, "", &[], Key, Turn::Enters(1)),
     rule!(FirstWord, "... ", Extent::Itself, "", &[], Key, Turn::Enters(1)),
 ];
@@ -878,11 +881,10 @@ static PYCON_1_LETTER: [RuleRow; 16] = [
 ];
 
 #[rattlefmt::skip]
-static PYCON_1_SIGN: [RuleRow; 4] = [
+static PYCON_1_SIGN: [RuleRow; 3] = [
     rule!(Anywhere, "#", Extent::Line, "", &[], Comment, Turn::Stays),
     rule!(Anywhere, "\"", Extent::Through(Escape::Backslash), "\"", &[], Text, Turn::Stays),
     rule!(Anywhere, "'", Extent::Through(Escape::Backslash), "'", &[], Text, Turn::Stays),
-    rule!(FirstWord, "@", Extent::UpTo, "( \t#", &[], Key, Turn::Stays),
 ];
 
 fn rust_rules(n: usize, kind: Kind) -> &'static [RuleRow]
@@ -1574,8 +1576,7 @@ fn ini_rules_1(kind: Kind) -> &'static [RuleRow]
 }
 
 #[rattlefmt::skip]
-static INI_1_BLANK: [RuleRow; 1] = [
-    rule!(Anywhere, "\n", Extent::Itself, "", &[], Plain, Turn::Leaves),
+static INI_1_BLANK: [RuleRow; 0] = [
 ];
 
 #[rattlefmt::skip]
@@ -2013,7 +2014,7 @@ fn html_4() -> ModeRow
         members: true,
         capitals: false,
         numbers: true,
-        folds: true,
+        folds: false,
     }
 }
 
@@ -2082,12 +2083,13 @@ static HTML_5_LETTER: [RuleRow; 1] = [
 ];
 
 #[rattlefmt::skip]
-static HTML_5_SIGN: [RuleRow; 8] = [
+static HTML_5_SIGN: [RuleRow; 9] = [
     rule!(Anywhere, "</style", Extent::Itself, "", &[], Key, Turn::Becomes(1)),
     rule!(Anywhere, "</STYLE", Extent::Itself, "", &[], Key, Turn::Becomes(1)),
     rule!(Anywhere, "/*", Extent::ThroughLines(Escape::Never), "*/", &[], Comment, Turn::Stays),
     rule!(Anywhere, "\"", Extent::Through(Escape::Backslash), "\"", &[], Text, Turn::Stays),
     rule!(Anywhere, "'", Extent::Through(Escape::Backslash), "'", &[], Text, Turn::Stays),
+    rule!(Anywhere, "-", Extent::Itself, "", &[".", "0", "1", "2", "3", "4", "5", "6", "7", "8", "9"], Plain, Turn::Stays),
     rule!(Anywhere, "", Extent::Word, "", &[":"], Keyword, Turn::Stays),
     rule!(Anywhere, "#", Extent::Word, "", &[], Number, Turn::Stays),
     rule!(Anywhere, ".", Extent::Word, "", &[], Key, Turn::Stays),
@@ -2199,7 +2201,7 @@ static CSS_1_LETTER: [RuleRow; 2] = [
 ];
 
 #[rattlefmt::skip]
-static CSS_1_SIGN: [RuleRow; 14] = [
+static CSS_1_SIGN: [RuleRow; 15] = [
     rule!(Anywhere, "/*", Extent::ThroughLines(Escape::Never), "*/", &[], Comment, Turn::Stays),
     rule!(Anywhere, "\"", Extent::Through(Escape::Backslash), "\"", &[], Text, Turn::Stays),
     rule!(Anywhere, "'", Extent::Through(Escape::Backslash), "'", &[], Text, Turn::Stays),
@@ -2207,6 +2209,7 @@ static CSS_1_SIGN: [RuleRow; 14] = [
     rule!(Anywhere, "{", Extent::Itself, "", &[], Plain, Turn::Enters(1)),
     rule!(Anywhere, "}", Extent::Itself, "", &[], Plain, Turn::Leaves),
     rule!(Anywhere, "@", Extent::Word, "", &[], Keyword, Turn::Stays),
+    rule!(Anywhere, "-", Extent::Itself, "", &[".", "0", "1", "2", "3", "4", "5", "6", "7", "8", "9"], Plain, Turn::Stays),
     rule!(Anywhere, "--", Extent::Word, "", &[], Key, Turn::Stays),
     rule!(Anywhere, "", Extent::Word, "", &[":"], Keyword, Turn::Stays),
     rule!(Anywhere, "#", Extent::Word, "", &[], Number, Turn::Stays),
@@ -2465,22 +2468,16 @@ static CPP_1_SIGN: [RuleRow; 3] = [
     rule!(Anywhere, "//", Extent::Line, "", &[], Comment, Turn::Stays),
 ];
 
-fn java_rules(n: usize, kind: Kind) -> &'static [RuleRow]
-    ensures { map rule_of result.now ≡ filter (may_begin kind) (java_rules n) }
+fn java_rules(_n: usize, kind: Kind) -> &'static [RuleRow]
+    ensures { map rule_of result.now ≡ filter (may_begin kind) (java_rules _n) }
 {
-    match n {
-        1 => java_rules_1(kind),
-        _ => java_rules_0(kind),
-    }
+    java_rules_0(kind)
 }
 
-fn java_mode(n: usize) -> ModeRow
-    ensures { mode_of result ≡ java_mode n }
+fn java_mode(_n: usize) -> ModeRow
+    ensures { mode_of result ≡ java_mode _n }
 {
-    match n {
-        1 => java_1(),
-        _ => java_0(),
-    }
+    java_0()
 }
 
 fn java_0() -> ModeRow
@@ -2526,47 +2523,6 @@ static JAVA_0_SIGN: [RuleRow; 7] = [
     rule!(Anywhere, "\"\"\"", Extent::ThroughLines(Escape::Backslash), "\"\"\"", &[], Text, Turn::Stays),
     rule!(Anywhere, "\"", Extent::Through(Escape::Backslash), "\"", &[], Text, Turn::Stays),
     rule!(Anywhere, "'", Extent::Through(Escape::Backslash), "'", &[], Text, Turn::Stays),
-];
-
-fn java_1() -> ModeRow
-    ensures { mode_of result ≡ java_1 }
-{
-    ModeRow {
-        words: Words::NoWords,
-        starts: "",
-        more: "",
-        otherwise: Class::Key,
-        members: true,
-        capitals: false,
-        numbers: false,
-        folds: false,
-    }
-}
-
-fn java_rules_1(kind: Kind) -> &'static [RuleRow]
-    ensures { map rule_of result.now ≡ filter (may_begin kind) java_rules_1 }
-{
-    match kind {
-        Kind::Blank => &JAVA_1_BLANK,
-        Kind::Letter => &JAVA_1_LETTER,
-        Kind::Sign => &JAVA_1_SIGN,
-    }
-}
-
-#[rattlefmt::skip]
-static JAVA_1_BLANK: [RuleRow; 1] = [
-    rule!(Anywhere, "\n", Extent::Itself, "", &[], Plain, Turn::Leaves),
-];
-
-#[rattlefmt::skip]
-static JAVA_1_LETTER: [RuleRow; 0] = [
-];
-
-#[rattlefmt::skip]
-static JAVA_1_SIGN: [RuleRow; 3] = [
-    rule!(Anywhere, "\\\n", Extent::Itself, "", &[], Key, Turn::Stays),
-    rule!(Anywhere, "/*", Extent::ThroughLines(Escape::Never), "*/", &[], Comment, Turn::Stays),
-    rule!(Anywhere, "//", Extent::Line, "", &[], Comment, Turn::Stays),
 ];
 
 fn csharp_rules(n: usize, kind: Kind) -> &'static [RuleRow]
@@ -2674,22 +2630,16 @@ static CSHARP_1_SIGN: [RuleRow; 3] = [
     rule!(Anywhere, "//", Extent::Line, "", &[], Comment, Turn::Stays),
 ];
 
-fn kotlin_rules(n: usize, kind: Kind) -> &'static [RuleRow]
-    ensures { map rule_of result.now ≡ filter (may_begin kind) (kotlin_rules n) }
+fn kotlin_rules(_n: usize, kind: Kind) -> &'static [RuleRow]
+    ensures { map rule_of result.now ≡ filter (may_begin kind) (kotlin_rules _n) }
 {
-    match n {
-        1 => kotlin_rules_1(kind),
-        _ => kotlin_rules_0(kind),
-    }
+    kotlin_rules_0(kind)
 }
 
-fn kotlin_mode(n: usize) -> ModeRow
-    ensures { mode_of result ≡ kotlin_mode n }
+fn kotlin_mode(_n: usize) -> ModeRow
+    ensures { mode_of result ≡ kotlin_mode _n }
 {
-    match n {
-        1 => kotlin_1(),
-        _ => kotlin_0(),
-    }
+    kotlin_0()
 }
 
 fn kotlin_0() -> ModeRow
@@ -2736,63 +2686,16 @@ static KOTLIN_0_SIGN: [RuleRow; 6] = [
     rule!(Anywhere, "'", Extent::Through(Escape::Backslash), "'", &[], Text, Turn::Stays),
 ];
 
-fn kotlin_1() -> ModeRow
-    ensures { mode_of result ≡ kotlin_1 }
+fn swift_rules(_n: usize, kind: Kind) -> &'static [RuleRow]
+    ensures { map rule_of result.now ≡ filter (may_begin kind) (swift_rules _n) }
 {
-    ModeRow {
-        words: Words::NoWords,
-        starts: "",
-        more: "",
-        otherwise: Class::Key,
-        members: true,
-        capitals: false,
-        numbers: false,
-        folds: false,
-    }
+    swift_rules_0(kind)
 }
 
-fn kotlin_rules_1(kind: Kind) -> &'static [RuleRow]
-    ensures { map rule_of result.now ≡ filter (may_begin kind) kotlin_rules_1 }
+fn swift_mode(_n: usize) -> ModeRow
+    ensures { mode_of result ≡ swift_mode _n }
 {
-    match kind {
-        Kind::Blank => &KOTLIN_1_BLANK,
-        Kind::Letter => &KOTLIN_1_LETTER,
-        Kind::Sign => &KOTLIN_1_SIGN,
-    }
-}
-
-#[rattlefmt::skip]
-static KOTLIN_1_BLANK: [RuleRow; 1] = [
-    rule!(Anywhere, "\n", Extent::Itself, "", &[], Plain, Turn::Leaves),
-];
-
-#[rattlefmt::skip]
-static KOTLIN_1_LETTER: [RuleRow; 0] = [
-];
-
-#[rattlefmt::skip]
-static KOTLIN_1_SIGN: [RuleRow; 3] = [
-    rule!(Anywhere, "\\\n", Extent::Itself, "", &[], Key, Turn::Stays),
-    rule!(Anywhere, "/*", Extent::ThroughLines(Escape::Never), "*/", &[], Comment, Turn::Stays),
-    rule!(Anywhere, "//", Extent::Line, "", &[], Comment, Turn::Stays),
-];
-
-fn swift_rules(n: usize, kind: Kind) -> &'static [RuleRow]
-    ensures { map rule_of result.now ≡ filter (may_begin kind) (swift_rules n) }
-{
-    match n {
-        1 => swift_rules_1(kind),
-        _ => swift_rules_0(kind),
-    }
-}
-
-fn swift_mode(n: usize) -> ModeRow
-    ensures { mode_of result ≡ swift_mode n }
-{
-    match n {
-        1 => swift_1(),
-        _ => swift_0(),
-    }
+    swift_0()
 }
 
 fn swift_0() -> ModeRow
@@ -2838,47 +2741,6 @@ static SWIFT_0_SIGN: [RuleRow; 7] = [
     rule!(Anywhere, "\"\"\"", Extent::ThroughLines(Escape::Backslash), "\"\"\"", &[], Text, Turn::Stays),
     rule!(Anywhere, "\"", Extent::Through(Escape::Backslash), "\"", &[], Text, Turn::Stays),
     rule!(Anywhere, "'", Extent::Through(Escape::Backslash), "'", &[], Text, Turn::Stays),
-];
-
-fn swift_1() -> ModeRow
-    ensures { mode_of result ≡ swift_1 }
-{
-    ModeRow {
-        words: Words::NoWords,
-        starts: "",
-        more: "",
-        otherwise: Class::Key,
-        members: true,
-        capitals: false,
-        numbers: false,
-        folds: false,
-    }
-}
-
-fn swift_rules_1(kind: Kind) -> &'static [RuleRow]
-    ensures { map rule_of result.now ≡ filter (may_begin kind) swift_rules_1 }
-{
-    match kind {
-        Kind::Blank => &SWIFT_1_BLANK,
-        Kind::Letter => &SWIFT_1_LETTER,
-        Kind::Sign => &SWIFT_1_SIGN,
-    }
-}
-
-#[rattlefmt::skip]
-static SWIFT_1_BLANK: [RuleRow; 1] = [
-    rule!(Anywhere, "\n", Extent::Itself, "", &[], Plain, Turn::Leaves),
-];
-
-#[rattlefmt::skip]
-static SWIFT_1_LETTER: [RuleRow; 0] = [
-];
-
-#[rattlefmt::skip]
-static SWIFT_1_SIGN: [RuleRow; 3] = [
-    rule!(Anywhere, "\\\n", Extent::Itself, "", &[], Key, Turn::Stays),
-    rule!(Anywhere, "/*", Extent::ThroughLines(Escape::Never), "*/", &[], Comment, Turn::Stays),
-    rule!(Anywhere, "//", Extent::Line, "", &[], Comment, Turn::Stays),
 ];
 
 fn go_rules(_n: usize, kind: Kind) -> &'static [RuleRow]
@@ -2935,22 +2797,16 @@ static GO_0_SIGN: [RuleRow; 5] = [
     rule!(Anywhere, "'", Extent::Through(Escape::Backslash), "'", &[], Text, Turn::Stays),
 ];
 
-fn protobuf_rules(n: usize, kind: Kind) -> &'static [RuleRow]
-    ensures { map rule_of result.now ≡ filter (may_begin kind) (protobuf_rules n) }
+fn protobuf_rules(_n: usize, kind: Kind) -> &'static [RuleRow]
+    ensures { map rule_of result.now ≡ filter (may_begin kind) (protobuf_rules _n) }
 {
-    match n {
-        1 => protobuf_rules_1(kind),
-        _ => protobuf_rules_0(kind),
-    }
+    protobuf_rules_0(kind)
 }
 
-fn protobuf_mode(n: usize) -> ModeRow
-    ensures { mode_of result ≡ protobuf_mode n }
+fn protobuf_mode(_n: usize) -> ModeRow
+    ensures { mode_of result ≡ protobuf_mode _n }
 {
-    match n {
-        1 => protobuf_1(),
-        _ => protobuf_0(),
-    }
+    protobuf_0()
 }
 
 fn protobuf_0() -> ModeRow
@@ -2993,47 +2849,6 @@ static PROTOBUF_0_SIGN: [RuleRow; 4] = [
     rule!(Anywhere, "/*", Extent::ThroughLines(Escape::Never), "*/", &[], Comment, Turn::Stays),
     rule!(Anywhere, "\"", Extent::Through(Escape::Backslash), "\"", &[], Text, Turn::Stays),
     rule!(Anywhere, "'", Extent::Through(Escape::Backslash), "'", &[], Text, Turn::Stays),
-];
-
-fn protobuf_1() -> ModeRow
-    ensures { mode_of result ≡ protobuf_1 }
-{
-    ModeRow {
-        words: Words::NoWords,
-        starts: "",
-        more: "",
-        otherwise: Class::Key,
-        members: true,
-        capitals: false,
-        numbers: false,
-        folds: false,
-    }
-}
-
-fn protobuf_rules_1(kind: Kind) -> &'static [RuleRow]
-    ensures { map rule_of result.now ≡ filter (may_begin kind) protobuf_rules_1 }
-{
-    match kind {
-        Kind::Blank => &PROTOBUF_1_BLANK,
-        Kind::Letter => &PROTOBUF_1_LETTER,
-        Kind::Sign => &PROTOBUF_1_SIGN,
-    }
-}
-
-#[rattlefmt::skip]
-static PROTOBUF_1_BLANK: [RuleRow; 1] = [
-    rule!(Anywhere, "\n", Extent::Itself, "", &[], Plain, Turn::Leaves),
-];
-
-#[rattlefmt::skip]
-static PROTOBUF_1_LETTER: [RuleRow; 0] = [
-];
-
-#[rattlefmt::skip]
-static PROTOBUF_1_SIGN: [RuleRow; 3] = [
-    rule!(Anywhere, "\\\n", Extent::Itself, "", &[], Key, Turn::Stays),
-    rule!(Anywhere, "/*", Extent::ThroughLines(Escape::Never), "*/", &[], Comment, Turn::Stays),
-    rule!(Anywhere, "//", Extent::Line, "", &[], Comment, Turn::Stays),
 ];
 
 fn php_rules(n: usize, kind: Kind) -> &'static [RuleRow]
@@ -3291,7 +3106,7 @@ static RUBY_0_BLANK: [RuleRow; 0] = [
 #[rattlefmt::skip]
 static RUBY_0_LETTER: [RuleRow; 2] = [
     rule!(FirstByte, "__END__", Extent::ThroughLines(Escape::Never), "\0", &[], Comment, Turn::Stays),
-    rule!(Apart, "", Extent::Word, "", &[": ", ":\n"], Text, Turn::Stays),
+    rule!(Apart, "", Extent::Word, ":", &[": ", ":\n"], Text, Turn::Stays),
 ];
 
 #[rattlefmt::skip]
@@ -3319,7 +3134,7 @@ static RUBY_0_SIGN: [RuleRow; 25] = [
     rule!(Anywhere, "%r{", Extent::ThroughLines(Escape::Backslash), "}", &[], Text, Turn::Stays),
     rule!(Anywhere, "%{", Extent::ThroughLines(Escape::Backslash), "}", &[], Text, Turn::Stays),
     rule!(Anywhere, "%(", Extent::ThroughLines(Escape::Backslash), ")", &[], Text, Turn::Stays),
-    rule!(Apart, "", Extent::Word, "", &[": ", ":\n"], Text, Turn::Stays),
+    rule!(Apart, "", Extent::Word, ":", &[": ", ":\n"], Text, Turn::Stays),
     rule!(Value, "/", Extent::Through(Escape::Backslash), "/", &[], Text, Turn::Stays),
 ];
 
@@ -3395,7 +3210,7 @@ static RUBY_2_BLANK: [RuleRow; 0] = [
 #[rattlefmt::skip]
 static RUBY_2_LETTER: [RuleRow; 2] = [
     rule!(FirstByte, "__END__", Extent::ThroughLines(Escape::Never), "\0", &[], Comment, Turn::Stays),
-    rule!(Apart, "", Extent::Word, "", &[": ", ":\n"], Text, Turn::Stays),
+    rule!(Apart, "", Extent::Word, ":", &[": ", ":\n"], Text, Turn::Stays),
 ];
 
 #[rattlefmt::skip]
@@ -3424,7 +3239,7 @@ static RUBY_2_SIGN: [RuleRow; 26] = [
     rule!(Anywhere, "%r{", Extent::ThroughLines(Escape::Backslash), "}", &[], Text, Turn::Stays),
     rule!(Anywhere, "%{", Extent::ThroughLines(Escape::Backslash), "}", &[], Text, Turn::Stays),
     rule!(Anywhere, "%(", Extent::ThroughLines(Escape::Backslash), ")", &[], Text, Turn::Stays),
-    rule!(Apart, "", Extent::Word, "", &[": ", ":\n"], Text, Turn::Stays),
+    rule!(Apart, "", Extent::Word, ":", &[": ", ":\n"], Text, Turn::Stays),
     rule!(Value, "/", Extent::Through(Escape::Backslash), "/", &[], Text, Turn::Stays),
 ];
 
@@ -3534,7 +3349,7 @@ static PERL_0_LETTER: [RuleRow; 60] = [
 ];
 
 #[rattlefmt::skip]
-static PERL_0_SIGN: [RuleRow; 29] = [
+static PERL_0_SIGN: [RuleRow; 28] = [
     rule!(FirstByte, "#!", Extent::Line, "", &[], Comment, Turn::Stays),
     rule!(FirstByte, "=head", Extent::ThroughLines(Escape::Never), "\n=cut", &[], Comment, Turn::Stays),
     rule!(FirstByte, "=pod", Extent::ThroughLines(Escape::Never), "\n=cut", &[], Comment, Turn::Stays),
@@ -3554,7 +3369,6 @@ static PERL_0_SIGN: [RuleRow; 29] = [
     rule!(Anywhere, "$", Extent::Word, "", &[], Key, Turn::Stays),
     rule!(Anywhere, "@", Extent::Word, "", &[], Key, Turn::Stays),
     rule!(Apart, "%", Extent::Word, "", &[], Key, Turn::Stays),
-    rule!(Anywhere, "$", Extent::Itself, "", &[], Key, Turn::Stays),
     rule!(Anywhere, "$&", Extent::Itself, "", &[], Key, Turn::Stays),
     rule!(Anywhere, "$@", Extent::Itself, "", &[], Key, Turn::Stays),
     rule!(Anywhere, "$!", Extent::Itself, "", &[], Key, Turn::Stays),
@@ -3563,7 +3377,7 @@ static PERL_0_SIGN: [RuleRow; 29] = [
     rule!(Anywhere, "$,", Extent::Itself, "", &[], Key, Turn::Stays),
     rule!(Anywhere, "$;", Extent::Itself, "", &[], Key, Turn::Stays),
     rule!(Anywhere, "$.", Extent::Itself, "", &[], Key, Turn::Stays),
-    rule!(Anywhere, "$0", Extent::Itself, "", &[], Key, Turn::Stays),
+    rule!(Anywhere, "$", Extent::Itself, "", &[], Key, Turn::Stays),
 ];
 
 fn lua_rules(_n: usize, kind: Kind) -> &'static [RuleRow]
@@ -3732,21 +3546,21 @@ static MAKE_0_BLANK: [RuleRow; 1] = [
 
 #[rattlefmt::skip]
 static MAKE_0_LETTER: [RuleRow; 9] = [
-    rule!(FirstWord, "ifeq", Extent::Line, "", &[], Keyword, Turn::Stays),
-    rule!(FirstWord, "ifneq", Extent::Line, "", &[], Keyword, Turn::Stays),
-    rule!(FirstWord, "ifdef", Extent::Line, "", &[], Keyword, Turn::Stays),
-    rule!(FirstWord, "ifndef", Extent::Line, "", &[], Keyword, Turn::Stays),
-    rule!(FirstWord, "else", Extent::Line, "", &[], Keyword, Turn::Stays),
-    rule!(FirstWord, "endif", Extent::Line, "", &[], Keyword, Turn::Stays),
-    rule!(FirstWord, "include", Extent::Line, "", &[], Keyword, Turn::Stays),
-    rule!(FirstWord, "sinclude", Extent::Line, "", &[], Keyword, Turn::Stays),
+    rule!(FirstWord, "ifeq ", Extent::Line, "", &[], Keyword, Turn::Stays),
+    rule!(FirstWord, "ifneq ", Extent::Line, "", &[], Keyword, Turn::Stays),
+    rule!(FirstWord, "ifdef ", Extent::Line, "", &[], Keyword, Turn::Stays),
+    rule!(FirstWord, "ifndef ", Extent::Line, "", &[], Keyword, Turn::Stays),
+    rule!(FirstWord, "else ", Extent::Line, "", &[], Keyword, Turn::Stays),
+    rule!(FirstWord, "endif ", Extent::Line, "", &[], Keyword, Turn::Stays),
+    rule!(FirstWord, "include ", Extent::Line, "", &[], Keyword, Turn::Stays),
+    rule!(FirstWord, "sinclude ", Extent::Line, "", &[], Keyword, Turn::Stays),
     rule!(FirstByte, "", Extent::UpTo, ":=#$\t ?+\"'", &["=", ":=", "?=", "+=", "::="], Key, Turn::Stays),
 ];
 
 #[rattlefmt::skip]
 static MAKE_0_SIGN: [RuleRow; 25] = [
     rule!(Anywhere, "#", Extent::Line, "", &[], Comment, Turn::Stays),
-    rule!(FirstWord, "-include", Extent::Line, "", &[], Keyword, Turn::Stays),
+    rule!(FirstWord, "-include ", Extent::Line, "", &[], Keyword, Turn::Stays),
     rule!(FirstByte, "", Extent::UpTo, ":=#$\t ?+\"'", &["=", ":=", "?=", "+=", "::="], Key, Turn::Stays),
     rule!(Anywhere, "$(", Extent::Itself, "", &[], Key, Turn::Enters(2)),
     rule!(Anywhere, "${", Extent::Through(Escape::Never), "}", &[], Key, Turn::Stays),
@@ -5179,16 +4993,16 @@ static PHP_WORDS_5: [(&str, Class); 22] = [("array", Class::Keyword), ("break", 
 static PHP_WORDS_6: [(&str, Class); 15] = [("define", Class::Name), ("elseif", Class::Keyword), ("endfor", Class::Keyword), ("global", Class::Keyword), ("header", Class::Name), ("object", Class::Name), ("parent", Class::Keyword), ("printf", Class::Name), ("public", Class::Keyword), ("return", Class::Keyword), ("static", Class::Keyword), ("strlen", Class::Name), ("strpos", Class::Name), ("substr", Class::Name), ("switch", Class::Keyword)];
 
 #[rattlefmt::skip]
-static PHP_WORDS_7: [(&str, Class); 14] = [("__DIR__", Class::Name), ("declare", Class::Keyword), ("default", Class::Keyword), ("defined", Class::Name), ("dirname", Class::Name), ("explode", Class::Name), ("extends", Class::Keyword), ("finally", Class::Keyword), ("foreach", Class::Keyword), ("implode", Class::Name), ("include", Class::Keyword), ("private", Class::Keyword), ("require", Class::Keyword), ("sprintf", Class::Name)];
+static PHP_WORDS_7: [(&str, Class); 14] = [("__dir__", Class::Name), ("declare", Class::Keyword), ("default", Class::Keyword), ("defined", Class::Name), ("dirname", Class::Name), ("explode", Class::Name), ("extends", Class::Keyword), ("finally", Class::Keyword), ("foreach", Class::Keyword), ("implode", Class::Name), ("include", Class::Keyword), ("private", Class::Keyword), ("require", Class::Keyword), ("sprintf", Class::Name)];
 
 #[rattlefmt::skip]
-static PHP_WORDS_8: [(&str, Class); 11] = [("__FILE__", Class::Name), ("__LINE__", Class::Name), ("abstract", Class::Keyword), ("callable", Class::Keyword), ("continue", Class::Keyword), ("endwhile", Class::Keyword), ("function", Class::Keyword), ("in_array", Class::Name), ("is_array", Class::Name), ("iterable", Class::Name), ("readonly", Class::Keyword)];
+static PHP_WORDS_8: [(&str, Class); 11] = [("__file__", Class::Name), ("__line__", Class::Name), ("abstract", Class::Keyword), ("callable", Class::Keyword), ("continue", Class::Keyword), ("endwhile", Class::Keyword), ("function", Class::Keyword), ("in_array", Class::Name), ("is_array", Class::Name), ("iterable", Class::Name), ("readonly", Class::Keyword)];
 
 #[rattlefmt::skip]
-static PHP_WORDS_9: [(&str, Class); 7] = [("__CLASS__", Class::Name), ("endswitch", Class::Keyword), ("insteadof", Class::Keyword), ("interface", Class::Keyword), ("is_string", Class::Name), ("namespace", Class::Keyword), ("protected", Class::Keyword)];
+static PHP_WORDS_9: [(&str, Class); 7] = [("__class__", Class::Name), ("endswitch", Class::Keyword), ("insteadof", Class::Keyword), ("interface", Class::Keyword), ("is_string", Class::Name), ("namespace", Class::Keyword), ("protected", Class::Keyword)];
 
 #[rattlefmt::skip]
-static PHP_WORDS_10: [(&str, Class); 7] = [("__METHOD__", Class::Name), ("array_keys", Class::Name), ("enddeclare", Class::Keyword), ("endforeach", Class::Keyword), ("implements", Class::Keyword), ("instanceof", Class::Keyword), ("preg_match", Class::Name)];
+static PHP_WORDS_10: [(&str, Class); 7] = [("__method__", Class::Name), ("array_keys", Class::Name), ("enddeclare", Class::Keyword), ("endforeach", Class::Keyword), ("implements", Class::Keyword), ("instanceof", Class::Keyword), ("preg_match", Class::Name)];
 
 #[rattlefmt::skip]
 static PHP_WORDS_11: [(&str, Class); 3] = [("array_merge", Class::Name), ("file_exists", Class::Name), ("str_replace", Class::Name)];
@@ -5197,7 +5011,7 @@ static PHP_WORDS_11: [(&str, Class); 3] = [("array_merge", Class::Name), ("file_
 static PHP_WORDS_12: [(&str, Class); 3] = [("class_exists", Class::Name), ("include_once", Class::Keyword), ("require_once", Class::Keyword)];
 
 #[rattlefmt::skip]
-static PHP_WORDS_13: [(&str, Class); 2] = [("__NAMESPACE__", Class::Name), ("method_exists", Class::Name)];
+static PHP_WORDS_13: [(&str, Class); 2] = [("__namespace__", Class::Name), ("method_exists", Class::Name)];
 
 #[rattlefmt::skip]
 static PHP_WORDS_15: [(&str, Class); 2] = [("function_exists", Class::Name), ("property_exists", Class::Name)];

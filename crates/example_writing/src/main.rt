@@ -5,7 +5,7 @@ use markdown_writing::{PageBlock, PagePhrase, markdown_of};
 use std::alloc::{AllocError, Global};
 use std::io::{self, Write};
 
-// A page of a heading, two paragraphs, code, a break and a third paragraph.
+// A page of a heading, two paragraphs, code, a break, a third paragraph and a quote.
 fn page_text<'p>(
     alloc: Global,
     title: &'p [PagePhrase<'p>],
@@ -13,6 +13,7 @@ fn page_text<'p>(
     spans: &'p [PagePhrase<'p>],
     lines: &'p [&'p str],
     item: &'p [PagePhrase<'p>],
+    quote: &'p [PageBlock<'p>],
 ) -> Result<Vec<u8>, AllocError> {
     let page = [
         PageBlock::Heading(1, title),
@@ -21,6 +22,7 @@ fn page_text<'p>(
         PageBlock::Code("rust", lines),
         PageBlock::Break,
         PageBlock::Paragraph(item),
+        PageBlock::Quote(quote),
     ];
     markdown_of(alloc, &page)
 }
@@ -40,7 +42,15 @@ fn main(rt: HostRuntime) -> Result<(), anyhow::Error> {
     ];
     let lines = ["fn main() {}", "```", "    ````"];
     let item = [PagePhrase::Words("- no item")];
-    let text = page_text(rt.alloc(), &title, &marks, &spans, &lines, &item)?;
+    let said = [PagePhrase::Words("> 1. said")];
+    let twice = [PagePhrase::Code("``"), PagePhrase::Words(" twice")];
+    let inner = [PageBlock::Paragraph(&twice)];
+    let quote = [
+        PageBlock::Paragraph(&said),
+        PageBlock::Quote(&inner),
+        PageBlock::Code("", &["let x = 1;", ""]),
+    ];
+    let text = page_text(rt.alloc(), &title, &marks, &spans, &lines, &item, &quote)?;
     io::writer(&rt).write_all(text.as_slice())?;
     Ok(())
 }

@@ -5,4 +5,5 @@ pub mod PagerOrder
 pub mod PagerSteps
 pub mod RoomLemmas
 pub mod ScreenStandLemmas
+pub mod SearchLemmas
 pub mod StepLemmas

@@ -1,5 +1,6 @@
 -- What a session keeps, whatever events say.
 use Rattle.std.proofs.Common.{◌≡◌, ℕ, ◌+◌, ◌-◌, ◌*◌, ◌<◌, ◌==◌, Option, Some, None, inl, inr, Bool, true, false, List, [], ◌∷◌, ◌++◌, take, drop, nat_lt, length, min, refl, ap, sym, ◌∙◌, subst, arith, not, if◌then◌else◌}
+use Rattle.std.specs.Str.{chars}
 use Rattle.std.proofs.lemmas.List.{take-append-drop}
 use Rattle.std.proofs.lemmas.Bool.{cases_eq}
 use Rattle.std.proofs.lemmas.Bool.Decides.{nat_tests}
@@ -38,7 +39,7 @@ use Rattle.mad_pages.specs.declared.paged.PagedPage.{PagedPage}
 use Rattle.mad_page_skin.specs.declared.page_skin.PageSkin.{PageSkin}
 use Rattle.mad_pager.proofs.PagerSteps.{turn_after}
 use Rattle.mad_pager.specs.Screens.{IsFieldInRow, IsOrderly, TakeColumns}
-use Rattle.mad_pager.specs.Sessions.{State, at_found, at_header, begun_search, pasted, pasted_code, seeking, wanted, IsAnyKeyStep, IsFound, IsAsked, IsEventStep, IsKeyStep, IsLaidAnew, IsLaidFor, IsMovedTo, IsResized, IsSettled, IsStart, IsTypeStep, field_row, typed}
+use Rattle.mad_pager.specs.Sessions.{State, at_found, at_header, begun_recall, begun_search, char_key, char_typed, earlier, further_back, pasted, pasted_code, recalled, seeking, text_typed, wanted, IsAnyKeyStep, IsFound, IsAsked, IsEventStep, IsKeyStep, IsLaidAnew, IsLaidFor, IsMovedTo, IsResized, IsSettled, IsStart, IsTypeStep, field_row, typed}
 
 -- ---- what is typed
 
@@ -229,12 +230,25 @@ char_field c key f false is takes h = typed_kept key f (λ d at. let same : Char
 takes_some : (c : ℕ) → (char_columns c == 0) ≡ false → 0 < char_columns c
 takes_some c e = grind (arith, nat_tests)
 
+-- a character that is typed
+char_order : (skin : PageSkin) (text : List (List SectionContent)) (c : ℕ) (key : KeyEvent) (s : State) → key.code ≡ Char c → IsOrderly skin text s → IsOrderly skin text (char_typed c key s)
+char_order skin text c key s is h = kept_order skin text s (char_typed c key s) refl (still s.page) (char_field c key s.field (char_columns c == 0) is (takes_some c) h.field.typed) h
+
+-- and so all of a text
+text_order : (skin : PageSkin) (text : List (List SectionContent)) (cs : List ℕ) (s : State) → IsOrderly skin text s → IsOrderly skin text (text_typed cs s)
+text_order skin text [] s h = h
+text_order skin text (c ∷ cs) s h = text_order skin text cs (char_typed c (char_key c) s) (char_order skin text c (char_key c) s refl h)
+
+-- an earlier text in an empty field
+recalled_order : (skin : PageSkin) (text : List (List SectionContent)) (back : ℕ) (s new : State) → new ≡ recalled back s → IsOrderly skin text s → IsOrderly skin text new
+recalled_order skin text back s new e h =
+    subst (λ (x : State). IsOrderly skin text x) (sym e) (text_order skin text (chars (earlier s.past back)) (begun_recall back s) (record { laid = h.laid; field = record { area = refl; typed = tt } }))
+
 type_order : (skin : PageSkin) (text : List (List SectionContent)) (code : KeyCode) (key : KeyEvent) (s new : State) → key.code ≡ code → IsTypeStep code key s new → IsOrderly skin text s → IsOrderly skin text new
 type_order skin text Enter key s new is step h =
     found_way skin text s.types_back (seeking (wanted s) s) new step (record { laid = h.laid; field = record { area = h.field.area; typed = h.field.typed } })
 type_order skin text Esc key s new is e h = same_order skin text s _ new e refl (still s.page) (stays s.field h.field.typed) h
-type_order skin text (Char c) key s new is e h =
-    same_order skin text s _ new e refl (still s.page) (char_field c key s.field (char_columns c == 0) is (takes_some c) h.field.typed) h
+type_order skin text (Char c) key s new is e h = subst (λ (x : State). IsOrderly skin text x) (sym e) (char_order skin text c key s is h)
 type_order skin text Backspace key s new is e h = other_order skin text Backspace key s new (λ c at. cc) is e h
 type_order skin text Delete key s new is e h = other_order skin text Delete key s new (λ c at. cc) is e h
 type_order skin text Insert key s new is e h = other_order skin text Insert key s new (λ c at. cc) is e h
@@ -242,8 +256,8 @@ type_order skin text Tab key s new is e h = other_order skin text Tab key s new 
 type_order skin text BackTab key s new is e h = other_order skin text BackTab key s new (λ c at. cc) is e h
 type_order skin text Home key s new is e h = other_order skin text Home key s new (λ c at. cc) is e h
 type_order skin text End key s new is e h = other_order skin text End key s new (λ c at. cc) is e h
-type_order skin text Up key s new is e h = other_order skin text Up key s new (λ c at. cc) is e h
-type_order skin text Down key s new is e h = other_order skin text Down key s new (λ c at. cc) is e h
+type_order skin text Up key s new is e h = recalled_order skin text (further_back s) s new e h
+type_order skin text Down key s new is e h = recalled_order skin text (s.back - 1) s new e h
 type_order skin text Left key s new is e h = other_order skin text Left key s new (λ c at. cc) is e h
 type_order skin text Right key s new is e h = other_order skin text Right key s new (λ c at. cc) is e h
 type_order skin text PageUp key s new is e h = other_order skin text PageUp key s new (λ c at. cc) is e h

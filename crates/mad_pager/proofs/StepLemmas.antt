@@ -23,7 +23,8 @@ use Rattle.mad_page.specs.declared.commands.Ask.{Ask}
 use Rattle.mad_page.specs.declared.page.Page.{Page}
 use Rattle.mad_search.specs.Searches.{IsNextRowIn, IsPreviousRowIn}
 use Rattle.mad_pager.specs.Screens.{sought_sign, sought_words}
-use Rattle.mad_pager.specs.Sessions.{State, seeking, IsAsked, IsFound, IsKeyStep, IsLaidAnew, IsLaidFor, IsMovedTo, IsResized, layout_width, paged_skin}
+use Rattle.mad_pager.specs.Sessions.{State, char_key, char_typed, remembered, seeking, state_of, text_typed, HasSameText, IsAsked, IsFound, IsKeyStep, IsLaidAnew, IsLaidFor, IsMovedTo, IsResized, layout_width, paged_skin}
+use Rattle.mad_pager.specs.declared.session.Session.{Session}
 use Rattle.mad_pager.specs.declared.sizes.ScreenSize.{ScreenSize}
 
 -- a key that asks for something
@@ -32,11 +33,24 @@ asked_step key s page ask new same is h =
     subst (λ (a : Ask). IsAsked a (record s { page = (after_key key s.page).page }) new) is (subst (λ (p : Page). IsAsked ask (record s { page = p }) new) same h)
 
 -- what was typed is sought
-pub sought_step : (s new : State) (backward : Bool) (bytes copy text : List ℕ) → bytes ≡ text → copy ≡ bytes
-    → IsFound backward (record s { is_typing = false; sought = bytes; is_backward = s.types_back; last = copy; found = None }) new → IsFound backward (seeking text s) new
-sought_step s new backward bytes copy text e same h =
+pub sought_step : (s mid new : State) (backward : Bool) (bytes word text : List ℕ) → mid ≡ record s { past = remembered word s.past } → bytes ≡ text → word ≡ bytes
+    → IsFound backward (record mid { is_typing = false; sought = bytes; is_backward = s.types_back; found = None }) new → IsFound backward (seeking text s) new
+sought_step s mid new backward bytes word text kept e same h =
     subst (λ (b : List ℕ). IsFound backward (seeking b s) new) e
-    (subst (λ (b : List ℕ). IsFound backward (record s { is_typing = false; sought = bytes; is_backward = s.types_back; last = b; found = None }) new) same h)
+    (subst (λ (m : State). IsFound backward (record m { is_typing = false; sought = bytes; is_backward = s.types_back; found = None }) new) (kept ∙ ap (λ (w : List ℕ). let m : State = record s { past = remembered w s.past } in m) same) h)
+
+-- another character is typed
+typed_more : (cs : List ℕ) (c : ℕ) (s : State) → text_typed (cs ++ c ∷ []) s ≡ char_typed c (char_key c) (text_typed cs s)
+typed_more [] c s = refl
+typed_more (d ∷ ds) c s = typed_more ds c (char_typed d (char_key d) s)
+
+-- a session of the same text in which another character is typed
+pub same_typed : (old mid new : Session) (key : KeyEvent) (cs : List ℕ) (c : ℕ) → key ≡ char_key c → (state_of mid ≡ text_typed cs (state_of old)) × HasSameText old mid → state_of new ≡ char_typed c key (state_of mid) → HasSameText mid new
+    → (state_of new ≡ text_typed (cs ++ c ∷ []) (state_of old)) × HasSameText old new
+same_typed old mid new key cs c is before done same = (
+  done ∙ (ap (λ (k : KeyEvent). char_typed c k (state_of mid)) is ∙ (ap (λ (s : State). char_typed c (char_key c) s) before.0 ∙ sym (typed_more cs c (state_of old)))),
+  record { name = same.name ∙ before.1.name; source = same.source ∙ before.1.source; skin = same.skin ∙ before.1.skin },
+)
 
 -- the next row, along what is equal
 pub same_next : (a b : List ℕ) (l m : List FmtLine) (t u : List ℕ) (from to : ℕ) (row : Option ℕ) → a ≡ b → l ≡ m → t ≡ u → from ≡ to → IsNextRowIn a l t from row → IsNextRowIn b m u to row

@@ -3,4 +3,5 @@ pub mod Pictures
 pub mod Rooms
 pub mod ScreenLaws
 pub mod Screens
+pub mod SearchLaws
 pub mod Sessions

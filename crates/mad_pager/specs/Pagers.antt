@@ -137,7 +137,7 @@ help_lines =
     codes "|=|tells the row, how many there are, and the per cent|" ∷
     codes "|}, ]; {, [|the next header; the one before|" ∷
     codes "|t|the contents: j and k choose a header, Enter goes there|" ∷
-    codes "|/; ?|asks for a text, to seek it on or back: Enter, or Esc|" ∷
+    codes "|/; ?|seeks a text, on or back: Enter, Esc; Up: earlier ones|" ∷
     codes "|n, N|the next row that has it; the one before|" ∷
     codes "|Esc, Alt-U|forgets it|" ∷
     codes "|l|the addresses of the links on the screen|" ∷

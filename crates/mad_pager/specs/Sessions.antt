@@ -1,13 +1,14 @@
 -- A session of the pager: what is shown and sought, and what an event does.
-use Rattle.std.specs.Prelude.{◌≡◌, ◌≢◌, ℕ, ◌+◌, ◌-◌, ◌*◌, ◌^◌, ◌==◌, nat_lt, not, Bool, true, false, List, [], Option, Some, None, length, min, encode_utf8_all, string_bytes, if◌then◌else◌}
+use Rattle.std.specs.Prelude.{◌≡◌, ◌≢◌, ℕ, ◌+◌, ◌-◌, ◌*◌, ◌^◌, ◌==◌, nat_lt, not, Bool, true, false, List, [], ◌∷◌, ◌++◌, map, get_or, Option, Some, None, length, min, encode_utf8_all, string_bytes, if◌then◌else◌}
+use Rattle.std.specs.Str.{bytes_eq, chars}
 use Rattle.mad_characters.specs.Columns.{char_columns}
 use Rattle.mad_sections.specs.Sections.{SectionContent}
 use Rattle.mad_term.specs.declared.events.Event.{Event}
 use Rattle.mad_term.specs.declared.events.Event.TheVariants.{Key, Mouse, Resize}
 use Rattle.mad_term.specs.declared.keys.KeyCode.{KeyCode}
-use Rattle.mad_term.specs.declared.keys.KeyCode.TheVariants.{Char, Enter, Esc}
+use Rattle.mad_term.specs.declared.keys.KeyCode.TheVariants.{Char, Enter, Esc, Up, Down}
 use Rattle.mad_term.specs.declared.keys.KeyEvent.{KeyEvent}
-use Rattle.mad_term.specs.Events.{modifier_bits}
+use Rattle.mad_term.specs.Events.{modifier_bits, no_modifiers}
 use Rattle.mad_measure.specs.declared.area.Area.{Area}
 use Rattle.mad_page_rows.specs.Faces.{has_ascii_boxes}
 use Rattle.mad_pages.specs.PagedPages.{IsPagedAt}
@@ -41,8 +42,9 @@ use Rattle.mad_pager.specs.declared.sizes.ScreenSize.{ScreenSize}
 
 -- ---- what it is of
 
--- What is shown and sought: which row is on top of which page, what is being typed, if it is, and what is sought, each of them backwards or not, and what
--- was sought last. Then which row the last search found, or that it found none, and the size that the terminal told, until the text is laid out for it.
+-- What is shown and sought: which row is on top of which page, what is being typed, if it is, and what is sought, each of them backwards or not. Then what
+-- was sought so far, the first text first, and how far back in that one went while typing; which row the last search found, or that it found none, and the
+-- size that the terminal told, until the text is laid out for it.
 pub record State : Type 0 where
   pub page : Page
   pub laid : PagedPage
@@ -51,7 +53,8 @@ pub record State : Type 0 where
   pub types_back : Bool
   pub sought : List ℕ
   pub is_backward : Bool
-  pub last : List ℕ
+  pub past : List (List ℕ)
+  pub back : ℕ
   pub found : Option ℕ
   pub is_missing : Bool
   pub told : Option ScreenSize
@@ -66,7 +69,8 @@ state_of s = record {
   types_back = s.types_back;
   sought = string_bytes s.sought;
   is_backward = s.is_backward;
-  last = string_bytes s.last;
+  past = map string_bytes s.past.items;
+  back = s.back;
   found = s.found;
   is_missing = s.is_missing;
   told = s.told;
@@ -115,7 +119,8 @@ pub record IsStart (skin : PageSkin) (text : List (List SectionContent)) (column
   pub types_back : s.types_back ≡ false
   pub sought : s.sought ≡ []
   pub is_backward : s.is_backward ≡ false
-  pub last : s.last ≡ []
+  pub past : s.past ≡ []
+  pub back : s.back ≡ 0
   pub found : s.found ≡ None
   pub is_missing : s.is_missing ≡ false
   pub told : s.told ≡ None
@@ -161,7 +166,7 @@ IsFound true s new = (row : Option ℕ) × IsPreviousRowIn s.sought s.laid.lines
 
 -- an empty field is there to type in what is to be sought, backwards or not
 abbrev pub begun_search : Bool → State → State
-begun_search backward s = record s { field = new_field (field_row s.page.columns s.page.rows); is_typing = true; types_back = backward }
+begun_search backward s = record s { field = new_field (field_row s.page.columns s.page.rows); is_typing = true; types_back = backward; back = 0 }
 
 -- What is asked for is done. The next row and the one before are so on the way of the search.
 abbrev pub IsAsked : Ask → State → State → Type 0
@@ -185,13 +190,25 @@ typed key f =
     else if modifier_bits key.modifiers == 1 then (key_outcome key.code true f).field
     else f
 
+-- of what was sought so far the text that was sought so many searches ago, 1 for the last one: for 0, and where none was, no text
+abbrev pub earlier : List (List ℕ) → ℕ → List ℕ
+earlier past back = get_or past (length past - back) []
+
+-- what was sought so far, after another search: the same text twice in a row counts as one
+abbrev pub remembered : List ℕ → List (List ℕ) → List (List ℕ)
+remembered text past = if bytes_eq (earlier past 1) text then past else past ++ text ∷ []
+
+-- how many searches ago the text before the one in the field was sought; where none was before it, that one
+abbrev pub further_back : State → ℕ
+further_back s = min (s.back + 1) (length s.past)
+
 -- what is to be sought: what is typed, or, where nothing is, what was sought last
 abbrev pub wanted : State → List ℕ
-wanted s = if length (encode_utf8_all s.field.content.text) == 0 then s.last else encode_utf8_all s.field.content.text
+wanted s = if length (encode_utf8_all s.field.content.text) == 0 then earlier s.past 1 else encode_utf8_all s.field.content.text
 
 -- this is sought from now on, on the way that was asked for
 abbrev pub seeking : List ℕ → State → State
-seeking text s = record s { is_typing = false; sought = text; is_backward = s.types_back; last = text; found = None }
+seeking text s = record s { is_typing = false; sought = text; is_backward = s.types_back; past = remembered text s.past; found = None }
 
 -- what was typed is sought from now on, and the next row on that way that has it is in sight
 abbrev pub IsSought : State → State → Type 0
@@ -201,10 +218,30 @@ IsSought s new = IsFound s.types_back (seeking (wanted s) s) new
 abbrev pub char_typed : ℕ → KeyEvent → State → State
 char_typed c key s = record s { field = if char_columns c == 0 then s.field else typed key s.field }
 
--- what a key does while something is being typed: Enter seeks it, Esc gives it up, and a character that takes no column is dropped
+-- the key of a character, without modifiers
+abbrev pub char_key : ℕ → KeyEvent
+char_key c = record { code = Char c; modifiers = no_modifiers }
+
+-- characters are typed, one after another
+abbrev pub text_typed : List ℕ → State → State
+text_typed [] s = s
+text_typed (c ∷ cs) s = text_typed cs (char_typed c (char_key c) s)
+
+-- an empty field is there, for the text of so many searches ago
+abbrev pub begun_recall : ℕ → State → State
+begun_recall back s = record s { field = new_field (field_row s.page.columns s.page.rows); back = back }
+
+-- the text of so many searches ago is typed into an empty field
+abbrev pub recalled : ℕ → State → State
+recalled back s = text_typed (chars (earlier s.past back)) (begun_recall back s)
+
+-- what a key does while something is being typed: Enter seeks it, Esc gives it up, Up brings the text that was sought before, and Down the one after it; a
+-- character that takes no column is dropped
 abbrev pub IsTypeStep : KeyCode → KeyEvent → State → State → Type 0
 IsTypeStep Enter key s new = IsSought s new
 IsTypeStep Esc key s new = new ≡ record s { is_typing = false }
+IsTypeStep Up key s new = new ≡ recalled (further_back s) s
+IsTypeStep Down key s new = new ≡ recalled (s.back - 1) s
 IsTypeStep (Char c) key s new = new ≡ char_typed c key s
 IsTypeStep code key s new = new ≡ record s { field = typed key s.field }
 
@@ -238,7 +275,8 @@ pub record IsResized (skin : PageSkin) (text : List (List SectionContent)) (colu
   pub types_back : new.types_back ≡ old.types_back
   pub sought : new.sought ≡ old.sought
   pub is_backward : new.is_backward ≡ old.is_backward
-  pub last : new.last ≡ old.last
+  pub past : new.past ≡ old.past
+  pub back : new.back ≡ old.back
   pub found : new.found ≡ None
   pub is_missing : new.is_missing ≡ old.is_missing
   pub told : new.told ≡ None

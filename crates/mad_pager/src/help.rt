@@ -22,7 +22,7 @@ pub const HELP: &str = "# Keys
 |=|tells the row, how many there are, and the per cent|
 |}, ]; {, [|the next header; the one before|
 |t|the contents: j and k choose a header, Enter goes there|
-|/; ?|asks for a text, to seek it on or back: Enter, or Esc|
+|/; ?|seeks a text, on or back: Enter, Esc; Up: earlier ones|
 |n, N|the next row that has it; the one before|
 |Esc, Alt-U|forgets it|
 |l|the addresses of the links on the screen|

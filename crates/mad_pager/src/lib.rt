@@ -8,7 +8,7 @@
 //! 4. [`places`]: where all is on the screen; [`status`]: its last row.
 //! 5. [`picture`]: bytes that are drawn in memory; [`drawing`]: the whole screen.
 //! 6. [`help`]: the page of help; [`pager`]: a text, and a page over it while one is open.
-//! 7. [`laws`]: what marking hits changes.
+//! 7. [`laws`]: what marking hits changes, and what Up brings.
 #![tactic(auto)]
 
 mod drawing;

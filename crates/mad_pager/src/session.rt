@@ -106,8 +106,10 @@ pub struct Session<'s> {
     pub sought: String,
     /// Whether it is sought backwards.
     pub is_backward: bool,
-    /// What was sought last, also where it was forgotten.
-    pub last: String,
+    /// What was sought so far, also where it was forgotten. The last search is the last of it.
+    pub past: Vec<String>,
+    /// How many searches ago the text was sought that Up and Down brought into the field; 0 for none.
+    pub back: usize,
     /// The row that the last search found. None, where it found none, or the text was laid out anew.
     pub found: Option<usize>,
     /// Whether the last search found no row.
@@ -160,7 +162,8 @@ impl<'s> Session<'s> {
             types_back: false,
             sought: String::new(alloc),
             is_backward: false,
-            last: String::new(alloc),
+            past: Vec::new(alloc),
+            back: 0,
             found: None,
             is_missing: false,
             told: None,

@@ -1,7 +1,7 @@
 //! What is typed to be sought.
 
-ghost use Rattle.std.specs.Prelude.{◌≡◌, IfOk, OnOk, string_bytes, encode_utf8_all};
-ghost use Rattle.mad_pager.specs.Sessions.{begun_search, char_typed, pasted, pasted_code, state_of, typed, wanted, HasSameText, IsSought, IsTypeStep};
+ghost use Rattle.std.specs.Prelude.{◌≡◌, IfOk, OnOk, chars, string_bytes, encode_utf8_all};
+ghost use Rattle.mad_pager.specs.Sessions.{begun_recall, begun_search, char_key, char_typed, earlier, further_back, pasted, pasted_code, recalled, remembered, state_of, text_typed, typed, wanted, HasSameText, IsSought, IsTypeStep};
 
 use crate::places::field_row;
 use crate::session::Session;
@@ -20,10 +20,12 @@ impl Session<'_> {
         self.field = field;
         self.is_typing = true;
         self.types_back = backward;
+        self.back = 0;
         Ok(())
     }
 
-    // Does what a key says while something is being typed: Enter seeks it, Esc gives it up. A character that takes no column is dropped.
+    // Does what a key says while something is being typed: Enter seeks it, Esc gives it up, Up and Down bring what was sought before. A character that takes
+    // no column is dropped.
     pub(crate) fn type_key(&mut self, alloc: Global, key: KeyEvent) -> Result<(), AllocError>
         ensures step { OnOk result (IsTypeStep key.code key (state_of self.old) (state_of self.new)) }
         ensures text { OnOk result (HasSameText self.old self.new) }
@@ -33,6 +35,14 @@ impl Session<'_> {
             KeyCode::Esc => {
                 self.is_typing = false;
                 Ok(())
+            }
+            KeyCode::Up => {
+                let back = self.further_back();
+                self.recall(alloc, back)
+            }
+            KeyCode::Down => {
+                let back = self.back.saturating_sub(1);
+                self.recall(alloc, back)
             }
             KeyCode::Char(c) => self.type_char(c, key),
             _ => self.edit(key),
@@ -83,9 +93,8 @@ impl Session<'_> {
     {
         let backward = self.types_back;
         let sought = self.wanted(alloc)?;
-        let last = copy_of(alloc, sought.as_str())?;
+        self.remember(alloc, sought.as_str())?;
         self.sought = sought;
-        self.last = last;
         self.is_backward = backward;
         self.found = None;
         self.is_typing = false;
@@ -99,9 +108,71 @@ impl Session<'_> {
     {
         let typed = self.typed_text()?;
         if typed.is_empty() {
-            return copy_of(alloc, self.last.as_str());
+            return copy_of(alloc, self.earlier(1));
         }
         Ok(typed)
+    }
+
+    // The text that was sought so many searches ago, 1 for the last one: for 0, and where none was, no text.
+    fn earlier(&self, back: usize) -> &str
+        ensures { result.now ≡ earlier (state_of self.now).past back }
+    {
+        match self.past.get(self.past.len().saturating_sub(back)) {
+            Some(text) => text.as_str(),
+            None => "",
+        }
+    }
+
+    // How many searches ago the text before the one in the field was sought; where none was before it, that one.
+    fn further_back(&self) -> usize
+        ensures { result ≡ further_back (state_of self.now) }
+    {
+        self.back.saturating_add(1).min(self.past.len())
+    }
+
+    // Keeps what is sought from now on. The same text twice in a row counts as one.
+    fn remember(&mut self, alloc: Global, text: &str) -> Result<(), AllocError>
+        ensures done { OnOk result (state_of self.new ≡ record (state_of self.old) { past = remembered text.now (state_of self.old).past }) }
+        ensures text { OnOk result (HasSameText self.old self.new) }
+    {
+        if self.earlier(1) == text {
+            return Ok(());
+        }
+        let copy = copy_of(alloc, text)?;
+        self.past.push(copy)?;
+        Ok(())
+    }
+
+    // Types the text of so many searches ago into an empty field.
+    fn recall(&mut self, alloc: Global, back: usize) -> Result<(), AllocError>
+        ensures done { OnOk result (state_of self.new ≡ recalled back (state_of self.old)) }
+        ensures text { OnOk result (HasSameText self.old self.new) }
+    {
+        let text = copy_of(alloc, self.earlier(back))?;
+        self.begin_recall(alloc, back)?;
+        self.type_text(text.as_str())
+    }
+
+    // An empty field is there, for the text of so many searches ago.
+    fn begin_recall(&mut self, alloc: Global, back: usize) -> Result<(), AllocError>
+        ensures done { OnOk result (state_of self.new ≡ begun_recall back (state_of self.old)) }
+        ensures text { OnOk result (HasSameText self.old self.new) }
+    {
+        let field = InputField::new(alloc, field_row(self.page.columns, self.page.rows))?;
+        self.field = field;
+        self.back = back;
+        Ok(())
+    }
+
+    // Types characters, one after another.
+    fn type_text(&mut self, text: &str) -> Result<(), AllocError>
+        ensures done { OnOk result (state_of self.new ≡ text_typed (chars text.now) (state_of self.old)) }
+        ensures text { OnOk result (HasSameText self.old self.new) }
+    {
+        for c in text.chars() {
+            self.type_char(c, char_key(c))?;
+        }
+        Ok(())
     }
 
     // What is typed so far.
@@ -125,6 +196,16 @@ impl Session<'_> {
             return Ok(());
         }
         Ok(())
+    }
+}
+
+// The key of a character, without modifiers.
+fn char_key(c: char) -> KeyEvent
+    ensures { result ≡ char_key c }
+{
+    KeyEvent {
+        code: KeyCode::Char(c),
+        modifiers: KeyModifiers::NONE,
     }
 }
 

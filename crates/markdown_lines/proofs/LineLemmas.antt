@@ -105,6 +105,10 @@ row_pushed all more whole lines style start count now held is s e now_is =
     ∙ ap (λ (ls : List LineContent). ls ++ normal (record { style = style; runs = take count (drop start whole) }) ∷ []) (ap (λ (w : List Run). lines_said w lines) is ∙ lines_same all more lines held)
     ∙ ap (λ (rs : List Run). lines_said all lines ++ normal (record { style = style; runs = rs }) ∷ []) (range_new all more whole start count is s e)
 
+-- a range up to the last run
+pub range_end : (all : List Run) (start count : ℕ) → count ≡ length all - start → take count (drop start all) ≡ drop start all
+range_end all start count e = take_all count (drop start all) (omega (arith, e, length-drop start all))
+
 -- as many lines are said as there are
 pub count_lines : (all : List Run) (lines : List MarkdownLine) → length (lines_said all lines) ≡ length lines
 unfolding lines_said

@@ -49,7 +49,7 @@ boundary_by text more at false e utf8 h =
     let end : length text ≡ at = (let l : length text ≤ at = grind (arith, nat_tests) in omega (arith, l, h.0)) in
     let P : ℕ → Type 0 = λ n. IsCharBoundary (text ++ more) n in Rattle.std.proofs.Common.subst P end (IsCharBoundary-at_seam (text ++ more) text more refl utf8)
 
-boundary_grows : (text more : List ℕ) (at : ℕ) → IsUtf8 more → IsCharBoundary text at → IsCharBoundary (text ++ more) at
+pub boundary_grows : (text more : List ℕ) (at : ℕ) → IsUtf8 more → IsCharBoundary text at → IsCharBoundary (text ++ more) at
 boundary_grows text more at = boundary_by text more at (nat_lt at (length text)) refl
 
 border_grows : (text more : List ℕ) (at : ℕ) → IsUtf8 more → is_border text at ≡ true → is_border (text ++ more) at ≡ true
@@ -75,7 +75,7 @@ all_grow text more (place ∷ places) utf8 e =
     ap (λ (b : Bool). b && list_all (is_bordered (text ++ more)) places) here ∙ others
 
 -- a slice of a text that grows
-slice_same : (text more : List ℕ) (start end : ℕ) → start ≤ end → end ≤ length text → slice_range (text ++ more) start end ≡ slice_range text start end
+pub slice_same : (text more : List ℕ) (start end : ℕ) → start ≤ end → end ≤ length text → slice_range (text ++ more) start end ≡ slice_range text start end
 slice_same text more start end order within =
     ap (take (end - start)) (drop-append-le start text more (omega arith))
     ∙ take-append-le (end - start) (drop start text) more (omega (arith, length-drop start text))

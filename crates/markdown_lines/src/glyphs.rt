@@ -19,7 +19,7 @@ pub struct Glyph {
 }
 
 // A character of this look, bold where all are. Where it belongs to a link, it has that flag and the link's number.
-fn glyph_of(bold: bool, look: &Look, c: char) -> Glyph
+pub(crate) fn glyph_of(bold: bool, look: &Look, c: char) -> Glyph
     ensures { result ≡ glyph_of bold (shown_with look.now c) }
 {
     Glyph {

@@ -1,9 +1,9 @@
 //! What is shown of a leaf's text.
 
-ghost use Rattle.std.specs.Prelude.{◌≡◌, ◌+◌, [], ◌∷◌, ◌++◌, IfOk, OnOk, IsTrue, false, length, map, string_bytes};
+ghost use Rattle.std.specs.Prelude.{◌≡◌, ◌<◌, ◌+◌, [], ◌∷◌, ◌++◌, IfOk, OnOk, IsTrue, false, length, map, string_bytes};
 ghost use Rattle.markdown_inlines.specs.Styled.{spelled_of, IsStyled};
 ghost use Rattle.markdown_lines.specs.Glyphs.{glyph_of, trimmed};
-ghost use Rattle.markdown_lines.specs.OneRow.{IsUnmarked, HasNoBreak, AreNoSpaces};
+ghost use Rattle.markdown_lines.specs.CutRows.{is_blank, IsAlone, IsNeat, whole_row, cut_rows, cut_numbers};
 ghost use Rattle.markdown_lines.specs.Leaf.{shown_text, plain_row, row_of, rows_of, leaf_rows, cell_runs, html_row, html_lines};
 ghost use Rattle.markdown_lines.specs.LinkNumbers.{after_links, cell_numbers, leaf_numbers, row_numbers, rows_numbers};
 ghost use Rattle.markdown_lines.specs.Links.{leaf_addresses};
@@ -19,7 +19,6 @@ use crate::runs::Runs;
 use mad_md::CompositeStyle;
 use markdown_html_text::rows::html_rows;
 use markdown_inlines::inlines::leaf_text;
-use markdown_inlines::looks::Look;
 use markdown_inlines::printable::shown_char;
 use markdown_inlines::styled::Styled;
 use memchr::memchr;
@@ -88,48 +87,51 @@ pub struct Leaf {
     pub numbers: Vec<usize>,
 }
 
-// Whether nothing is seen of a look.
-fn is_unmarked(look: &Look) -> bool
-    ensures { IsTrue result → IsUnmarked look.now }
+// Whether it is a space or a break.
+fn is_blank(byte: u8) -> bool
+    ensures { result ≡ is_blank byte }
 {
-    !look.bold && !look.italic && !look.code && !look.strikeout && look.link.is_none()
+    byte == b' ' || byte == b'\n'
 }
 
-// Whether a text has no breaks.
-fn is_unbroken(text: &str) -> bool
-    ensures { IsTrue result → HasNoBreak text.now }
+// Whether the bytes beside a place of a text are no blanks.
+fn is_alone(text: &[u8], at: usize) -> bool
+    requires { at < length text.now }
+    ensures { IsTrue result → IsAlone text.now at }
 {
-    memchr(b'\n', text.as_bytes()).is_none()
+    at > 0 && at + 1 < text.len() && !is_blank(text[at - 1]) && !is_blank(text[at + 1])
 }
 
-// Whether a text has something but a space at both of its ends.
-fn is_trimmed(text: &[u8]) -> bool
-    ensures { IsTrue result → AreNoSpaces text.now }
+// Whether no row of a text begins or ends with a blank.
+fn is_neat(text: &[u8]) -> bool
+    ensures { IsTrue result → IsNeat text.now }
 {
     if text.is_empty() {
         return false;
     }
-    text[0] != b' ' && text[text.len() - 1] != b' '
+    if is_blank(text[0]) {
+        return false;
+    }
+    if is_blank(text[text.len() - 1]) {
+        return false;
+    }
+    let mut from = 0;
+    while let Some(skip) = memchr(b'\n', &text[from..]) {
+        if !is_alone(text, from + skip) {
+            return false;
+        }
+        from += skip + 1;
+    }
+    true
 }
 
-// Whether a text is one row without flags.
-fn is_one_row(styled: &Styled) -> bool
+// Whether the rows of a text are those that breaks cut, and nothing is trimmed.
+fn is_cut(styled: &Styled) -> bool
     requires { IsStyled styled.now }
-    ensures row { IsTrue result → rows_of (trimmed (map (glyph_of false) (spelled_of styled.now))) ≡ plain_row (string_bytes styled.now.text) ∷ [] }
-    ensures none { IsTrue result → rows_numbers (trimmed (map (glyph_of false) (spelled_of styled.now))) ≡ [] }
+    ensures rows { IsTrue result → rows_of (trimmed (map (glyph_of false) (spelled_of styled.now))) ≡ map whole_row (cut_rows (map (glyph_of false) (spelled_of styled.now))) }
+    ensures numbers { IsTrue result → rows_numbers (trimmed (map (glyph_of false) (spelled_of styled.now))) ≡ cut_numbers (cut_rows (map (glyph_of false) (spelled_of styled.now))) }
 {
-    if styled.runs.as_slice().len() != 1 {
-        return false;
-    }
-    let run = styled.runs[0];
-    if !is_unmarked(&run.look) {
-        return false;
-    }
-    let text = styled.text.as_str();
-    if !is_trimmed(text.as_bytes()) {
-        return false;
-    }
-    is_unbroken(text)
+    is_neat(styled.text.as_str().as_bytes())
 }
 
 // The rows of what is shown of a leaf. It also adds the numbers of their links.
@@ -142,9 +144,9 @@ fn styled_rows(
     ensures rows { IfOk result (λ rows. shown rows ≡ rows_of (trimmed (map (glyph_of false) (spelled_of styled.now)))) }
     ensures numbers { OnOk result (numbers.new.items ≡ numbers.old.items ++ rows_numbers (trimmed (map (glyph_of false) (spelled_of styled.now)))) }
 {
-    if is_one_row(styled) {
+    if is_cut(styled) {
         let mut rows = Lines::new(alloc);
-        rows.push_text(CompositeStyle::Paragraph, styled.text.as_str())?;
+        rows.push_styled(numbers, styled)?;
         return Ok(rows);
     }
     let glyphs = glyphs_of(alloc, false, styled)?;

@@ -1,7 +1,7 @@
 //! Lines of runs.
 
 ghost use Rattle.std.specs.Prelude.{◌≡◌, ◌≤◌, ◌+◌, ◌==◌, true, [], ◌∷◌, ◌++◌, IfOk, OnOk, map, length, false, string_bytes};
-ghost use Rattle.markdown_lines.specs.Glyphs.{runs_of};
+ghost use Rattle.markdown_lines.specs.Glyphs.{glyph_of, runs_of};
 ghost use Rattle.markdown_lines.specs.Leaf.{cell_runs};
 ghost use Rattle.markdown_lines.specs.LinkNumbers.{after_links, cell_numbers};
 ghost use Rattle.markdown_lines.specs.TableNumbers.{cells_numbers};
@@ -10,6 +10,10 @@ ghost use Rattle.markdown_lines.specs.Tables.{cells, cells_addresses};
 ghost use Rattle.markdown_lines.specs.Links.{leaf_addresses};
 ghost use Rattle.markdown_lines.specs.LinksOf.{defined_of};
 ghost use Rattle.markdown_lines.specs.Lines.{line_said, range_of, line_within, all_within};
+ghost use Rattle.std.specs.Prelude.{List, chars, drop};
+ghost use Rattle.markdown_inlines.specs.Styled.{spelled_of, IsStyled};
+ghost use Rattle.markdown_lines.specs.CutRows.{like, cut_rows, runs_row, whole_row, begun_rows, cut_numbers, piece_runs, piece_numbers, end_before, BeginsApart};
+ghost use Rattle.markdown_lines.specs.declared.glyphs.Glyph.{Glyph};
 ghost use Rattle.markdown_lines.specs.Restyled.{restyled};
 ghost use Rattle.markdown_lines.specs.Printed.{ArePrinted};
 ghost use Rattle.markdown_lines.specs.Said.{said, range_said};
@@ -17,14 +21,17 @@ ghost use Rattle.markdown_lines.specs.Steady.{steady_lines, AreSteadyLines};
 ghost use Rattle.mad_md.specs.Flagged.{unflagged};
 ghost use Rattle.mad_md.specs.Lines.{content_of, normal, table_row, table_rule, horizontal_rule};
 
-use crate::glyphs::Glyph;
+use crate::glyphs::{Glyph, glyph_of};
 use crate::leaf::read_cell;
 use crate::links::Definitions;
+use crate::numbers::push_number;
 use crate::places::{RunFlags, RunRange};
 use crate::runs::Runs;
 use crate::text::make_line;
 use mad_md::{Alignment, CompositeStyle, Line};
 use markdown_cells::cells::{after_cell, cell_of, cell_text};
+use markdown_inlines::styled::Styled;
+use memchr::memchr;
 use std::alloc::{AllocError, Global};
 
 /// A line, and its runs.
@@ -84,6 +91,17 @@ fn range_of(line: &MarkdownLine) -> RunRange
     }
 }
 
+// Where the run before the one of this number ends.
+fn end_of(styled: &Styled, index: usize) -> usize
+    ensures { result ≡ end_before (drop index styled.now.runs.items) (string_bytes styled.now.text) }
+{
+    if index < styled.runs.as_slice().len() {
+        styled.runs[index].start
+    } else {
+        styled.text.len()
+    }
+}
+
 impl Lines {
     ghost use Rattle.markdown_lines.specs.Shown.{shown};
 
@@ -130,6 +148,90 @@ impl Lines {
         self.runs.push_glyphs(alloc, glyphs)?;
         let count = self.runs.count() - start;
         self.add_line(MarkdownLine::Normal(CompositeStyle::Paragraph, RunRange { start, count }))?;
+        Ok(())
+    }
+
+    // Adds a run that looks like a character, and the number of its link; nothing where its text is empty.
+    #[tactic(auto, using(crate::proofs::NumberLemmas::after_none))]
+    fn push_piece(
+        &mut self,
+        numbers: &mut Vec<usize>,
+        glyph: Glyph,
+        text: &str,
+    ) -> Result<(), AllocError>
+        ensures lines { OnOk result (shown self.new ≡ shown self.old) }
+        ensures runs { OnOk result (said self.new.runs ≡ said self.old.runs ++ piece_runs glyph text.now) }
+        ensures numbers { OnOk result (numbers.new.items ≡ numbers.old.items ++ piece_numbers glyph text.now) }
+    {
+        if text.is_empty() {
+            return Ok(());
+        }
+        push_number(numbers, 0, glyph.link)?;
+        self.runs.push(glyph.flags, text)?;
+        Ok(())
+    }
+
+    // Ends the row whose runs begin at this number. Says at which one those of the next row begin.
+    fn end_row(&mut self, start: usize) -> Result<usize, AllocError>
+        requires { start ≤ length (said self.old.runs) }
+        ensures row { OnOk result (shown self.new ≡ shown self.old ++ runs_row (drop start (said self.old.runs)) ∷ []) }
+        ensures runs { OnOk result (said self.new.runs ≡ said self.old.runs) }
+        ensures next { IfOk result (λ next. next ≡ length (said self.old.runs)) }
+    {
+        let end = self.runs.count();
+        let count = end - start;
+        self.lines.push(MarkdownLine::Normal(
+            CompositeStyle::Paragraph,
+            RunRange { start, count },
+        ))?;
+        Ok(end)
+    }
+
+    // Adds a text that looks like a character to a row whose runs begin at this number: breaks cut it. Says at which one those of the last row begin.
+    fn push_stretch(
+        &mut self,
+        numbers: &mut Vec<usize>,
+        start: usize,
+        glyph: Glyph,
+        text: &str,
+    ) -> Result<usize, AllocError>
+        requires { start ≤ length (said self.old.runs) }
+        ensures next { IfOk result (λ next. next ≤ length (said self.new.runs)) }
+        ensures rows { IfOk result (λ next. (rest : List Glyph) → BeginsApart glyph rest → shown self.new ++ begun_rows (drop next (said self.new.runs)) (cut_rows rest) ≡ shown self.old ++ begun_rows (drop start (said self.old.runs)) (cut_rows (map (like glyph) (chars text.now) ++ rest))) }
+        ensures numbers { OnOk result ((rest : List Glyph) → BeginsApart glyph rest → numbers.new.items ++ cut_numbers (cut_rows rest) ≡ numbers.old.items ++ cut_numbers (cut_rows (map (like glyph) (chars text.now) ++ rest))) }
+    {
+        let mut from = start;
+        let mut rest = text;
+        while let Some(at) = memchr(b'\n', rest.as_bytes()) {
+            self.push_piece(numbers, glyph, &rest[..at])?;
+            from = self.end_row(from)?;
+            rest = &rest[at + 1..];
+        }
+        self.push_piece(numbers, glyph, rest)?;
+        Ok(from)
+    }
+
+    /// Adds a paragraph's line for each row of a text of runs.
+    pub(crate) fn push_styled(
+        &mut self,
+        numbers: &mut Vec<usize>,
+        styled: &Styled,
+    ) -> Result<(), AllocError>
+        requires { IsStyled styled.now }
+        ensures rows { OnOk result (shown self.new ≡ shown self.old ++ map whole_row (cut_rows (map (glyph_of false) (spelled_of styled.now)))) }
+        ensures numbers { OnOk result (numbers.new.items ≡ numbers.old.items ++ cut_numbers (cut_rows (map (glyph_of false) (spelled_of styled.now)))) }
+    {
+        let mut start = self.runs.count();
+        let mut index = 0;
+        while index < styled.runs.as_slice().len() {
+            let run = styled.runs[index];
+            let end = end_of(styled, index + 1);
+            let glyph = glyph_of(false, &run.look, ' ');
+            let text = &styled.text.as_str()[run.start..end];
+            start = self.push_stretch(numbers, start, glyph, text)?;
+            index += 1;
+        }
+        self.end_row(start)?;
         Ok(())
     }
 

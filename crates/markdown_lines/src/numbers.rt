@@ -21,7 +21,7 @@ pub(crate) fn sum(a: usize, b: usize) -> Result<usize, AllocError>
 }
 
 // Adds the number of a link, if there is one, which comes after so many others.
-fn push_number(
+pub(crate) fn push_number(
     numbers: &mut Vec<usize>,
     before: usize,
     link: Option<usize>,

@@ -15,12 +15,12 @@ use Rattle.markdown_leaves.specs.Gather.{Gathering, closed, line_done, trimmed}
 use Rattle.markdown_leaves.specs.Parts.{PartContent, block}
 use Rattle.markdown_leaves.specs.declared.parts.Kind.TheVariants.{Fenced}
 use Rattle.markdown_laws.specs.Fences.{BeginsCode, is_inside}
-use Rattle.markdown_laws.proofs.FenceLemmas.{begun_code, closes, ended, not_closing, open_fence, stays, taken}
-use Rattle.markdown_part_laws.proofs.ParagraphLemmas.{after_line, line_read, outside_of}
+use Rattle.markdown_laws.proofs.FenceLemmas.{begun_code, closes, not_closing, open_fence, stays, taken}
+use Rattle.markdown_part_laws.proofs.ParagraphLemmas.{after_line, outside_of}
 use Rattle.markdown_writing.specs.Pages.{longest, longest_from, ticks_in}
 use Rattle.markdown_writing.specs.Phrases.{fence}
 use Rattle.markdown_writing.specs.Writable.{is_line}
-use Rattle.markdown_writing.proofs.ParagraphLemmas.{told_of}
+use Rattle.markdown_writing.proofs.ParagraphLemmas.{finished, line_went, told_of}
 use Rattle.markdown_writing.proofs.WordLemmas.{by_test, is_false}
 
 -- ---- the fence
@@ -213,15 +213,15 @@ unfolding line_done closed
 end_after text parts apart lines = refl
 
 lines_told : (length : ℕ) (parts : List PartContent) (apart : Bool) (before : List Remaining) (lines others : List (List ℕ)) → list_all (is_inside 96 length) lines ≡ true
-    → ended (code_in parts apart before) (events_from (open_fence 96 length 0) (lines ++ others)) ≡ ended (code_in parts apart (before ++ map (taken 0) lines)) (events_from (open_fence 96 length 0) others)
-lines_told length parts apart before [] others h = ap (λ (ls : List Remaining). ended (code_in parts apart ls) (events_from (open_fence 96 length 0) others)) (sym (append-nil before))
+    → finished (code_in parts apart before) (events_from (open_fence 96 length 0) (lines ++ others)) ≡ finished (code_in parts apart (before ++ map (taken 0) lines)) (events_from (open_fence 96 length 0) others)
+lines_told length parts apart before [] others h = ap (λ (ls : List Remaining). finished (code_in parts apart ls) (events_from (open_fence 96 length 0) others)) (sym (append-nil before))
 lines_told length parts apart before (line ∷ lines) others h =
     let both = and_parts (is_inside 96 length line) (list_all (is_inside 96 length) lines) h in
     let text = taken 0 line in
-    line_read (code_in parts apart before) (FencedLeaf 96 length 0) (FencedLeaf 96 length 0) 0 0 GoesOn text line (lines ++ others) (stays 0 96 length line (not_closing _ both.0))
-    ∙ ap (λ (g : Gathering). ended g (events_from (open_fence 96 length 0) (lines ++ others))) (line_after text parts apart before)
+    line_went (code_in parts apart before) (FencedLeaf 96 length 0) (FencedLeaf 96 length 0) 0 0 GoesOn text line (lines ++ others) (stays 0 96 length line (not_closing _ both.0))
+    ∙ ap (λ (g : Gathering). finished g (events_from (open_fence 96 length 0) (lines ++ others))) (line_after text parts apart before)
     ∙ lines_told length parts apart (before ++ text ∷ []) lines others both.1
-    ∙ ap (λ (ls : List Remaining). ended (code_in parts apart ls) (events_from (open_fence 96 length 0) others)) (append_assoc before (text ∷ []) (map (taken 0) lines))
+    ∙ ap (λ (ls : List Remaining). finished (code_in parts apart ls) (events_from (open_fence 96 length 0) others)) (append_assoc before (text ∷ []) (map (taken 0) lines))
 
 all_whole : (lines : List (List ℕ)) → map (taken 0) lines ≡ map whole lines
 unfolding take_columns
@@ -240,10 +240,10 @@ code_told most language lines two h inside =
       info,
       found.1 ∙ ticks_dropped length language,
       λ parts apart passed others.
-          line_read (outside_of parts apart passed) NothingLeaf (FencedLeaf 96 length 0) 0 0 (Begins (FencedLeaf 96 length 0)) info line (lines ++ fence most ∷ others) found.2
-          ∙ ap (λ (g : Gathering). ended g (events_from (open_fence 96 length 0) (lines ++ fence most ∷ others))) (begin_after length info parts apart passed)
+          line_went (outside_of parts apart passed) NothingLeaf (FencedLeaf 96 length 0) 0 0 (Begins (FencedLeaf 96 length 0)) info line (lines ++ fence most ∷ others) found.2
+          ∙ ap (λ (g : Gathering). finished g (events_from (open_fence 96 length 0) (lines ++ fence most ∷ others))) (begin_after length info parts apart passed)
           ∙ lines_told length parts passed (trimmed info ∷ []) lines (fence most ∷ others) inside
-          ∙ ap (λ (ls : List Remaining). ended (code_in parts passed (trimmed info ∷ ls)) (events_from (open_fence 96 length 0) (fence most ∷ others))) (all_whole lines)
-          ∙ line_read (code_in parts passed (trimmed info ∷ map whole lines)) (FencedLeaf 96 length 0) NothingLeaf 0 0 Closes (whole (fence most)) (fence most) others (closes 0 96 length (fence most) (closing_is most))
+          ∙ ap (λ (ls : List Remaining). finished (code_in parts passed (trimmed info ∷ ls)) (events_from (open_fence 96 length 0) (fence most ∷ others))) (all_whole lines)
+          ∙ line_went (code_in parts passed (trimmed info ∷ map whole lines)) (FencedLeaf 96 length 0) NothingLeaf 0 0 Closes (whole (fence most)) (fence most) others (closes 0 96 length (fence most) (closing_is most))
           ∙ ap (λ (g : Gathering). told_of g others) (end_after (whole (fence most)) parts passed (trimmed info ∷ map whole lines)),
     )

@@ -3,6 +3,8 @@ pub mod WordLemmas
 pub mod ParagraphLemmas
 pub mod MarkLemmas
 pub mod CodeLemmas
+pub mod QuoteLemmas
 pub mod LineLemmas
 pub mod PhraseLemmas
+pub mod BlockLemmas
 pub mod PageLemmas

@@ -1,14 +1,17 @@
 -- The lines of a page that was written.
-use Rattle.std.proofs.Common.{◌≡◌, ℕ, zero, suc, Bool, true, false, not, ◌||◌, ◌&&◌, ◌==◌, List, [], ◌∷◌, ◌++◌, replicate, flat_map, refl, ap, ◌∙◌, append_assoc}
+use Rattle.std.proofs.Common.{◌≡◌, ℕ, zero, suc, Bool, true, false, cond, not, ◌||◌, ◌&&◌, ◌==◌, List, [], ◌∷◌, ◌++◌, map, replicate, flat_map, refl, sym, ap, ◌∙◌, append_assoc}
 use Rattle.std.proofs.lemmas.Bool.{and_parts}
+use Rattle.std.proofs.lemmas.Grind.{flat_map-append}
 use Rattle.std.specs.Char.{is_ascii_punctuation}
-use Rattle.std.specs.List.{AllByRecursion, list_all, onto_first}
+use Rattle.std.specs.List.{list_all, onto_first}
 use Rattle.markdown_blocks.specs.Lines.{text_lines}
-use Rattle.markdown_writing.specs.Pages.{Written, heading, paragraph, code, thematic_break, block_lines, block_text, ended, longest, markdown_from}
+use Rattle.markdown_writing.specs.Pages.{Page, Written, block_lines, code, ended, gap, heading, longest, markdown_from, no_more, paragraph, quotes, shows, thematic_break}
 use Rattle.markdown_writing.specs.Phrases.{Phrase, plain, code_span, fence, first_text, line_text, most_ticks, needs_room, phrase_text, room, roomy}
-use Rattle.markdown_writing.specs.Reading.{IsWritable}
+use Rattle.markdown_writing.specs.Quotes.{quoted}
+use Rattle.markdown_writing.specs.Reading.{AreWritable, IsWritable}
 use Rattle.markdown_writing.specs.Words.{escaped, escaped_byte, escaped_if, is_mark}
 use Rattle.markdown_writing.specs.Writable.{is_line, is_phrase, is_some_line, is_tab_or_end}
+use Rattle.markdown_writing.proofs.QuoteLemmas.{quoted_line}
 use Rattle.markdown_writing.proofs.WordLemmas.{by_escape}
 
 -- ---- bytes of lines
@@ -105,31 +108,92 @@ line_cut (b ∷ bs) rest h =
     let none = no_end b parts.0 in
     rw none.1 (rw none.0 (ap (onto_first b) (line_cut bs rest parts.1)))
 
-lines_cut : (lines : List (List ℕ)) (rest : List ℕ) → list_all is_line lines ≡ true → text_lines (flat_map ended lines ++ rest) ≡ lines ++ text_lines rest
-lines_cut [] rest h = refl
-lines_cut (line ∷ lines) rest h =
+lines_cut : (lines : List (List ℕ)) → list_all is_line lines ≡ true → text_lines (flat_map ended lines) ≡ lines
+unfolding text_lines
+lines_cut [] h = refl
+lines_cut (line ∷ lines) h =
     let parts = and_parts (is_line line) (list_all is_line lines) h in
-    ap text_lines (append_assoc (ended line) (flat_map ended lines) rest ∙ append_assoc line (10 ∷ []) (flat_map ended lines ++ rest))
-    ∙ line_cut line (flat_map ended lines ++ rest) parts.0
-    ∙ ap (λ (ls : List (List ℕ)). line ∷ ls) (lines_cut lines rest parts.1)
+    ap text_lines (append_assoc line (10 ∷ []) (flat_map ended lines))
+    ∙ line_cut line (flat_map ended lines) parts.0
+    ∙ ap (λ (ls : List (List ℕ)). line ∷ ls) (lines_cut lines parts.1)
+
+-- ---- a quote
+
+-- what is behind the first byte of a line
+line_begun : (bs rest : List ℕ) → is_line bs ≡ true → quoted false ((bs ++ 10 ∷ []) ++ rest) ≡ (bs ++ 10 ∷ []) ++ quoted true rest
+line_begun [] rest h = refl
+line_begun (b ∷ bs) rest h =
+    let parts = and_parts (not (is_tab_or_end b)) (is_line bs) h in
+    ap (λ (t : Bool). b ∷ quoted t ((bs ++ 10 ∷ []) ++ rest)) (no_end b parts.0).0 ∙ ap (λ (cs : List ℕ). b ∷ cs) (line_begun bs rest parts.1)
+
+line_quoted : (line rest : List ℕ) → is_line line ≡ true → quoted true (ended line ++ rest) ≡ ended (quoted_line line) ++ quoted true rest
+line_quoted [] rest h = refl
+line_quoted (b ∷ bs) rest h =
+    let parts = and_parts (not (is_tab_or_end b)) (is_line bs) h in
+    ap (λ (t : Bool). cond t (62 ∷ []) (62 ∷ 32 ∷ []) ++ b ∷ quoted t ((bs ++ 10 ∷ []) ++ rest)) (no_end b parts.0).0 ∙ ap (λ (cs : List ℕ). 62 ∷ 32 ∷ b ∷ cs) (line_begun bs rest parts.1)
+
+-- a text of lines, each behind the sign of a quote
+lines_quoted : (lines : List (List ℕ)) → list_all is_line lines ≡ true → quoted true (flat_map ended lines) ≡ flat_map ended (map quoted_line lines)
+lines_quoted [] h = refl
+lines_quoted (line ∷ lines) h =
+    let parts = and_parts (is_line line) (list_all is_line lines) h in
+    line_quoted line (flat_map ended lines) parts.0 ∙ ap (λ (bs : List ℕ). ended (quoted_line line) ++ bs) (lines_quoted lines parts.1)
+
+quoted_is : (line : List ℕ) → is_line line ≡ true → is_line (quoted_line line) ≡ true
+quoted_is [] h = refl
+quoted_is (b ∷ bs) h = h
+
+all_quoted : (lines : List (List ℕ)) → list_all is_line lines ≡ true → list_all is_line (map quoted_line lines) ≡ true
+all_quoted [] h = refl
+all_quoted (line ∷ lines) h = let parts = and_parts (is_line line) (list_all is_line lines) h in and_true _ _ (quoted_is line parts.0) (all_quoted lines parts.1)
+
+-- ---- a page
 
 -- an empty line, where blocks stand before
 abbrev pub gap_lines : Bool → List (List ℕ)
 gap_lines true = [] ∷ []
 gap_lines false = []
 
--- the lines of blocks, with an empty line before each but the first of the page
-abbrev pub page_lines : Bool → List Written → List (List ℕ)
-page_lines some [] = []
-page_lines some (block ∷ blocks) = gap_lines some ++ (block_lines block ++ page_lines true blocks)
+-- the lines of blocks, with an empty line before each but the first
+abbrev pub page_lines : Bool → Page → List (List ℕ)
+page_lines some no_more = []
+page_lines some (shows block after) = gap_lines some ++ (block_lines block ++ page_lines true after)
+page_lines some (quotes inner after) = gap_lines some ++ (map quoted_line (page_lines false inner) ++ page_lines true after)
 
-block_cut : (block : Written) (blocks : List Written) → IsWritable block → text_lines (markdown_from true blocks) ≡ page_lines true blocks
-    → text_lines (block_text block ++ markdown_from true blocks) ≡ block_lines block ++ page_lines true blocks
-block_cut block blocks h later = lines_cut (block_lines block) (markdown_from true blocks) (block_is_lines block h) ∙ ap (λ (ls : List (List ℕ)). block_lines block ++ ls) later
+gap_line : (some : Bool) → list_all is_line (gap_lines some) ≡ true
+gap_line true = refl
+gap_line false = refl
+
+-- they are lines without tabs
+pub page_is_lines : (some : Bool) (page : Page) → AreWritable page → list_all is_line (page_lines some page) ≡ true
+page_is_lines some no_more h = refl
+page_is_lines some (shows block after) h =
+    all_lines (gap_lines some) (block_lines block ++ page_lines true after) (gap_line some) (all_lines (block_lines block) (page_lines true after) (block_is_lines block h.0) (page_is_lines true after h.1))
+page_is_lines some (quotes inner after) h =
+    let held = map quoted_line (page_lines false inner) in
+    all_lines (gap_lines some) (held ++ page_lines true after) (gap_line some) (all_lines held (page_lines true after) (all_quoted (page_lines false inner) (page_is_lines false inner h.1)) (page_is_lines true after h.2))
+
+gap_text : (some : Bool) → gap some ≡ flat_map ended (gap_lines some)
+gap_text true = refl
+gap_text false = refl
+
+-- some lines behind the gap, and others
+both_text : (some : Bool) (lines others : List (List ℕ)) (text : List ℕ) → text ≡ flat_map ended others → gap some ++ (flat_map ended lines ++ text) ≡ flat_map ended (gap_lines some ++ (lines ++ others))
+both_text some lines others text e =
+    ap (λ (bs : List ℕ). gap some ++ (flat_map ended lines ++ bs)) e
+    ∙ ap (λ (bs : List ℕ). gap some ++ bs) (sym (flat_map-append ended lines others))
+    ∙ ap (λ (bs : List ℕ). bs ++ flat_map ended (lines ++ others)) (gap_text some)
+    ∙ sym (flat_map-append ended (gap_lines some) (lines ++ others))
+
+page_text : (some : Bool) (page : Page) → AreWritable page → markdown_from some page ≡ flat_map ended (page_lines some page)
+page_text some no_more h = refl
+page_text some (shows block after) h = both_text some (block_lines block) (page_lines true after) (markdown_from true after) (page_text true after h.1)
+page_text some (quotes inner after) h =
+    let lines = page_lines false inner in
+    ap (λ (bs : List ℕ). gap some ++ (quoted true bs ++ markdown_from true after)) (page_text false inner h.1)
+    ∙ ap (λ (bs : List ℕ). gap some ++ (bs ++ markdown_from true after)) (lines_quoted lines (page_is_lines false inner h.1))
+    ∙ both_text some (map quoted_line lines) (page_lines true after) (markdown_from true after) (page_text true after h.2)
 
 -- a text of blocks is their lines
-pub page_cut : (some : Bool) (page : List Written) → AllByRecursion IsWritable page → text_lines (markdown_from some page) ≡ page_lines some page
-unfolding text_lines
-page_cut some [] h = refl
-page_cut true (block ∷ blocks) h = ap (λ (ls : List (List ℕ)). [] ∷ ls) (block_cut block blocks h.0 (page_cut true blocks h.1))
-page_cut false (block ∷ blocks) h = block_cut block blocks h.0 (page_cut true blocks h.1)
+pub page_cut : (page : Page) → AreWritable page → text_lines (markdown_from false page) ≡ page_lines false page
+page_cut page h = ap text_lines (page_text false page h) ∙ lines_cut (page_lines false page) (page_is_lines false page h)

@@ -16,10 +16,10 @@ use Rattle.markdown_leaves.specs.Parts.{PartContent, block}
 use Rattle.markdown_leaves.specs.declared.parts.Kind.{Kind}
 use Rattle.markdown_leaves.specs.declared.parts.Kind.TheVariants.{Heading, Rule}
 use Rattle.markdown_laws.proofs.LineLemmas.{state_with}
-use Rattle.markdown_part_laws.proofs.ParagraphLemmas.{after_line, line_read, outside_of}
+use Rattle.markdown_part_laws.proofs.ParagraphLemmas.{after_line, outside_of}
 use Rattle.markdown_part_laws.proofs.TextLemmas.{done_at}
 use Rattle.markdown_writing.specs.Pages.{stars}
-use Rattle.markdown_writing.proofs.ParagraphLemmas.{told_of}
+use Rattle.markdown_writing.proofs.ParagraphLemmas.{line_went, told_of}
 use Rattle.markdown_writing.proofs.WordLemmas.{BeginsWords, EndsFull, heading_words}
 
 -- a leaf of one line
@@ -87,7 +87,7 @@ heading_told level bytes some few begins ends =
     let has = has_level level bytes some few in (
       text.column,
       λ parts apart passed lines.
-          line_read (outside_of parts apart passed) NothingLeaf NothingLeaf 0 0 (HeadingDeed level) text line lines (heading_step level bytes some has.start)
+          line_went (outside_of parts apart passed) NothingLeaf NothingLeaf 0 0 (HeadingDeed level) text line lines (heading_step level bytes some has.start)
           ∙ ap (λ (g : Gathering). told_of g lines) (heading_after level text (heading_at text.column bytes) parts apart passed (heading_line_is level line bytes has.behind (heading_words bytes begins ends))),
     )
 
@@ -105,4 +105,4 @@ break_after parts apart passed = refl
 pub break_told : (parts : List PartContent) (apart passed : Bool) (lines : List (List ℕ))
     → told_of (outside_of parts apart passed) (stars ∷ lines) ≡ told_of (outside_of (parts ++ one_line Rule passed (whole stars) ∷ []) passed false) lines
 break_told parts apart passed lines =
-    line_read (outside_of parts apart passed) NothingLeaf NothingLeaf 0 0 RuleDeed (whole stars) stars lines stars_step ∙ ap (λ (g : Gathering). told_of g lines) (break_after parts apart passed)
+    line_went (outside_of parts apart passed) NothingLeaf NothingLeaf 0 0 RuleDeed (whole stars) stars lines stars_step ∙ ap (λ (g : Gathering). told_of g lines) (break_after parts apart passed)

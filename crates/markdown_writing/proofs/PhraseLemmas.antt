@@ -1,12 +1,15 @@
 -- A line of phrases begins a paragraph, and ends with no sign that closes a heading.
-use Rattle.std.proofs.Common.{◌≡◌, ℕ, zero, suc, Bool, true, false, not, ◌&&◌, ◌==◌, List, [], ◌∷◌, ◌++◌, replicate, flat_map, refl, sym, ap, subst, ◌∙◌, append-nil}
-use Rattle.std.proofs.lemmas.Bool.{and_parts}
-use Rattle.std.specs.List.{list_all}
-use Rattle.markdown_marks.specs.Bytes.{is_blank_byte}
-use Rattle.markdown_writing.specs.Phrases.{Phrase, plain, code_span, fence, first_text, line_text, most_ticks, phrase_text, roomy}
-use Rattle.markdown_writing.specs.Writable.{ArePhrases, IsLine, begins_full, ends_full, is_phrase, line_ends_full, take_turns}
-use Rattle.markdown_writing.specs.Words.{escaped, escaped_byte}
-use Rattle.markdown_writing.proofs.WordLemmas.{BeginsWords, EndsFull, behind_digits, ends_number, more_ends, rest_ends, words_begin, words_end}
+use Rattle.std.proofs.Common.{◌≡◌, ℕ, zero, suc, Bool, true, false, cond, not, ◌||◌, ◌==◌, nat_lt, ◌+◌, List, [], ◌∷◌, ◌++◌, replicate, flat_map, Some, None, refl, sym, ap, subst, ◌∙◌, append_assoc, append-nil}
+use Rattle.std.proofs.lemmas.Bool.{or_parts}
+use Rattle.std.specs.List.{list_any, prefix_len}
+use Rattle.markdown_marks.specs.Bytes.{count_in_front, is_blank_byte}
+use Rattle.markdown_marks.specs.Marks.{fence_of, fence_start}
+use Rattle.markdown_spans.specs.Code.{is_padded}
+use Rattle.markdown_writing.specs.Phrases.{Phrase, plain, code_span, ends_ticked, fence, first_text, line_text, most_ticks, needs_room, phrase_text, room, roomy, span_text}
+use Rattle.markdown_writing.specs.Writable.{IsLine, line_ends_full, take_turns}
+use Rattle.markdown_writing.specs.Words.{escaped}
+use Rattle.markdown_writing.proofs.CodeLemmas.{ticks_counted, ticks_dropped}
+use Rattle.markdown_writing.proofs.WordLemmas.{BeginsWords, EndsFull, behind_digits, by_test, ends_number, more_ends, no_number, rest_ends, words_begin, words_end}
 
 -- ---- its beginning
 
@@ -20,9 +23,74 @@ others_unnumbered [] h = refl
 others_unnumbered (plain words ∷ ps) h = let no : false ≡ true = h in absurd (cc)
 others_unnumbered (code_span code ∷ ps) h = refl
 
+-- ---- code at its beginning
+
+abbrev tick : ℕ → Bool
+tick b = b == 96
+
+-- a text that begins with another byte than a backquote
+record BeginsOther (text : List ℕ) : Type 0 where
+  c : ℕ
+  cs : List ℕ
+  is : text ≡ c ∷ cs
+  other : (c == 96) ≡ false
+
+-- code with the spaces that it needs begins so
+roomy_begins : (b : ℕ) (bs : List ℕ) → BeginsOther (roomy (b ∷ bs))
+roomy_begins b bs =
+    let code = b ∷ bs in
+    by_test (needs_room code) (BeginsOther (roomy code))
+    (λ h. subst (λ (t : Bool). BeginsOther (room t ++ (code ++ room t))) (sym h) (record { c = 32; cs = code ++ 32 ∷ []; is = refl; other = refl }))
+    (λ h.
+    let none = or_parts (b == 96) (ends_ticked code) (or_parts ((b == 96) || ends_ticked code) (is_padded code) h).0 in
+    subst (λ (t : Bool). BeginsOther (room t ++ (code ++ room t))) (sym h) (record { c = b; cs = bs ++ []; is = refl; other = none.0 }))
+
+some_tick : (text tail : List ℕ) → list_any tick (text ++ 96 ∷ tail) ≡ true
+some_tick [] tail = refl
+some_tick (b ∷ bs) tail = or_right (tick b) (list_any tick (bs ++ 96 ∷ tail)) (some_tick bs tail)
+  where
+    or_right : (p q : Bool) → q ≡ true → (p || q) ≡ true
+    or_right true q h = refl
+    or_right false q h = h
+
+or_true : (t : Bool) → (t || true) ≡ true
+or_true true = refl
+or_true false = refl
+
+-- backquotes are no fence where others follow in the line
+no_start : (k : ℕ) (text tail : List ℕ) → BeginsOther text → fence_start (replicate (suc k) 96 ++ (text ++ 96 ∷ tail)) ≡ None
+unfolding fence_start count_in_front
+no_start k text tail f =
+    let rest = text ++ 96 ∷ tail in
+    let line = replicate (suc k) 96 ++ rest in
+    let none : prefix_len tick rest ≡ 0 = ap (λ (bs : List ℕ). prefix_len tick (bs ++ 96 ∷ tail)) f.is ∙ ap (λ (t : Bool). cond t (1 + prefix_len tick (f.cs ++ 96 ∷ tail)) 0) f.other in
+    let count : prefix_len tick line ≡ suc k = ticks_counted (suc k) rest none in
+    ap (λ (n : ℕ). fence_of 96 n line) count
+    ∙ ap (λ (bs : List ℕ). cond (nat_lt (suc k) 3 || list_any tick bs) None (Some (record { sign = 96; length = suc k }))) (ticks_dropped (suc k) rest)
+    ∙ ap (λ (t : Bool). cond (nat_lt (suc k) 3 || t) None (Some (record { sign = 96; length = suc k }))) (some_tick text tail)
+    ∙ ap (λ (t : Bool). cond t None (Some (record { sign = 96; length = suc k }))) (or_true (nat_lt (suc k) 3))
+
+-- a code span begins a paragraph, whatever follows
+span_begins : (b : ℕ) (bs tail : List ℕ) → BeginsWords (span_text (b ∷ bs) ++ tail)
+span_begins b bs tail =
+    let code = b ∷ bs in
+    let most = most_ticks 0 0 code in
+    let more = (replicate most 96 ++ (roomy code ++ fence most)) ++ tail in
+    let parts : 96 ∷ more ≡ replicate (suc most) 96 ++ (roomy code ++ 96 ∷ (replicate most 96 ++ tail)) =
+    append_assoc (fence most) (roomy code ++ fence most) tail ∙ ap (λ (xs : List ℕ). fence most ++ xs) (append_assoc (roomy code) (fence most) tail) in
+    record {
+      b = 96;
+      bs = more;
+      whole = refl;
+      sign = refl;
+      fence = ap fence_start parts ∙ no_start most (roomy code) (replicate most 96 ++ tail) (roomy_begins b bs);
+      marker = no_number (96 ∷ more) refl refl;
+    }
+
 pub line_begins : (ps : List Phrase) → IsLine ps → BeginsWords (line_text ps)
 line_begins [] h = let no : false ≡ true = h.begins in absurd (cc)
-line_begins (code_span code ∷ ps) h = let no : false ≡ true = h.begins in absurd (cc)
+line_begins (code_span [] ∷ ps) h = let no : false ≡ true = h.are.each in absurd (cc)
+line_begins (code_span (b ∷ bs) ∷ ps) h = span_begins b bs (flat_map phrase_text ps)
 line_begins (plain [] ∷ ps) h = let no : false ≡ true = h.are.each in absurd (cc)
 line_begins (plain (b ∷ bs) ∷ ps) h = words_begin b bs (flat_map phrase_text ps) (others_unnumbered ps h.are.turns) (negated (is_blank_byte b) h.begins)
 

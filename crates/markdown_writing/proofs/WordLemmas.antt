@@ -1,5 +1,5 @@
 -- Escaped words begin with no sign and end with none that closes a heading.
-use Rattle.std.proofs.Common.{◌≡◌, ℕ, suc, ◌+◌, ◌-◌, Bool, true, false, cond, not, ◌||◌, ◌==◌, nat_lt, List, [], ◌∷◌, ◌++◌, length, take, drop, reverse, slice_index, Option, None, refl, sym, ap, subst, ◌∙◌, append_assoc, append-nil, length-append, arith}
+use Rattle.std.proofs.Common.{◌≡◌, ℕ, suc, ◌+◌, ◌-◌, Bool, true, false, cond, not, ◌||◌, ◌&&◌, ◌==◌, nat_lt, List, [], ◌∷◌, ◌++◌, length, take, drop, reverse, slice_index, Option, None, refl, sym, ap, subst, ◌∙◌, append_assoc, append-nil, length-append, arith}
 use Rattle.std.proofs.lemmas.Bool.{eqb-true}
 use Rattle.std.proofs.lemmas.Bool.Decides.{nat_tests}
 use Rattle.std.proofs.lemmas.List.{reverse-append, take_all, take_at}
@@ -9,6 +9,7 @@ use Rattle.std.specs.Str.Parse.{digits_value}
 use Rattle.markdown_marks.specs.Bytes.{first, is_blank_byte, without_blanks}
 use Rattle.markdown_marks.specs.Headings.{heading_text, is_either, unclosed, without_closing, without_end}
 use Rattle.markdown_marks.specs.Items.{is_bullet, marker_of, marker_start, ordered_of}
+use Rattle.markdown_marks.specs.Marks.{fence_start}
 use Rattle.markdown_laws.specs.Plain.{is_sign}
 use Rattle.markdown_writing.specs.Words.{escaped, escaped_byte, escaped_if, is_mark}
 use Rattle.markdown_writing.specs.Writable.{ends_full}
@@ -85,7 +86,7 @@ none_by : {A : Type 0} (t : Bool) (o : Option A) → o ≡ None → cond t None 
 none_by true o e = refl
 none_by false o e = e
 
-no_number : (bytes : List ℕ) → is_bullet (first bytes) ≡ false → ends_number (behind_digits bytes) ≡ false → marker_start bytes ≡ None
+pub no_number : (bytes : List ℕ) → is_bullet (first bytes) ≡ false → ends_number (behind_digits bytes) ≡ false → marker_start bytes ≡ None
 no_number bytes bullet h =
     let digits = prefix_len is_ascii_digit bytes in
     let sign = behind_digits bytes in
@@ -93,16 +94,25 @@ no_number bytes bullet h =
     ap (λ (t : Bool). cond t (marker_of t (first bytes) 0 1 bytes) number) bullet
     ∙ none_by ((digits == 0) || nat_lt 9 digits) (marker_of (ends_number sign) sign (digits_value 10 (take digits bytes)) (digits + 1) bytes) (ap (λ (t : Bool). marker_of t sign (digits_value 10 (take digits bytes)) (digits + 1) bytes) h)
 
--- some bytes begin a paragraph: the first is no sign, and no number with its sign is in front
+-- a sign, but no backquote
+abbrev pub is_other_sign : ℕ → Bool
+is_other_sign b = is_sign b && not (b == 96)
+
+-- some bytes begin a paragraph: the first is no other sign, and neither a fence nor a number with its sign is in front
 pub record BeginsWords (bytes : List ℕ) : Type 0 where
   pub b : ℕ
   pub bs : List ℕ
   pub whole : bytes ≡ b ∷ bs
-  pub sign : is_sign b ≡ false
+  pub sign : is_other_sign b ≡ false
+  pub fence : fence_start (b ∷ bs) ≡ None
   pub marker : marker_start (b ∷ bs) ≡ None
 
+no_fence : (b : ℕ) (bs : List ℕ) → (b == 96) ≡ false → (b == 126) ≡ false → fence_start (b ∷ bs) ≡ None
+unfolding fence_start
+no_fence b bs e f = rw e (rw f refl)
+
 backslash_begins : (bs : List ℕ) → BeginsWords (92 ∷ bs)
-backslash_begins bs = record { b = 92; bs = bs; whole = refl; sign = refl; marker = no_number (92 ∷ bs) refl refl }
+backslash_begins bs = record { b = 92; bs = bs; whole = refl; sign = refl; fence = no_fence 92 bs refl refl; marker = no_number (92 ∷ bs) refl refl }
 
 no_bullet : (b : ℕ) → is_ascii_punctuation b ≡ false → is_bullet b ≡ false
 no_bullet b h = rw (no_other is_ascii_punctuation b 42 refl h) (rw (no_other is_ascii_punctuation b 43 refl h) (no_other is_ascii_punctuation b 45 refl h))
@@ -113,7 +123,14 @@ no_end_first b h = rw (no_other is_ascii_punctuation b 46 refl h) (no_other is_a
 byte_begins : (b : ℕ) (bs tail : List ℕ) → ends_number (behind_digits tail) ≡ false → is_blank_byte b ≡ false → is_ascii_punctuation b ≡ false → BeginsWords (b ∷ (flat_map escaped_byte bs ++ tail))
 byte_begins b bs tail e blank h =
     let rest = flat_map escaped_byte bs ++ tail in
-    record { b = b; bs = rest; whole = refl; sign = no_sign b blank h; marker = no_number (b ∷ rest) (no_bullet b h) (then_none b rest (no_end_first b h) (rest_unnumbered bs tail e)) }
+    record {
+      b = b;
+      bs = rest;
+      whole = refl;
+      sign = ap (λ (t : Bool). t && not (b == 96)) (no_sign b blank h);
+      fence = no_fence b rest (no_other is_ascii_punctuation b 96 refl h) (no_other is_ascii_punctuation b 126 refl h);
+      marker = no_number (b ∷ rest) (no_bullet b h) (then_none b rest (no_end_first b h) (rest_unnumbered bs tail e));
+    }
 
 -- escaped words begin a paragraph, whatever follows but a digit or the sign of a number
 pub words_begin : (b : ℕ) (bs tail : List ℕ) → ends_number (behind_digits tail) ≡ false → is_blank_byte b ≡ false → BeginsWords (escaped (b ∷ bs) ++ tail)
@@ -217,8 +234,8 @@ no_blanks : (b : ℕ) (bs : List ℕ) → is_blank_byte b ≡ false → without_
 unfolding without_blanks
 no_blanks b bs h = ap (λ (t : Bool). drop (1 + cond t (1 + prefix_len is_blank_byte bs) 0) (32 ∷ b ∷ bs)) h
 
-first_full : (b : ℕ) → is_sign b ≡ false → is_blank_byte b ≡ false
-first_full b h = rw (no_other is_sign b 32 refl h) (no_other is_sign b 9 refl h)
+first_full : (b : ℕ) → is_other_sign b ≡ false → is_blank_byte b ≡ false
+first_full b h = rw (no_other is_other_sign b 32 refl h) (no_other is_other_sign b 9 refl h)
 
 -- the text of a heading is its words
 pub heading_words : (bytes : List ℕ) → BeginsWords bytes → EndsFull bytes → heading_text (32 ∷ bytes) ≡ bytes

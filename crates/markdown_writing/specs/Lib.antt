@@ -1,5 +1,6 @@
 pub mod Words
 pub mod Phrases
+pub mod Quotes
 pub mod Pages
 pub mod Writable
 pub mod Reading

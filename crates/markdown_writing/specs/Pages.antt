@@ -1,23 +1,42 @@
 -- A page as Markdown: its blocks, with an empty line between them.
 use Rattle.std.specs.Prelude.{ℕ, Bool, true, false, List, [], ◌∷◌, ◌++◌, map, flat_map, replicate, max, if◌then◌else◌}
 use Rattle.markdown_marks.specs.Bytes.{count_in_front, without_blanks}
-use Rattle.markdown_writing.specs.declared.blocks.PageBlock.{PageBlock}
-use Rattle.markdown_writing.specs.declared.blocks.PageBlock.TheVariants.{Heading, Paragraph, Code, Break}
+use Rattle.markdown_writing.specs.declared.blocks.PageBlock.{PageBlock, Heading, Paragraph, Code, Break, Quote', Row_of-PageBlock, end_of-PageBlock, more_of-PageBlock}
 use Rattle.markdown_writing.specs.Phrases.{Phrase, phrase_of, fence, line_text}
+use Rattle.markdown_writing.specs.Quotes.{quoted}
 
--- A block of a page: a heading of a level, with its phrases; a paragraph's phrases; code in a language, with its lines; a thematic break.
+-- A block that holds no others: a heading of a level, with its phrases; a paragraph's phrases; code in a language, with its lines; a thematic break.
 pub data Written : Type 0 where
   heading : ℕ → List Phrase → Written
   paragraph : List Phrase → Written
   code : List ℕ → List (List ℕ) → Written
   thematic_break : Written
 
--- what a block of the code says, whatever the addresses of its texts
-abbrev pub written : PageBlock → Written
-written (Heading level phrases) = heading level (map phrase_of phrases.now)
-written (Paragraph phrases) = paragraph (map phrase_of phrases.now)
-written (Code language lines) = code language.now (map (λ line. line.now) lines.now)
-written Break = thematic_break
+-- Blocks one below the other: each is shown, or is a quote around others.
+pub data Page : Type 0 where
+  no_more : Page
+  shows : Written → Page → Page
+  quotes : (inner after : Page) → Page
+
+-- what the blocks of the code say, whatever the addresses of their texts
+abbrev mutual
+  -- a block above others
+  pub above : PageBlock → Page → Page
+  above (Heading level phrases) after = shows (heading level (map phrase_of phrases.now)) after
+  above (Paragraph phrases) after = shows (paragraph (map phrase_of phrases.now)) after
+  above (Code language lines) after = shows (code language.now (map (λ line. line.now) lines.now)) after
+  above Break after = shows thematic_break after
+  above (Quote' place shape blocks) after = quotes (held_page blocks) after
+
+  -- the blocks that a quote holds
+  pub held_page : {n : _} → Row_of-PageBlock n → Page
+  held_page end_of-PageBlock = no_more
+  held_page (more_of-PageBlock block blocks) = above block (held_page blocks)
+
+-- the blocks of a page
+abbrev pub page_of : List PageBlock → Page
+page_of [] = no_more
+page_of (block ∷ blocks) = above block (page_of blocks)
 
 -- a line, and its end
 abbrev pub ended : List ℕ → List ℕ
@@ -55,11 +74,18 @@ block_text block = flat_map ended (block_lines block)
 abbrev pub gap : Bool → List ℕ
 gap some = if some then 10 ∷ [] else []
 
--- blocks, with an empty line before each but the first of the page
-abbrev pub markdown_from : Bool → List Written → List ℕ
-markdown_from some [] = []
-markdown_from some (block ∷ blocks) = gap some ++ (block_text block ++ markdown_from true blocks)
+-- blocks, with an empty line before each but the first
+abbrev pub markdown_from : Bool → Page → List ℕ
+markdown_from some no_more = []
+markdown_from some (shows block after) = gap some ++ (block_text block ++ markdown_from true after)
+markdown_from some (quotes inner after) = gap some ++ (quoted true (markdown_from false inner) ++ markdown_from true after)
 
 -- a page as Markdown
-abbrev pub markdown_of : List Written → List ℕ
-markdown_of blocks = markdown_from false blocks
+abbrev pub markdown_of : Page → List ℕ
+markdown_of page = markdown_from false page
+
+-- the text of the first block
+abbrev pub first_block : Page → List ℕ
+first_block no_more = []
+first_block (shows block after) = block_text block
+first_block (quotes inner after) = quoted true (markdown_of inner)

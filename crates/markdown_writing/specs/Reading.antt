@@ -1,15 +1,16 @@
 -- What is read of a page that was written: its blocks.
-use Rattle.std.specs.Prelude.{◌≡◌, ℕ, ◌<◌, ◌≤◌, ◌==◌, Bool, true, false, List, [], ◌∷◌, map}
-use Rattle.std.specs.List.{AllByRecursion, list_all, list_any}
+use Rattle.std.specs.Prelude.{◌≡◌, ℕ, ◌<◌, ◌≤◌, ◌==◌, Bool, true, false, List, [], ◌∷◌, ◌++◌, map, max, suc}
+use Rattle.std.specs.List.{list_all, list_any}
 use Rattle.markdown_marks.specs.Remaining.{whole}
-use Rattle.markdown_leaves.specs.Parts.{PartContent, block}
+use Rattle.markdown_blocks.specs.declared.containers.Container.TheVariants.{Quote}
+use Rattle.markdown_leaves.specs.Parts.{PartContent, begins, ends, block}
 use Rattle.markdown_leaves.specs.Told.{parts_of}
 use Rattle.markdown_leaves.specs.declared.parts.Kind.{Kind}
 use Rattle.markdown_leaves.specs.declared.parts.Kind.TheVariants.{Paragraph, Heading, Fenced, Rule}
 use Rattle.markdown_laws.specs.Fences.{trimmed}
 use Rattle.markdown_laws.specs.Quotes.{spelled}
 use Rattle.markdown_writing.specs.Phrases.{line_text}
-use Rattle.markdown_writing.specs.Pages.{Written, heading, paragraph, code, thematic_break, stars, markdown_of}
+use Rattle.markdown_writing.specs.Pages.{Page, Written, code, heading, markdown_of, no_more, paragraph, quotes, shows, stars, thematic_break}
 use Rattle.markdown_writing.specs.Writable.{IsLine, is_line}
 
 -- a leaf that has these lines, behind an empty line or not
@@ -23,10 +24,11 @@ part_of apart (paragraph phrases) = leaf_of Paragraph apart (line_text phrases �
 part_of apart (code language lines) = leaf_of Fenced apart (trimmed language ∷ lines)
 part_of apart thematic_break = leaf_of Rule apart (stars ∷ [])
 
--- all blocks, each behind an empty line but the first
-abbrev pub parts_from : Bool → List Written → List PartContent
-parts_from apart [] = []
-parts_from apart (b ∷ bs) = part_of apart b ∷ parts_from true bs
+-- All blocks, each behind an empty line but the first. A quote is around its own.
+abbrev pub parts_from : Bool → Page → List PartContent
+parts_from apart no_more = []
+parts_from apart (shows b after) = part_of apart b ∷ parts_from true after
+parts_from apart (quotes inner after) = begins Quote apart ∷ (parts_from false inner ++ ends ∷ parts_from true after)
 
 -- A heading has a level from 1 to 6 and a line, and a paragraph has a line. Code has lines without tabs, and no backquote is in the name of its language.
 abbrev pub IsWritable : Written → Type 0
@@ -35,6 +37,23 @@ IsWritable (paragraph phrases) = IsLine phrases
 IsWritable (code language lines) = (list_any (λ b. b == 96) language ≡ false) × (is_line language ≡ true) × (list_all is_line lines ≡ true)
 IsWritable thematic_break = Unit {0}
 
--- A page that is written as Markdown is read as its blocks, one after the other, and nothing else is.
+-- a block is there
+abbrev pub has_block : Page → Bool
+has_block no_more = false
+has_block _ = true
+
+-- Each block is writable, and a quote holds some.
+abbrev pub AreWritable : Page → Type 0
+AreWritable no_more = Unit {0}
+AreWritable (shows b after) = IsWritable b × AreWritable after
+AreWritable (quotes inner after) = (has_block inner ≡ true) × AreWritable inner × AreWritable after
+
+-- how many quotes stand one in the other
+abbrev pub depth : Page → ℕ
+depth no_more = 0
+depth (shows b after) = depth after
+depth (quotes inner after) = max (suc (depth inner)) (depth after)
+
+-- A page that is written as Markdown is read as its blocks, one after the other, and nothing else is. At most 64 quotes stand one in the other.
 abbrev pub PageIsReadBack : Type 0
-PageIsReadBack = (page : List Written) → AllByRecursion IsWritable page → map spelled (parts_of (markdown_of page)) ≡ parts_from false page
+PageIsReadBack = (page : Page) → AreWritable page → depth page ≤ 64 → map spelled (parts_of (markdown_of page)) ≡ parts_from false page

@@ -28,21 +28,27 @@ abbrev pub is_phrase : Phrase → Bool
 is_phrase (plain words) = is_some_line words
 is_phrase (code_span code) = is_some_line code
 
--- Words and code take turns. The first phrase is words, or isn't where words stand before.
+-- Words and code take turns, behind words or not.
 abbrev pub take_turns : (behind_words : Bool) → List Phrase → Bool
 take_turns behind_words [] = true
 take_turns behind_words (plain words ∷ phrases) = not behind_words && take_turns true phrases
 take_turns behind_words (code_span code ∷ phrases) = behind_words && take_turns false phrases
 
--- Phrases: words without tabs and ends of lines, and between two words code. No phrase is empty.
+-- the first phrase is code
+abbrev pub begins_code : List Phrase → Bool
+begins_code (code_span code ∷ phrases) = true
+begins_code _ = false
+
+-- Phrases: words and code in turn, without tabs and ends of lines. No phrase is empty.
 pub record ArePhrases (phrases : List Phrase) : Type 0 where
-  pub turns : take_turns false phrases ≡ true
+  pub turns : take_turns (begins_code phrases) phrases ≡ true
   pub each : list_all is_phrase phrases ≡ true
 
--- the first phrase is words, and begins with no blank
+-- the first phrase is code, or begins with no blank
 abbrev pub begins_full : List Phrase → Bool
+begins_full [] = false
 begins_full (plain words ∷ phrases) = not (is_blank_byte (first words))
-begins_full _ = false
+begins_full (code_span code ∷ phrases) = true
 
 -- the last phrase ends with no blank
 abbrev pub line_ends_full : List Phrase → Bool
@@ -51,7 +57,7 @@ line_ends_full (plain words ∷ []) = ends_full words
 line_ends_full (code_span code ∷ []) = true
 line_ends_full (p ∷ (q ∷ qs)) = line_ends_full (q ∷ qs)
 
--- A line: phrases, the first of which is words, that neither begin nor end with a blank.
+-- A line: phrases that neither begin nor end with a blank.
 pub record IsLine (phrases : List Phrase) : Type 0 where
   pub are : ArePhrases phrases
   pub begins : begins_full phrases ≡ true

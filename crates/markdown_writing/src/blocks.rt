@@ -20,4 +20,6 @@ pub enum PageBlock<'p> {
     Code(&'p str, &'p [&'p str]),
     /// A thematic break.
     Break,
+    /// A quote of these blocks, one at least.
+    Quote(&'p [PageBlock<'p>]),
 }

@@ -3,13 +3,15 @@
 //! 1. [`blocks`]: what a page is made of.
 //! 2. [`words`]: words, in which a backslash stands before each sign that could be a mark.
 //! 3. [`phrases`]: words and code, one behind the other.
-//! 4. [`writing`]: blocks one below the other.
-//! 5. [`laws`]: what is read of them.
+//! 4. [`quotes`]: a text whose lines have the sign of a quote.
+//! 5. [`writing`]: blocks one below the other.
+//! 6. [`laws`]: what is read of them.
 #![tactic(auto)]
 
 pub mod blocks;
 pub mod laws;
 pub mod phrases;
+pub mod quotes;
 pub mod words;
 pub mod writing;
 

@@ -1,11 +1,13 @@
 //! Blocks one below the other.
 
-ghost use Rattle.std.specs.Prelude.{◌≡◌, ◌++◌, IfOk, OnOk, map, flat_map};
-ghost use Rattle.markdown_writing.specs.Pages.{written, heading, code, ended, longest, block_text, markdown_of};
+ghost use Rattle.std.specs.Prelude.{◌≡◌, ◌++◌, true, IfOk, OnOk, map, flat_map};
+ghost use Rattle.markdown_writing.specs.Pages.{above, block_text, code, ended, first_block, gap, heading, longest, markdown_of, no_more, page_of};
 ghost use Rattle.markdown_writing.specs.Phrases.{phrase_of};
+ghost use Rattle.markdown_writing.specs.Quotes.{quoted};
 
 use crate::blocks::{PageBlock, PagePhrase};
 use crate::phrases::{push_fence, push_phrases, push_times};
+use crate::quotes::push_quoted;
 use markdown_marks::bytes::{count_in_front, without_blanks};
 use std::alloc::{AllocError, Global};
 
@@ -68,8 +70,18 @@ fn push_code(out: &mut Vec<u8>, language: &[u8], lines: &[&str]) -> Result<(), A
     Ok(())
 }
 
-fn push_block(out: &mut Vec<u8>, block: PageBlock<'_>) -> Result<(), AllocError>
-    ensures { OnOk result (out.new.items ≡ out.old.items ++ block_text (written block.entry)) }
+#[cycle(blocks)]
+fn push_quote(alloc: Global, out: &mut Vec<u8>, blocks: &[PageBlock<'_>]) -> Result<(), AllocError>
+    ensures { OnOk result (out.new.items ≡ out.old.items ++ quoted true (markdown_of (page_of blocks.now))) }
+{
+    let inner = markdown_of(alloc, blocks)?;
+    push_quoted(out, inner.as_slice())
+}
+
+#[cycle(blocks)]
+#[tactic(auto, using(crate::proofs::BlockLemmas::quote_text))]
+fn push_block(alloc: Global, out: &mut Vec<u8>, block: PageBlock<'_>) -> Result<(), AllocError>
+    ensures { OnOk result (out.new.items ≡ out.old.items ++ first_block (above block.entry no_more)) }
 {
     match block {
         PageBlock::Heading(level, phrases) => push_heading(out, level, phrases),
@@ -80,7 +92,17 @@ fn push_block(out: &mut Vec<u8>, block: PageBlock<'_>) -> Result<(), AllocError>
         }
         PageBlock::Code(language, lines) => push_code(out, language.as_bytes(), lines),
         PageBlock::Break => push_line(out, b"***"),
+        PageBlock::Quote(blocks) => push_quote(alloc, out, blocks),
     }
+}
+
+fn push_gap(out: &mut Vec<u8>, some: bool) -> Result<(), AllocError>
+    ensures { OnOk result (out.new.items ≡ out.old.items ++ gap some) }
+{
+    if some {
+        out.push(b'\n')?;
+    }
+    Ok(())
 }
 
 /// A page as Markdown: its blocks, with an empty line between them. [`crate::laws`] says what is read of it.
@@ -88,20 +110,17 @@ fn push_block(out: &mut Vec<u8>, block: PageBlock<'_>) -> Result<(), AllocError>
 /// # Errors
 ///
 /// Out of memory.
-#[tactic(auto, using(crate::proofs::PushLemmas::put_more))]
+#[cycle(blocks)]
+#[tactic(auto, using(crate::proofs::BlockLemmas::put_block))]
 pub fn markdown_of(alloc: Global, page: &[PageBlock<'_>]) -> Result<Vec<u8>, AllocError>
-    ensures { IfOk result (λ text. text.items ≡ markdown_of (map written page.now)) }
+    ensures { IfOk result (λ text. text.items ≡ markdown_of (page_of page.now)) }
 {
     let mut text = Vec::new(alloc);
     let mut some = false;
-    let mut rest = page;
-    while let [block, next @ ..] = rest {
-        if some {
-            text.push(b'\n')?;
-        }
-        push_block(&mut text, *block)?;
+    for block in page {
+        push_gap(&mut text, some)?;
+        push_block(alloc, &mut text, *block)?;
         some = true;
-        rest = next;
     }
     Ok(text)
 }

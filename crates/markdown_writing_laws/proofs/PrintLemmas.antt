@@ -224,7 +224,7 @@ others_are labels text true at index (code_span (b ∷ bs) ∷ ps) h each e =
 
 line_is : (labels : List (List ℕ)) (ps : List Phrase) → ArePhrases ps → IsPrinted labels (line_text ps) 0 0 (line_text ps) (flat_map phrase_html ps)
 line_is labels [] h = nothing_is labels [] 0 0
-line_is labels (code_span code ∷ ps) h = impossible _ h.turns
+line_is labels (code_span code ∷ ps) h = others_are labels (line_text (code_span code ∷ ps)) true 0 0 (code_span code ∷ ps) h.turns h.each refl
 line_is labels (plain ws ∷ ps) h =
     let parts = and_parts (is_some_line ws) (list_all is_phrase ps) h.each in
     let tail = flat_map phrase_text ps in

@@ -1,14 +1,16 @@
 -- The skin that a word is.
-use Rattle.std.proofs.Common.{◌≡◌, Bool, true, false, ℕ, List, Some, Result, Ok, Err, sym, subst, inl, inr}
+use Rattle.std.proofs.Common.{◌≡◌, ¬, Bool, true, false, ℕ, List, Some, None, Result, Ok, Err, refl, sym, subst, inl, inr}
+use Rattle.std.specs.declared.io.ErrorKind.{ErrorKind}
+use Rattle.std.specs.declared.io.ErrorKind.TheVariants.{OutOfMemory}
 use Rattle.std.specs.Prelude.{MatchBool, MatchResult}
 use Rattle.mad_page_skin.specs.declared.page_skin.PageSkin.{PageSkin}
 use Rattle.termimad_given.specs.Given.{Held}
 use Rattle.termimad_words.specs.GivenSkins.{RefusesPageSkin, page_skin_given}
 use Rattle.termimad_words.specs.declared.failure.Failure.{Failure}
 use Rattle.termimad_words.specs.declared.failure.Failure.TheVariants.{Skin as NoSkin, Memory as NoMemory}
-use Rattle.termimad_command.specs.Skins.{IsNoSkin, IsSkinOf, RefusesSkinWord, RefusesText, SaysSkin, is_said, skin_refusal}
+use Rattle.termimad_command.specs.Skins.{IsNoSkin, IsSkinOf, RefusesSkinWord, RefusesText, SaysFault, SaysSkin, is_said, unread_by}
 use Rattle.termimad_command.specs.declared.refusals.Refusal.{Refusal}
-use Rattle.termimad_command.specs.declared.refusals.Refusal.TheVariants.{Mistaken, Undecoded, Lacking, Skin, Unreadable, NotUtf8, Output, Unread, Memory}
+use Rattle.termimad_command.specs.declared.refusals.Refusal.TheVariants.{Mistaken, Undecoded, Lacking, Skin, FaultySkin, Unreadable, NotUtf8, Output, Unread, Memory}
 
 -- the word says it itself
 pub said_skin : (holds : Held) (word : List ℕ) (r : Result PageSkin Refusal) → is_said word ≡ true
@@ -22,26 +24,40 @@ pub named_skin : (holds : Held) (word bytes slice : List ℕ) (r : Result PageSk
 named_skin holds word bytes slice (Ok skin) e held s h = inr (e, (bytes, held, subst (λ (text : List ℕ). SaysSkin text skin) s h))
 named_skin holds word bytes slice (Err refusal) e held s h = subst (λ (b : Bool). MatchBool b (RefusesText word refusal) (IsNoSkin refusal)) (sym e) h
 
+unread_is_none : (kind : ErrorKind) → IsNoSkin (unread_by kind)
+unread_is_none OutOfMemory = tt
+unread_is_none _ = tt
+
 -- it names none that can be read
-pub no_skin_named : (word : List ℕ) → is_said word ≡ false → RefusesSkinWord word Skin
-no_skin_named word e = subst (λ (b : Bool). MatchBool b (RefusesText word Skin) (IsNoSkin Skin)) (sym e) tt
+pub no_skin_named : (word : List ℕ) (kind : ErrorKind) (refusal : Refusal) → is_said word ≡ false → refusal ≡ unread_by kind → RefusesSkinWord word refusal
+no_skin_named word kind refusal e is =
+    subst (λ (b : Bool). MatchBool b (RefusesText word refusal) (IsNoSkin refusal)) (sym e) (subst IsNoSkin (sym is) (unread_is_none kind))
 
-failure_refuses_by : (text : List ℕ) (failure : Failure) → RefusesPageSkin (Some text) failure → RefusesText text (skin_refusal failure)
-failure_refuses_by text NoSkin h = h
-failure_refuses_by text NoMemory h = tt
-failure_refuses_by text _ h = absurd h
+-- why a text says no skin, by what is wrong with it
+fault_refuses : (text : List ℕ) (refusal : Refusal) → page_skin_given (Some text) ≡ None → SaysFault text refusal → RefusesText text refusal
+fault_refuses text (Mistaken words) e h = absurd h
+fault_refuses text Undecoded e h = absurd h
+fault_refuses text Lacking e h = absurd h
+fault_refuses text Skin e h = absurd h
+fault_refuses text (FaultySkin line) e h = (e, h)
+fault_refuses text (Unreadable name) e h = absurd h
+fault_refuses text NotUtf8 e h = absurd h
+fault_refuses text Output e h = absurd h
+fault_refuses text Unread e h = absurd h
+fault_refuses text Memory e h = tt
 
--- why a text says no skin, by the failure to read one
-pub failure_refuses : (text : List ℕ) (failure : Failure) (refusal : Refusal) → refusal ≡ skin_refusal failure → RefusesPageSkin (Some text) failure
-    → RefusesText text refusal
-failure_refuses text failure refusal e h = subst (λ (refusal : Refusal). RefusesText text refusal) (sym e) (failure_refuses_by text failure h)
+none_given : (text : List ℕ) (failure : Failure) → ¬ (failure ≡ NoMemory) → RefusesPageSkin (Some text) failure → page_skin_given (Some text) ≡ None
+none_given text NoSkin other h = h
+none_given text NoMemory other h = absurd (other refl)
+none_given text _ other h = absurd h
 
 -- why a text says no skin is that there is none, or no memory
 text_refused : (text : List ℕ) (refusal : Refusal) → RefusesText text refusal → IsNoSkin refusal
 text_refused text (Mistaken words) h = absurd h
 text_refused text Undecoded h = absurd h
 text_refused text Lacking h = absurd h
-text_refused text Skin h = tt
+text_refused text Skin h = absurd h
+text_refused text (FaultySkin line) h = tt
 text_refused text (Unreadable name) h = absurd h
 text_refused text NotUtf8 h = absurd h
 text_refused text Output h = absurd h
@@ -60,7 +76,11 @@ pub text_said : (text : List ℕ) (r : Result PageSkin Refusal) (skin : PageSkin
 text_said text r skin unknown is h = subst (λ (r : Result PageSkin Refusal). MatchResult r (SaysSkin text) (RefusesText text)) (sym is) (unknown, h)
 
 -- it says none
-pub text_unsaid : (text : List ℕ) (r : Result PageSkin Refusal) (refusal : Refusal) (failure : Failure) → r ≡ Err refusal → refusal ≡ skin_refusal failure
-    → RefusesPageSkin (Some text) failure → MatchResult r (SaysSkin text) (RefusesText text)
-text_unsaid text r refusal failure is e h =
-    subst (λ (r : Result PageSkin Refusal). MatchResult r (SaysSkin text) (RefusesText text)) (sym is) (failure_refuses text failure refusal e h)
+pub text_unsaid : (text : List ℕ) (r : Result PageSkin Refusal) (refusal : Refusal) (failure : Failure) → r ≡ Err refusal → ¬ (failure ≡ NoMemory)
+    → RefusesPageSkin (Some text) failure → SaysFault text refusal → MatchResult r (SaysSkin text) (RefusesText text)
+text_unsaid text r refusal failure is other e h =
+    subst (λ (r : Result PageSkin Refusal). MatchResult r (SaysSkin text) (RefusesText text)) (sym is) (fault_refuses text refusal (none_given text failure other e) h)
+
+-- there is no memory for it
+pub text_unread : (text : List ℕ) (r : Result PageSkin Refusal) → r ≡ Err Memory → MatchResult r (SaysSkin text) (RefusesText text)
+text_unread text r is = subst (λ (r : Result PageSkin Refusal). MatchResult r (SaysSkin text) (RefusesText text)) (sym is) tt

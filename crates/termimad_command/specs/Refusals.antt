@@ -13,7 +13,7 @@ use Rattle.mad_term.specs.declared.errors.Error.{Error}
 use Rattle.mad_term.specs.declared.errors.Error.TheVariants.{IO, InsufficientWidth, Memory as NoMemory}
 use Rattle.termimad_words.specs.Failures.{SaysOnce}
 use Rattle.termimad_command.specs.declared.refusals.Refusal.{Refusal}
-use Rattle.termimad_command.specs.declared.refusals.Refusal.TheVariants.{Mistaken, Undecoded, Lacking, Skin, Unreadable, NotUtf8, Output, Unread, Memory}
+use Rattle.termimad_command.specs.declared.refusals.Refusal.TheVariants.{Mistaken, Undecoded, Lacking, Skin, FaultySkin, Unreadable, NotUtf8, Output, Unread, Memory}
 
 -- its status
 abbrev pub status_of : Refusal → ℕ
@@ -24,6 +24,7 @@ status_of Undecoded = 2
 status_of Lacking = 2
 status_of NotUtf8 = 3
 status_of Skin = 4
+status_of (FaultySkin line) = 4
 status_of Memory = 5
 status_of Unread = 141
 
@@ -41,6 +42,7 @@ Says (Mistaken text) old new = SaysOnce old (string_bytes text) new
 Says Undecoded old new = SaysOnce old (codes "termimad: a word isn't UTF-8\n") new
 Says Lacking old new = SaysOnce old (codes "termimad: --stream and --live of what isn't Markdown aren't there yet\n") new
 Says Skin old new = SaysOnce old (codes "termimad: SKIN is no name, no file and no JSON of a skin\n") new
+Says (FaultySkin line) old new = SaysOnce old (string_bytes line) new
 Says (Unreadable name) old new = SaysOnce old (name_line name.now) new ⊎ SaysOnce old short_line new
 Says NotUtf8 old new = SaysOnce old (codes "termimad: what came isn't UTF-8\n") new
 Says Output old new = SaysOnce old (codes "termimad: the output failed\n") new

@@ -1,14 +1,17 @@
 -- The skin of a call.
-use Rattle.std.specs.Prelude.{◌≡◌, ◌⊎◌, ◌||◌, ◌==◌, ℕ, Bool, true, false, List, [], ◌∷◌, codes, Some, None, ⊤}
+use Rattle.std.specs.Prelude.{◌≡◌, ◌⊎◌, ◌||◌, ◌==◌, ◌++◌, ℕ, Bool, true, false, List, [], ◌∷◌, codes, string_bytes, Some, None, ⊤}
 use Rattle.std.specs.Bool.{MatchBool}
 use Rattle.std.specs.Str.{bytes_eq}
+use Rattle.std.specs.declared.io.ErrorKind.{ErrorKind}
+use Rattle.std.specs.declared.io.ErrorKind.TheVariants.{OutOfMemory}
+use Rattle.serde_json.specs.Read.{read}
+use Rattle.mad_measure.specs.KeptCells.{shown_bytes}
 use Rattle.mad_page_skin.specs.declared.page_skin.PageSkin.{PageSkin}
 use Rattle.termimad_given.specs.Given.{Held}
 use Rattle.termimad_words.specs.GivenSkins.{page_skin_given}
-use Rattle.termimad_words.specs.declared.failure.Failure.{Failure}
-use Rattle.termimad_words.specs.declared.failure.Failure.TheVariants.{Memory as NoMemory}
+use Rattle.termimad_words.specs.SkinFaults.{text_fault_said}
 use Rattle.termimad_command.specs.declared.refusals.Refusal.{Refusal}
-use Rattle.termimad_command.specs.declared.refusals.Refusal.TheVariants.{Skin, Memory}
+use Rattle.termimad_command.specs.declared.refusals.Refusal.TheVariants.{Skin, FaultySkin, Memory}
 
 -- a made skin has that name
 unfoldable pub is_made : List ℕ → Bool
@@ -29,16 +32,26 @@ is_said word = begins_as_json word || is_made word
 abbrev pub SaysSkin : List ℕ → PageSkin → Type 0
 SaysSkin text skin = (unknown : List (List ℕ)) × (page_skin_given (Some text) ≡ Some (skin, unknown))
 
--- what makes of a call that a text says no skin
-abbrev pub skin_refusal : Failure → Refusal
-skin_refusal NoMemory = Memory
-skin_refusal _ = Skin
+-- the line that says what is wrong with a text that says no skin: what is printable of that
+abbrev pub fault_line : List ℕ → List ℕ
+fault_line text = codes "termimad: SKIN: " ++ (shown_bytes (text_fault_said (read text)) ++ codes "\n")
+
+-- why a text says no skin: what is wrong with it, or there is no memory for it or for saying that
+abbrev pub SaysFault : List ℕ → Refusal → Type 0
+SaysFault text (FaultySkin line) = string_bytes line ≡ fault_line text
+SaysFault text Memory = ⊤
+SaysFault text _ = ⊥
 
 -- why a text says no skin
 abbrev pub RefusesText : List ℕ → Refusal → Type 0
-RefusesText text Skin = page_skin_given (Some text) ≡ None
+RefusesText text (FaultySkin line) = (page_skin_given (Some text) ≡ None) × (string_bytes line ≡ fault_line text)
 RefusesText text Memory = ⊤
 RefusesText text _ = ⊥
+
+-- what a fault of this kind in reading the text of a skin makes of a call
+abbrev pub unread_by : ErrorKind → Refusal
+unread_by OutOfMemory = Memory
+unread_by _ = Skin
 
 -- the word says this skin, or the text that it names does
 abbrev pub IsSkinOf : Held → List ℕ → PageSkin → Type 0
@@ -47,6 +60,7 @@ IsSkinOf holds word skin = ((is_said word ≡ true) × SaysSkin word skin) ⊎ (
 -- there is no skin, or no memory for one
 abbrev pub IsNoSkin : Refusal → Type 0
 IsNoSkin Skin = ⊤
+IsNoSkin (FaultySkin line) = ⊤
 IsNoSkin Memory = ⊤
 IsNoSkin _ = ⊥
 

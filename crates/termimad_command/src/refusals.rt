@@ -22,8 +22,10 @@ pub enum Refusal<'a> {
     Undecoded,
     /// The words ask for what isn't there yet.
     Lacking,
-    /// The word for the skin says none.
+    /// The word for the skin says none, and names no text that can be read.
     Skin,
+    /// The text of a skin says none: the line that says what is wrong with it.
+    FaultySkin(String),
     /// The text of this name can't be read.
     Unreadable(&'a str),
     /// What came isn't UTF-8.
@@ -45,7 +47,7 @@ impl Refusal<'_> {
             Refusal::Unreadable(_) | Refusal::Output => 1,
             Refusal::Mistaken(_) | Refusal::Undecoded | Refusal::Lacking => 2,
             Refusal::NotUtf8 => 3,
-            Refusal::Skin => 4,
+            Refusal::Skin | Refusal::FaultySkin(_) => 4,
             Refusal::Memory => 5,
             Refusal::Unread => UNREAD,
         }
@@ -116,6 +118,7 @@ fn say_refusal<E: Out>(alloc: Global, err: &mut E, refusal: Refusal)
             err,
             "termimad: SKIN is no name, no file and no JSON of a skin\n",
         ),
+        Refusal::FaultySkin(line) => say(err, &line),
         Refusal::Unreadable(name) => say_unreadable(alloc, err, name),
         Refusal::NotUtf8 => say(err, "termimad: what came isn't UTF-8\n"),
         Refusal::Output => say(err, "termimad: the output failed\n"),

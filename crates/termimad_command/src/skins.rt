@@ -1,13 +1,16 @@
 //! The skin of a call.
 
-ghost use Rattle.std.specs.Prelude.{◌≡◌, MatchResult};
-ghost use Rattle.termimad_command.specs.Skins.{IsNoSkin, IsSkinOf, RefusesSkinWord, RefusesText, SaysSkin, begins_as_json, is_made, is_said, skin_refusal};
+ghost use Rattle.std.specs.Prelude.{◌≡◌, IfOk, MatchResult, string_bytes};
+ghost use Rattle.std.specs.IoError.{error_kind};
+ghost use Rattle.termimad_command.specs.Skins.{IsNoSkin, IsSkinOf, RefusesSkinWord, RefusesText, SaysFault, SaysSkin, begins_as_json, fault_line, is_made, is_said, unread_by};
 
 use crate::refusals::Refusal;
+use mad_measure::printable;
 use mad_page_skin::PageSkin;
-use std::alloc::Global;
+use std::alloc::{AllocError, Global};
+use std::io::{self, ErrorKind};
 use termimad_given::Texts;
-use termimad_words::{Failure, page_skin_of_word};
+use termimad_words::{Failure, page_skin_fault, page_skin_of_word};
 
 /// The skin of a word: the made one of that name, what it says as JSON text, or what the text of that name says so.
 ///
@@ -26,7 +29,17 @@ pub(crate) fn skin_of_word<'a, T: Texts>(
     }
     match texts.read(alloc, word) {
         Ok(bytes) => skin_in(alloc, bytes.as_slice()),
-        Err(_) => Err(Refusal::Skin),
+        Err(error) => Err(skin_unread(&error)),
+    }
+}
+
+// What a fault in reading the text of a skin makes of a call.
+fn skin_unread<'a>(error: &io::Error) -> Refusal<'a>
+    ensures { result ≡ unread_by (error_kind error.now) }
+{
+    match error.kind() {
+        ErrorKind::OutOfMemory => Refusal::Memory,
+        _ => Refusal::Skin,
     }
 }
 
@@ -71,16 +84,29 @@ fn skin_said<'a>(alloc: Global, text: &str) -> Result<PageSkin, Refusal<'a>>
 {
     match page_skin_of_word(alloc, Some(text)) {
         Ok((skin, _)) => Ok(skin),
-        Err(failure) => Err(skin_refusal(failure)),
+        Err(Failure::Memory) => Err(Refusal::Memory),
+        Err(_) => Err(faulty_skin(alloc, text)),
     }
 }
 
 // What makes of a call that a text says no skin.
-fn skin_refusal<'a>(failure: Failure) -> Refusal<'a>
-    ensures { result ≡ skin_refusal failure }
+fn faulty_skin<'a>(alloc: Global, text: &str) -> Refusal<'a>
+    ensures { SaysFault text.now result }
 {
-    match failure {
-        Failure::Memory => Refusal::Memory,
-        _ => Refusal::Skin,
+    match fault_line(alloc, text) {
+        Ok(line) => Refusal::FaultySkin(line),
+        Err(_) => Refusal::Memory,
     }
+}
+
+// The line that says what is wrong with a text that says no skin.
+fn fault_line(alloc: Global, text: &str) -> Result<String, AllocError>
+    ensures { IfOk result (λ line. string_bytes line ≡ fault_line text.now) }
+{
+    let fault = page_skin_fault(alloc, text)?;
+    let shown = printable(alloc, &fault)?;
+    let mut line = String::from_str(alloc, "termimad: SKIN: ")?;
+    line.push_str(&shown)?;
+    line.push_str("\n")?;
+    Ok(line)
 }

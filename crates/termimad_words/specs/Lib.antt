@@ -1,3 +1,4 @@
 pub mod Failures
 pub mod GivenSkins
 pub mod Numbers
+pub mod SkinFaults

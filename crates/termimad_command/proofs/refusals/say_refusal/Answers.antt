@@ -1,4 +1,4 @@
-use Rattle.termimad_command.proofs.SayLemmas.{mistake_said, refusal_said}
+use Rattle.termimad_command.proofs.SayLemmas.{fault_told, mistake_said, refusal_said}
 use Rattle.termimad_command.specs.declared.refusals.Refusal.TheVariants.{Lacking, Skin, NotUtf8, Memory}
 use Rattle.termimad_command.proofs.refusals.say_refusal.Goals as goal
 
@@ -10,6 +10,9 @@ returns-in-Lacking g c = refusal_said _ Lacking _ _ c.in-Lacking.is c.say-in-Lac
 
 pub returns-in-Skin : goal.returns-in-Skin
 returns-in-Skin g c = refusal_said _ Skin _ _ c.in-Skin.is c.say-in-Skin.ensures
+
+pub returns-in-FaultySkin : goal.returns-in-FaultySkin
+returns-in-FaultySkin g c = fault_told _ c.in-FaultySkin.line _ _ _ c.in-FaultySkin.is c.deref-in-FaultySkin.ensures c.say-in-FaultySkin.ensures
 
 pub returns-in-Memory : goal.returns-in-Memory
 returns-in-Memory g c = refusal_said _ Memory _ _ c.in-Memory.is c.say-in-Memory.ensures

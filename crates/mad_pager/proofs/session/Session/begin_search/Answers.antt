@@ -5,4 +5,4 @@ use Rattle.mad_pager.proofs.session.Session.begin_search.Goals as goal
 
 pub returns-clause-done : goal.returns-clause-done
 returns-clause-done c =
-    ap (λ (f : Field). let s : State = record (state_of c.args.self.now) { field = f; is_typing = true; types_back = c.args.backward } in s) (c.in_ok-field.ensures ∙ ap new_field c.field_row.ensures)
+    ap (λ (f : Field). let s : State = record (state_of c.args.self.now) { field = f; is_typing = true; types_back = c.args.backward; back = 0 } in s) (c.in_ok-field.ensures ∙ ap new_field c.field_row.ensures)
