@@ -194,7 +194,7 @@ impl MadSkin {
         item_style_at(&self.ordered_item_styles, level)
     }
 
-    /// The style of a compound in a line of that style, which [`style_of_compound`] makes. A link has no style of its own.
+    /// The style of a compound in a line of that style, which [`style_of_compound`] makes. Links and pictures have no style of their own.
     pub fn compound_style(&self, line_style: &LineStyle, compound: &Compound) -> CompoundStyle
         ensures { result ≡ compound_style (row_skin self.now) line_style.now (run_of compound.now) }
     {
@@ -204,6 +204,8 @@ impl MadSkin {
             bold: &self.bold,
             code: &self.inline_code,
             link: &CompoundStyle::default(),
+            picture: &CompoundStyle::default(),
+            sign: &CompoundStyle::default(),
         };
         style_of_compound(line_style, added, &self.ellipsis, compound)
     }
@@ -220,6 +222,8 @@ impl MadSkin {
             strikeout: self.strikeout,
             inline_code: self.inline_code,
             link: CompoundStyle::default(),
+            picture: CompoundStyle::default(),
+            picture_sign: CompoundStyle::default(),
             code_block: self.code_block,
             headers: self.headers,
             table: self.table,
