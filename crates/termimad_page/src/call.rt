@@ -48,7 +48,8 @@ pub(crate) struct Screen<'w> {
 }
 
 /// The call that the words after the program's name are: `page FILE COLUMNS ROWS [SKIN [NAME [PLACE [ROW]]]]` or `whole FILE [SKIN [COLUMNS]]`, with
-/// `--lines` before them where each line of the text stands for itself. None, where they are neither.
+/// `--lines` before them where each line of the text stands for itself, `--plain` where it isn't Markdown, and `--plain=none` where its styles aren't shown
+/// either. None, where they are neither.
 pub(crate) fn parse_call(words: &[String]) -> Option<Call<'_>>
     ensures { MatchOption result (IsNoCall (map string_bytes words.now))
         (λ call. Asks (map string_bytes words.now) call.file.now call.grammar (option_map (λ word. word.now) call.skin) (where_of call.place)) }
@@ -70,6 +71,8 @@ fn grammar_said(words: &[String]) -> (Grammar, &[String])
 {
     match words {
         [first, rest @ ..] if first.as_str() == "--lines" => (Grammar::Lines, rest),
+        [first, rest @ ..] if first.as_str() == "--plain" => (Grammar::Plain(true), rest),
+        [first, rest @ ..] if first.as_str() == "--plain=none" => (Grammar::Plain(false), rest),
         _ => (Grammar::Markdown, words),
     }
 }

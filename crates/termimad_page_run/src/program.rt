@@ -12,6 +12,7 @@ use mad_input::TerminalInput;
 use mad_measure::printable;
 use mad_page_skin::PageSkin;
 use mad_pager::{End, Files, Pager, Turn};
+use mad_plain_page::PlainText;
 use mad_search::PagedText;
 use mad_steady::steady;
 use mad_term::{Error, Out, Source};
@@ -28,6 +29,8 @@ pub enum Grammar {
     Lines,
     /// As Markdown that people write.
     Markdown,
+    /// As no Markdown: no mark is read, but colors and overstrikes are. They are shown, or not.
+    Plain(bool),
 }
 
 /// What is paged, and where.
@@ -58,13 +61,13 @@ pub struct Sheet<'s> {
 /// A size that the terminal tells counts where it was asked for, once for each question. Where the terminal says that it is ready, by `ESC [ 0 n`, it
 /// is asked. What is pasted goes into a search that is typed, or else nowhere.
 ///
-/// What is printable of the name and of the text is shown, made steady; of Markdown that people write, of what it is read as. A block that fills
-/// the room for it whole is no pause.
+/// What is printable of the name and of the text is shown, made steady; of Markdown that people write, of what it is read as. Of no Markdown each
+/// character is shown, or its picture. A block that fills the room for it whole is no pause.
 ///
 /// # Errors
 ///
 /// The first fault of a device, or out of memory. What went out by then is whole pictures, unless the output failed.
-#[tactic(auto, using(crate::proofs::RunLemmas::lines_said, crate::proofs::RunLemmas::markdown_said))]
+#[tactic(auto, using(crate::proofs::RunLemmas::lines_said, crate::proofs::RunLemmas::markdown_said, crate::proofs::RunLemmas::plain_text_said))]
 pub fn run<I: Source, O: Out>(
     alloc: Global,
     sheet: &Sheet,
@@ -94,6 +97,17 @@ pub fn run<I: Source, O: Out>(
             let dressings = dressings_of(alloc, &sections, sheet.skin.marks())?;
             let text = PagedText::Markdown(&markdown, &dressings);
             page(alloc, sheet, name.as_str(), text, input, out)
+        }
+        Grammar::Plain(is_styled) => {
+            let plain = PlainText::read(alloc, sheet.text, is_styled)?;
+            page(
+                alloc,
+                sheet,
+                name.as_str(),
+                PagedText::Plain(&plain),
+                input,
+                out,
+            )
         }
     }
 }
