@@ -1,2 +1,0 @@
-pub mod DressLemmas
-pub mod MarkLemmas

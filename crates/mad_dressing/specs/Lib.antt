@@ -1,4 +1,0 @@
-pub mod DressLaws
-pub mod Dressed
-pub mod WordFlags
-pub mod WordMarks

@@ -1,3 +1,0 @@
-pub mod PieceLemmas
-pub mod CodeLemmas
-pub mod PrintLemmas
