@@ -51,8 +51,7 @@ pub fn begins_word(starts: &[u8], b: u8) -> bool
     b.is_ascii_alphabetic() || b == b'_' || 128 <= b || is_among(starts, b)
 }
 
-/// Whether the bytes begin with others.
-pub fn begins(bytes: &[u8], prefix: &[u8]) -> bool
+fn begins_on(bytes: &[u8], prefix: &[u8]) -> bool
     ensures value { result ≡ begins bytes.now prefix.now }
     ensures within { IsTrue result → length prefix.now ≤ length bytes.now }
 {
@@ -68,6 +67,20 @@ pub fn begins(bytes: &[u8], prefix: &[u8]) -> bool
         }
     }
     true
+}
+
+/// Whether the bytes begin with others.
+pub fn begins(bytes: &[u8], prefix: &[u8]) -> bool
+    ensures value { result ≡ begins bytes.now prefix.now }
+    ensures within { IsTrue result → length prefix.now ≤ length bytes.now }
+{
+    match prefix {
+        [] => true,
+        [p, left @ ..] => match bytes {
+            [b, rest @ ..] if *b == *p => begins_on(rest, left),
+            _ => false,
+        },
+    }
 }
 
 fn continuations(bytes: &[u8]) -> usize

@@ -1,8 +1,9 @@
 //! The token that begins at a place.
 
-ghost use Rattle.std.specs.Prelude.{◌≡◌, ◌<◌, ◌≤◌, ◌+◌, ◌-◌, ◌^◌, map, length, false};
+ghost use Rattle.std.specs.Prelude.{◌≡◌, ◌<◌, ◌≤◌, ◌+◌, ◌-◌, ◌^◌, map, length, slice_index, slice_index_or, [], false};
 ghost use Rattle.code_colors.specs.Bytes.{first};
 ghost use Rattle.code_tables.specs.Rules.{bytes_of, rule_of, word_of, mode_of};
+ghost use Rattle.code_tables.specs.Heads.{by_head, heads_in, rules_of, rules_with};
 ghost use Rattle.code_tables.specs.Tables.{mode_at, rules_at};
 ghost use Rattle.code_colors.specs.Tokens.{marked_word, word_before, marked_up_to, behind, extent_len, begins_any, is_followed, followed_len, is_marked, rule_len, taken_of, is_exponent, is_number_byte, number_from, is_base, is_based, number_len, lowered, is_same, find_class, other_class, word_class, word_taken, other_taken, first_rule, capped, token_at};
 
@@ -12,9 +13,9 @@ use crate::bytes::{
 use crate::extents::{digits, nested, pattern, quoted_char, through, two_parts, up_to};
 use crate::labels::labelled;
 use crate::places::{Before, is_placed};
-use code_tables::kinds::{is_blank_byte, is_space_byte, kind_of};
+use code_tables::kinds::{is_blank_byte, is_space_byte};
 use code_tables::rules::{Class, Extent, Language, ModeRow, RuleRow, Turn};
-use code_tables::tables::{mode_at, rules_at, words_with};
+use code_tables::tables::{mode_at, words_with};
 
 /// A token of a byte and so many more, and what it does to the open modes.
 #[derive(Debug, Clone, Copy)]
@@ -330,13 +331,23 @@ fn first_rule(mode: &ModeRow, before: Before, bytes: &[u8], rules: &[RuleRow]) -
     other_taken(mode, before, bytes)
 }
 
-// What the first rule of the mode says that fits. Only those are tried that may begin with such a byte.
-#[tactic(auto, using(crate::proofs::KindLemmas::first_of_kind))]
-fn first_of_kind(language: Language, n: usize, before: Before, rest: &[u8]) -> Taken
-    ensures { result ≡ first_rule (mode_at language n) before rest.now (rules_at language n) }
+fn place_of(places: &[u8], b: u8) -> usize
+    ensures { result ≡ slice_index places.now b - 48 }
 {
-    let rules = rules_at(language, n, kind_of(first(rest)));
-    first_rule(&mode_at(language, n), before, rest, rules)
+    usize::from(first(tail(places, usize::from(b)))).saturating_sub(48)
+}
+
+fn rules_in(rules: &'static [&'static [RuleRow]], n: usize) -> &'static [RuleRow]
+    ensures { map rule_of result.now ≡ slice_index_or (map rules_of rules.now) n [] }
+{
+    if n < rules.len() { rules[n] } else { &[] }
+}
+
+// The rules that may begin with the byte.
+fn rules_with(mode: &ModeRow, b: u8) -> &'static [RuleRow]
+    ensures { map rule_of result.now ≡ rules_with (heads_in mode.now) b }
+{
+    rules_in(mode.rules, place_of(mode.places.as_bytes(), b))
 }
 
 fn capped(few: usize, token: Taken) -> Taken
@@ -347,13 +358,29 @@ fn capped(few: usize, token: Taken) -> Taken
 }
 
 /// The token that begins here, in a mode of a language.
-#[tactic(auto, unfolding(crate::specs::Tokens::token_at))]
 pub fn token_at(language: Language, n: usize, before: Before, rest: &[u8]) -> Taken
     ensures value { result ≡ token_at language n before rest.now }
     ensures within { result.more ≤ length rest.now - 1 }
 {
+    token_in(language, n, &mode_at(language, n), before, rest)
+}
+
+/// The token that begins here, in a mode that was looked up before. Only those of its rules are tried that may begin with the first byte.
+pub fn token_in(
+    _language: Language,
+    _n: usize,
+    mode: &ModeRow,
+    before: Before,
+    rest: &[u8],
+) -> Taken
+    requires words { mode_of mode.now ≡ mode_at _language _n }
+    requires rules { heads_in mode.now ≡ by_head (rules_at _language _n) }
+    ensures value { result ≡ token_at _language _n before rest.now }
+    ensures within { result.more ≤ length rest.now - 1 }
+{
+    let rules = rules_with(mode, first(rest));
     capped(
         rest.len().saturating_sub(1),
-        first_of_kind(language, n, before, rest),
+        first_rule(mode, before, rest, rules),
     )
 }

@@ -1,11 +1,16 @@
 //! A text of code as its tokens.
 
 ghost use Rattle.std.specs.Prelude.{◌≡◌, IfOk, OnOk};
+ghost use Rattle.code_tables.specs.Rules.{mode_of};
+ghost use Rattle.code_tables.specs.Heads.{by_head, heads_in};
+ghost use Rattle.code_tables.specs.Tables.{mode_at, rules_at};
 ghost use Rattle.code_colors.specs.Tokens.{turned, innermost, tokens_of, plain_tokens, tokens_by};
 
-use crate::places::{nothing_before, passed};
-use crate::token_at::token_at;
-use code_tables::rules::{Class, Language, Turn};
+use crate::bytes::tail;
+use crate::places::{nothing_before, token_passed};
+use crate::token_at::token_in;
+use code_tables::rules::{Class, Language, ModeRow, Turn};
+use code_tables::tables::mode_at;
 use std::alloc::{AllocError, Global};
 
 /// A token of a byte and so many more.
@@ -49,6 +54,29 @@ fn turn(modes: &mut Vec<usize>, turn: Turn) -> Result<(), AllocError>
     Ok(())
 }
 
+// The same, and the innermost mode is looked up where they turn.
+fn turn_mode(
+    language: Language,
+    by: Turn,
+    modes: &mut Vec<usize>,
+    mode: &mut ModeRow,
+) -> Result<(), AllocError>
+    requires words { mode_of mode.old ≡ mode_at language (innermost modes.old.items) }
+    requires rules { heads_in mode.old ≡ by_head (rules_at language (innermost modes.old.items)) }
+    ensures modes { OnOk result (modes.new.items ≡ turned by modes.old.items) }
+    ensures words { OnOk result (mode_of mode.new ≡ mode_at language (innermost modes.new.items)) }
+    ensures rules { OnOk result (heads_in mode.new ≡ by_head (rules_at language (innermost modes.new.items))) }
+{
+    match by {
+        Turn::Stays => Ok(()),
+        _ => {
+            turn(modes, by)?;
+            *mode = mode_at(language, innermost(modes));
+            Ok(())
+        }
+    }
+}
+
 /// A text of code as its tokens.
 ///
 /// # Errors
@@ -61,25 +89,18 @@ pub fn tokens_of(alloc: Global, language: Language, text: &[u8]) -> Result<Vec<T
     let mut tokens = Vec::new(alloc);
     let mut modes = Vec::new(alloc);
     modes.push(0)?;
+    let mut mode = mode_at(language, 0);
     let mut before = nothing_before();
-    let mut skip: usize = 0;
     let mut rest = text;
     while let [b, next @ ..] = rest {
-        if skip > 0 {
-            skip -= 1;
-            before = passed(*b, before);
-            rest = next;
-            continue;
-        }
-        let taken = token_at(language, innermost(&modes), before, rest);
+        let taken = token_in(language, innermost(&modes), &mode, before, rest);
         tokens.push(Token {
             more: taken.more,
             class: taken.class,
         })?;
-        turn(&mut modes, taken.turn)?;
-        skip = taken.more;
-        before = passed(*b, before);
-        rest = next;
+        turn_mode(language, taken.turn, &mut modes, &mut mode)?;
+        before = token_passed(*b, next, taken.more, before);
+        rest = tail(next, taken.more);
     }
     Ok(tokens)
 }

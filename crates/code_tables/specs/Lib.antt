@@ -1,3 +1,4 @@
+pub mod Heads
 pub mod Kinds
 pub mod Rules
 pub mod Tables

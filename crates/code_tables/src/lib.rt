@@ -3,8 +3,8 @@
 //! In the order of the work:
 //!
 //! 1. [`rules`]: what tables are made of.
-//! 2. [`kinds`]: what kind of byte a token begins with.
-//! 3. [`tables`]: the tables, each by the kind of the byte that stands first.
+//! 2. [`kinds`]: which bytes are blank.
+//! 3. [`tables`]: the tables. A mode has its rules by the byte that stands first.
 #![tactic(auto)]
 
 pub mod kinds;

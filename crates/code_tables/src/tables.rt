@@ -1,16 +1,17 @@
 // Written by tools/code_tables. Do not edit.
 //! The tables of languages.
 
-ghost use Rattle.std.specs.Prelude.{◌≡◌, map, filter};
-ghost use Rattle.code_tables.specs.Rules.{rule_of, word_of, mode_of};
-ghost use Rattle.code_tables.specs.Kinds.{may_begin};
+ghost use Rattle.std.specs.Prelude.{◌≡◌, map};
+ghost use Rattle.code_tables.specs.Rules.{word_of, mode_of};
+ghost use Rattle.code_tables.specs.Heads.{by_head, heads_in};
 ghost use Rattle.code_tables.specs.Tables.{sh_rules_0, sh_rules_1, sh_rules_2, sh_rules_3, console_rules_0, console_rules_1, console_rules_2, console_rules_3, console_rules_4, python_rules_0, pycon_rules_0, pycon_rules_1, rust_rules_0, rust_rules_1, javascript_rules_0, javascript_rules_1, javascript_rules_2, typescript_rules_0, typescript_rules_1, typescript_rules_2, json_rules_0, yaml_rules_0, toml_rules_0, ini_rules_0, ini_rules_1, ini_rules_2, diff_rules_0, xml_rules_0, xml_rules_1, html_rules_0, html_rules_1, html_rules_2, html_rules_3, html_rules_4, html_rules_5, css_rules_0, css_rules_1, css_rules_2, c_rules_0, c_rules_1, cpp_rules_0, cpp_rules_1, java_rules_0, csharp_rules_0, csharp_rules_1, kotlin_rules_0, swift_rules_0, go_rules_0, protobuf_rules_0, php_rules_0, php_rules_1, php_rules_2, php_rules_3, ruby_rules_0, ruby_rules_1, ruby_rules_2, perl_rules_0, lua_rules_0, sql_rules_0, make_rules_0, make_rules_1, make_rules_2, make_rules_3, dockerfile_rules_0, dockerfile_rules_1, dockerfile_rules_2, dockerfile_rules_3, cmake_rules_0, lisp_rules_0, haskell_rules_0, sh_0, sh_1, sh_2, sh_3, console_0, console_1, console_2, console_3, console_4, python_0, pycon_0, pycon_1, rust_0, rust_1, javascript_0, javascript_1, javascript_2, typescript_0, typescript_1, typescript_2, json_0, yaml_0, toml_0, ini_0, ini_1, ini_2, diff_0, xml_0, xml_1, html_0, html_1, html_2, html_3, html_4, html_5, css_0, css_1, css_2, c_0, c_1, cpp_0, cpp_1, java_0, csharp_0, csharp_1, kotlin_0, swift_0, go_0, protobuf_0, php_0, php_1, php_2, php_3, ruby_0, ruby_1, ruby_2, perl_0, lua_0, sql_0, make_0, make_1, make_2, make_3, dockerfile_0, dockerfile_1, dockerfile_2, dockerfile_3, cmake_0, lisp_0, haskell_0, sh_mode, sh_rules, console_mode, console_rules, python_mode, python_rules, pycon_mode, pycon_rules, rust_mode, rust_rules, javascript_mode, javascript_rules, typescript_mode, typescript_rules, json_mode, json_rules, yaml_mode, yaml_rules, toml_mode, toml_rules, ini_mode, ini_rules, diff_mode, diff_rules, xml_mode, xml_rules, html_mode, html_rules, css_mode, css_rules, c_mode, c_rules, cpp_mode, cpp_rules, java_mode, java_rules, csharp_mode, csharp_rules, kotlin_mode, kotlin_rules, swift_mode, swift_rules, go_mode, go_rules, protobuf_mode, protobuf_rules, php_mode, php_rules, ruby_mode, ruby_rules, perl_mode, perl_rules, lua_mode, lua_rules, sql_mode, sql_rules, make_mode, make_rules, dockerfile_mode, dockerfile_rules, cmake_mode, cmake_rules, lisp_mode, lisp_rules, haskell_mode, haskell_rules, sh_words, python_words, rust_words, javascript_words, typescript_words, json_words, toml_words, c_words, cpp_words, java_words, csharp_words, kotlin_words, swift_words, go_words, protobuf_words, php_words, ruby_words, perl_words, lua_words, sql_words, make_words, make_words21, cmake_words, lisp_words, haskell_words, mode_at, rules_at, words_with};
 
-use crate::rules::{Class, Escape, Extent, Kind, Language, ModeRow, Place, RuleRow, Turn, Words};
+use crate::rules::{Class, Escape, Extent, Language, ModeRow, Place, RuleRow, Turn, Words};
 
-/// A mode of a language.
+/// A mode of a language, with its rules.
 pub fn mode_at(language: Language, n: usize) -> ModeRow
-    ensures { mode_of result ≡ mode_at language n }
+    ensures words { mode_of result ≡ mode_at language n }
+    ensures rules { heads_in result ≡ by_head (rules_at language n) }
 {
     match language {
         Language::Sh => sh_mode(n),
@@ -46,47 +47,6 @@ pub fn mode_at(language: Language, n: usize) -> ModeRow
         Language::Cmake => cmake_mode(n),
         Language::Lisp => lisp_mode(n),
         Language::Haskell => haskell_mode(n),
-    }
-}
-
-/// The rules of a mode that may begin with such a byte.
-pub fn rules_at(language: Language, n: usize, kind: Kind) -> &'static [RuleRow]
-    ensures { map rule_of result.now ≡ filter (may_begin kind) (rules_at language n) }
-{
-    match language {
-        Language::Sh => sh_rules(n, kind),
-        Language::Console => console_rules(n, kind),
-        Language::Python => python_rules(n, kind),
-        Language::Pycon => pycon_rules(n, kind),
-        Language::Rust => rust_rules(n, kind),
-        Language::Javascript => javascript_rules(n, kind),
-        Language::Typescript => typescript_rules(n, kind),
-        Language::Json => json_rules(n, kind),
-        Language::Yaml => yaml_rules(n, kind),
-        Language::Toml => toml_rules(n, kind),
-        Language::Ini => ini_rules(n, kind),
-        Language::Diff => diff_rules(n, kind),
-        Language::Xml => xml_rules(n, kind),
-        Language::Html => html_rules(n, kind),
-        Language::Css => css_rules(n, kind),
-        Language::C => c_rules(n, kind),
-        Language::Cpp => cpp_rules(n, kind),
-        Language::Java => java_rules(n, kind),
-        Language::Csharp => csharp_rules(n, kind),
-        Language::Kotlin => kotlin_rules(n, kind),
-        Language::Swift => swift_rules(n, kind),
-        Language::Go => go_rules(n, kind),
-        Language::Protobuf => protobuf_rules(n, kind),
-        Language::Php => php_rules(n, kind),
-        Language::Ruby => ruby_rules(n, kind),
-        Language::Perl => perl_rules(n, kind),
-        Language::Lua => lua_rules(n, kind),
-        Language::Sql => sql_rules(n, kind),
-        Language::Make => make_rules(n, kind),
-        Language::Dockerfile => dockerfile_rules(n, kind),
-        Language::Cmake => cmake_rules(n, kind),
-        Language::Lisp => lisp_rules(n, kind),
-        Language::Haskell => haskell_rules(n, kind),
     }
 }
 
@@ -138,19 +98,9 @@ macro_rules! rule {
     };
 }
 
-fn sh_rules(n: usize, kind: Kind) -> &'static [RuleRow]
-    ensures { map rule_of result.now ≡ filter (may_begin kind) (sh_rules n) }
-{
-    match n {
-        1 => sh_rules_1(kind),
-        2 => sh_rules_2(kind),
-        3 => sh_rules_3(kind),
-        _ => sh_rules_0(kind),
-    }
-}
-
 fn sh_mode(n: usize) -> ModeRow
-    ensures { mode_of result ≡ sh_mode n }
+    ensures words { mode_of result ≡ sh_mode n }
+    ensures rules { heads_in result ≡ by_head (sh_rules n) }
 {
     match n {
         1 => sh_1(),
@@ -160,10 +110,14 @@ fn sh_mode(n: usize) -> ModeRow
     }
 }
 
+#[tactic(auto, unfolding(crate::specs::Heads::by_head))]
 fn sh_0() -> ModeRow
-    ensures { mode_of result ≡ sh_0 }
+    ensures words { mode_of result ≡ sh_0 }
+    ensures rules { heads_in result ≡ by_head sh_rules_0 }
 {
     ModeRow {
+        places: "0000000000000000000000000000000000316004700000000000000000002000000000000000000000000000000050008000000000000000000000000000000000000000000000000000000000000000000000000000000000000000000000000000000000000000000000000000000000000000000000000000000000000000",
+        rules: &SH_0_RULES,
         words: Words::ShWords,
         starts: "",
         more: "",
@@ -175,55 +129,73 @@ fn sh_0() -> ModeRow
     }
 }
 
-fn sh_rules_0(kind: Kind) -> &'static [RuleRow]
-    ensures { map rule_of result.now ≡ filter (may_begin kind) sh_rules_0 }
-{
-    match kind {
-        Kind::Blank => &SH_0_BLANK,
-        Kind::Letter => &SH_0_LETTER,
-        Kind::Sign => &SH_0_SIGN,
-    }
-}
-
 #[rattlefmt::skip]
-static SH_0_BLANK: [RuleRow; 0] = [
+static SH_0_RULES: [&[RuleRow]; 9] = [
+    &[
+        rule!(Apart, "", Extent::Word, "", &["=", "+="], Key, Turn::Stays),
+        rule!(Apart, "", Extent::Digits, "", &[], Number, Turn::Stays),
+    ],
+    &[
+        rule!(Apart, "#", Extent::Line, "", &[], Comment, Turn::Stays),
+        rule!(Apart, "", Extent::Word, "", &["=", "+="], Key, Turn::Stays),
+        rule!(Apart, "", Extent::Digits, "", &[], Number, Turn::Stays),
+    ],
+    &[
+        rule!(Anywhere, "<<<", Extent::Itself, "", &[], Plain, Turn::Stays),
+        rule!(Anywhere, "<<", Extent::Labelled(false), "", &[], Text, Turn::Stays),
+        rule!(Apart, "", Extent::Word, "", &["=", "+="], Key, Turn::Stays),
+        rule!(Apart, "", Extent::Digits, "", &[], Number, Turn::Stays),
+    ],
+    &[
+        rule!(Anywhere, "\"", Extent::Itself, "", &[], Text, Turn::Enters(1)),
+        rule!(Apart, "", Extent::Word, "", &["=", "+="], Key, Turn::Stays),
+        rule!(Apart, "", Extent::Digits, "", &[], Number, Turn::Stays),
+    ],
+    &[
+        rule!(Anywhere, "'", Extent::ThroughLines(Escape::Never), "'", &[], Text, Turn::Stays),
+        rule!(Apart, "", Extent::Word, "", &["=", "+="], Key, Turn::Stays),
+        rule!(Apart, "", Extent::Digits, "", &[], Number, Turn::Stays),
+    ],
+    &[
+        rule!(Anywhere, "\\", Extent::OneMore, "", &[], Text, Turn::Stays),
+        rule!(Apart, "", Extent::Word, "", &["=", "+="], Key, Turn::Stays),
+        rule!(Apart, "", Extent::Digits, "", &[], Number, Turn::Stays),
+    ],
+    &[
+        rule!(Anywhere, "$'", Extent::ThroughLines(Escape::Backslash), "'", &[], Text, Turn::Stays),
+        rule!(Apart, "", Extent::Word, "", &["=", "+="], Key, Turn::Stays),
+        rule!(Apart, "", Extent::Digits, "", &[], Number, Turn::Stays),
+        rule!(Anywhere, "${", Extent::Itself, "", &[], Key, Turn::Enters(3)),
+        rule!(Anywhere, "$(", Extent::Itself, "", &[], Plain, Turn::Enters(2)),
+        rule!(Anywhere, "$", Extent::Word, "", &[], Key, Turn::Stays),
+        rule!(Anywhere, "$#", Extent::Itself, "", &[], Key, Turn::Stays),
+        rule!(Anywhere, "$@", Extent::Itself, "", &[], Key, Turn::Stays),
+        rule!(Anywhere, "$*", Extent::Itself, "", &[], Key, Turn::Stays),
+        rule!(Anywhere, "$?", Extent::Itself, "", &[], Key, Turn::Stays),
+        rule!(Anywhere, "$!", Extent::Itself, "", &[], Key, Turn::Stays),
+        rule!(Anywhere, "$$", Extent::Itself, "", &[], Key, Turn::Stays),
+        rule!(Anywhere, "$-", Extent::Itself, "", &[], Key, Turn::Stays),
+    ],
+    &[
+        rule!(Apart, "", Extent::Word, "", &["=", "+="], Key, Turn::Stays),
+        rule!(Apart, "", Extent::Digits, "", &[], Number, Turn::Stays),
+        rule!(Anywhere, "(", Extent::Itself, "", &[], Plain, Turn::Enters(2)),
+    ],
+    &[
+        rule!(Apart, "", Extent::Word, "", &["=", "+="], Key, Turn::Stays),
+        rule!(Apart, "", Extent::Digits, "", &[], Number, Turn::Stays),
+        rule!(Anywhere, "`", Extent::Itself, "", &[], Text, Turn::Stays),
+    ],
 ];
 
-#[rattlefmt::skip]
-static SH_0_LETTER: [RuleRow; 2] = [
-    rule!(Apart, "", Extent::Word, "", &["=", "+="], Key, Turn::Stays),
-    rule!(Apart, "", Extent::Digits, "", &[], Number, Turn::Stays),
-];
-
-#[rattlefmt::skip]
-static SH_0_SIGN: [RuleRow; 21] = [
-    rule!(Apart, "#", Extent::Line, "", &[], Comment, Turn::Stays),
-    rule!(Anywhere, "<<<", Extent::Itself, "", &[], Plain, Turn::Stays),
-    rule!(Anywhere, "<<", Extent::Labelled(false), "", &[], Text, Turn::Stays),
-    rule!(Anywhere, "$'", Extent::ThroughLines(Escape::Backslash), "'", &[], Text, Turn::Stays),
-    rule!(Anywhere, "\"", Extent::Itself, "", &[], Text, Turn::Enters(1)),
-    rule!(Anywhere, "'", Extent::ThroughLines(Escape::Never), "'", &[], Text, Turn::Stays),
-    rule!(Anywhere, "\\", Extent::OneMore, "", &[], Text, Turn::Stays),
-    rule!(Apart, "", Extent::Word, "", &["=", "+="], Key, Turn::Stays),
-    rule!(Apart, "", Extent::Digits, "", &[], Number, Turn::Stays),
-    rule!(Anywhere, "${", Extent::Itself, "", &[], Key, Turn::Enters(3)),
-    rule!(Anywhere, "$(", Extent::Itself, "", &[], Plain, Turn::Enters(2)),
-    rule!(Anywhere, "$", Extent::Word, "", &[], Key, Turn::Stays),
-    rule!(Anywhere, "$#", Extent::Itself, "", &[], Key, Turn::Stays),
-    rule!(Anywhere, "$@", Extent::Itself, "", &[], Key, Turn::Stays),
-    rule!(Anywhere, "$*", Extent::Itself, "", &[], Key, Turn::Stays),
-    rule!(Anywhere, "$?", Extent::Itself, "", &[], Key, Turn::Stays),
-    rule!(Anywhere, "$!", Extent::Itself, "", &[], Key, Turn::Stays),
-    rule!(Anywhere, "$$", Extent::Itself, "", &[], Key, Turn::Stays),
-    rule!(Anywhere, "$-", Extent::Itself, "", &[], Key, Turn::Stays),
-    rule!(Anywhere, "(", Extent::Itself, "", &[], Plain, Turn::Enters(2)),
-    rule!(Anywhere, "`", Extent::Itself, "", &[], Text, Turn::Stays),
-];
-
+#[tactic(auto, unfolding(crate::specs::Heads::by_head))]
 fn sh_1() -> ModeRow
-    ensures { mode_of result ≡ sh_1 }
+    ensures words { mode_of result ≡ sh_1 }
+    ensures rules { heads_in result ≡ by_head sh_rules_1 }
 {
     ModeRow {
+        places: "0000000000000000000000000000000000203000000000000000000000000000000000000000000000000000000010000000000000000000000000000000000000000000000000000000000000000000000000000000000000000000000000000000000000000000000000000000000000000000000000000000000000000000",
+        rules: &SH_1_RULES,
         words: Words::NoWords,
         starts: "",
         more: "",
@@ -235,44 +207,37 @@ fn sh_1() -> ModeRow
     }
 }
 
-fn sh_rules_1(kind: Kind) -> &'static [RuleRow]
-    ensures { map rule_of result.now ≡ filter (may_begin kind) sh_rules_1 }
-{
-    match kind {
-        Kind::Blank => &SH_1_BLANK,
-        Kind::Letter => &SH_1_LETTER,
-        Kind::Sign => &SH_1_SIGN,
-    }
-}
-
 #[rattlefmt::skip]
-static SH_1_BLANK: [RuleRow; 0] = [
+static SH_1_RULES: [&[RuleRow]; 4] = [
+    &[],
+    &[
+        rule!(Anywhere, "\\", Extent::OneMore, "", &[], Text, Turn::Stays),
+    ],
+    &[
+        rule!(Anywhere, "\"", Extent::Itself, "", &[], Text, Turn::Leaves),
+    ],
+    &[
+        rule!(Anywhere, "${", Extent::Itself, "", &[], Key, Turn::Enters(3)),
+        rule!(Anywhere, "$(", Extent::Itself, "", &[], Plain, Turn::Enters(2)),
+        rule!(Anywhere, "$", Extent::Word, "", &[], Key, Turn::Stays),
+        rule!(Anywhere, "$#", Extent::Itself, "", &[], Key, Turn::Stays),
+        rule!(Anywhere, "$@", Extent::Itself, "", &[], Key, Turn::Stays),
+        rule!(Anywhere, "$*", Extent::Itself, "", &[], Key, Turn::Stays),
+        rule!(Anywhere, "$?", Extent::Itself, "", &[], Key, Turn::Stays),
+        rule!(Anywhere, "$!", Extent::Itself, "", &[], Key, Turn::Stays),
+        rule!(Anywhere, "$$", Extent::Itself, "", &[], Key, Turn::Stays),
+        rule!(Anywhere, "$-", Extent::Itself, "", &[], Key, Turn::Stays),
+    ],
 ];
 
-#[rattlefmt::skip]
-static SH_1_LETTER: [RuleRow; 0] = [
-];
-
-#[rattlefmt::skip]
-static SH_1_SIGN: [RuleRow; 12] = [
-    rule!(Anywhere, "\\", Extent::OneMore, "", &[], Text, Turn::Stays),
-    rule!(Anywhere, "\"", Extent::Itself, "", &[], Text, Turn::Leaves),
-    rule!(Anywhere, "${", Extent::Itself, "", &[], Key, Turn::Enters(3)),
-    rule!(Anywhere, "$(", Extent::Itself, "", &[], Plain, Turn::Enters(2)),
-    rule!(Anywhere, "$", Extent::Word, "", &[], Key, Turn::Stays),
-    rule!(Anywhere, "$#", Extent::Itself, "", &[], Key, Turn::Stays),
-    rule!(Anywhere, "$@", Extent::Itself, "", &[], Key, Turn::Stays),
-    rule!(Anywhere, "$*", Extent::Itself, "", &[], Key, Turn::Stays),
-    rule!(Anywhere, "$?", Extent::Itself, "", &[], Key, Turn::Stays),
-    rule!(Anywhere, "$!", Extent::Itself, "", &[], Key, Turn::Stays),
-    rule!(Anywhere, "$$", Extent::Itself, "", &[], Key, Turn::Stays),
-    rule!(Anywhere, "$-", Extent::Itself, "", &[], Key, Turn::Stays),
-];
-
+#[tactic(auto, unfolding(crate::specs::Heads::by_head))]
 fn sh_2() -> ModeRow
-    ensures { mode_of result ≡ sh_2 }
+    ensures words { mode_of result ≡ sh_2 }
+    ensures rules { heads_in result ≡ by_head sh_rules_2 }
 {
     ModeRow {
+        places: "0000000000000000000000000000000000427005810000000000000000003000000000000000000000000000000060009000000000000000000000000000000000000000000000000000000000000000000000000000000000000000000000000000000000000000000000000000000000000000000000000000000000000000",
+        rules: &SH_2_RULES,
         words: Words::ShWords,
         starts: "",
         more: "",
@@ -284,56 +249,78 @@ fn sh_2() -> ModeRow
     }
 }
 
-fn sh_rules_2(kind: Kind) -> &'static [RuleRow]
-    ensures { map rule_of result.now ≡ filter (may_begin kind) sh_rules_2 }
-{
-    match kind {
-        Kind::Blank => &SH_2_BLANK,
-        Kind::Letter => &SH_2_LETTER,
-        Kind::Sign => &SH_2_SIGN,
-    }
-}
-
 #[rattlefmt::skip]
-static SH_2_BLANK: [RuleRow; 0] = [
+static SH_2_RULES: [&[RuleRow]; 10] = [
+    &[
+        rule!(Apart, "", Extent::Word, "", &["=", "+="], Key, Turn::Stays),
+        rule!(Apart, "", Extent::Digits, "", &[], Number, Turn::Stays),
+    ],
+    &[
+        rule!(Anywhere, ")", Extent::Itself, "", &[], Plain, Turn::Leaves),
+        rule!(Apart, "", Extent::Word, "", &["=", "+="], Key, Turn::Stays),
+        rule!(Apart, "", Extent::Digits, "", &[], Number, Turn::Stays),
+    ],
+    &[
+        rule!(Apart, "#", Extent::Line, "", &[], Comment, Turn::Stays),
+        rule!(Apart, "", Extent::Word, "", &["=", "+="], Key, Turn::Stays),
+        rule!(Apart, "", Extent::Digits, "", &[], Number, Turn::Stays),
+    ],
+    &[
+        rule!(Anywhere, "<<<", Extent::Itself, "", &[], Plain, Turn::Stays),
+        rule!(Anywhere, "<<", Extent::Labelled(false), "", &[], Text, Turn::Stays),
+        rule!(Apart, "", Extent::Word, "", &["=", "+="], Key, Turn::Stays),
+        rule!(Apart, "", Extent::Digits, "", &[], Number, Turn::Stays),
+    ],
+    &[
+        rule!(Anywhere, "\"", Extent::Itself, "", &[], Text, Turn::Enters(1)),
+        rule!(Apart, "", Extent::Word, "", &["=", "+="], Key, Turn::Stays),
+        rule!(Apart, "", Extent::Digits, "", &[], Number, Turn::Stays),
+    ],
+    &[
+        rule!(Anywhere, "'", Extent::ThroughLines(Escape::Never), "'", &[], Text, Turn::Stays),
+        rule!(Apart, "", Extent::Word, "", &["=", "+="], Key, Turn::Stays),
+        rule!(Apart, "", Extent::Digits, "", &[], Number, Turn::Stays),
+    ],
+    &[
+        rule!(Anywhere, "\\", Extent::OneMore, "", &[], Text, Turn::Stays),
+        rule!(Apart, "", Extent::Word, "", &["=", "+="], Key, Turn::Stays),
+        rule!(Apart, "", Extent::Digits, "", &[], Number, Turn::Stays),
+    ],
+    &[
+        rule!(Anywhere, "$'", Extent::ThroughLines(Escape::Backslash), "'", &[], Text, Turn::Stays),
+        rule!(Apart, "", Extent::Word, "", &["=", "+="], Key, Turn::Stays),
+        rule!(Apart, "", Extent::Digits, "", &[], Number, Turn::Stays),
+        rule!(Anywhere, "${", Extent::Itself, "", &[], Key, Turn::Enters(3)),
+        rule!(Anywhere, "$(", Extent::Itself, "", &[], Plain, Turn::Enters(2)),
+        rule!(Anywhere, "$", Extent::Word, "", &[], Key, Turn::Stays),
+        rule!(Anywhere, "$#", Extent::Itself, "", &[], Key, Turn::Stays),
+        rule!(Anywhere, "$@", Extent::Itself, "", &[], Key, Turn::Stays),
+        rule!(Anywhere, "$*", Extent::Itself, "", &[], Key, Turn::Stays),
+        rule!(Anywhere, "$?", Extent::Itself, "", &[], Key, Turn::Stays),
+        rule!(Anywhere, "$!", Extent::Itself, "", &[], Key, Turn::Stays),
+        rule!(Anywhere, "$$", Extent::Itself, "", &[], Key, Turn::Stays),
+        rule!(Anywhere, "$-", Extent::Itself, "", &[], Key, Turn::Stays),
+    ],
+    &[
+        rule!(Apart, "", Extent::Word, "", &["=", "+="], Key, Turn::Stays),
+        rule!(Apart, "", Extent::Digits, "", &[], Number, Turn::Stays),
+        rule!(Anywhere, "(", Extent::Itself, "", &[], Plain, Turn::Enters(2)),
+    ],
+    &[
+        rule!(Apart, "", Extent::Word, "", &["=", "+="], Key, Turn::Stays),
+        rule!(Apart, "", Extent::Digits, "", &[], Number, Turn::Stays),
+        rule!(Anywhere, "`", Extent::Itself, "", &[], Text, Turn::Stays),
+    ],
 ];
 
-#[rattlefmt::skip]
-static SH_2_LETTER: [RuleRow; 2] = [
-    rule!(Apart, "", Extent::Word, "", &["=", "+="], Key, Turn::Stays),
-    rule!(Apart, "", Extent::Digits, "", &[], Number, Turn::Stays),
-];
-
-#[rattlefmt::skip]
-static SH_2_SIGN: [RuleRow; 22] = [
-    rule!(Anywhere, ")", Extent::Itself, "", &[], Plain, Turn::Leaves),
-    rule!(Apart, "#", Extent::Line, "", &[], Comment, Turn::Stays),
-    rule!(Anywhere, "<<<", Extent::Itself, "", &[], Plain, Turn::Stays),
-    rule!(Anywhere, "<<", Extent::Labelled(false), "", &[], Text, Turn::Stays),
-    rule!(Anywhere, "$'", Extent::ThroughLines(Escape::Backslash), "'", &[], Text, Turn::Stays),
-    rule!(Anywhere, "\"", Extent::Itself, "", &[], Text, Turn::Enters(1)),
-    rule!(Anywhere, "'", Extent::ThroughLines(Escape::Never), "'", &[], Text, Turn::Stays),
-    rule!(Anywhere, "\\", Extent::OneMore, "", &[], Text, Turn::Stays),
-    rule!(Apart, "", Extent::Word, "", &["=", "+="], Key, Turn::Stays),
-    rule!(Apart, "", Extent::Digits, "", &[], Number, Turn::Stays),
-    rule!(Anywhere, "${", Extent::Itself, "", &[], Key, Turn::Enters(3)),
-    rule!(Anywhere, "$(", Extent::Itself, "", &[], Plain, Turn::Enters(2)),
-    rule!(Anywhere, "$", Extent::Word, "", &[], Key, Turn::Stays),
-    rule!(Anywhere, "$#", Extent::Itself, "", &[], Key, Turn::Stays),
-    rule!(Anywhere, "$@", Extent::Itself, "", &[], Key, Turn::Stays),
-    rule!(Anywhere, "$*", Extent::Itself, "", &[], Key, Turn::Stays),
-    rule!(Anywhere, "$?", Extent::Itself, "", &[], Key, Turn::Stays),
-    rule!(Anywhere, "$!", Extent::Itself, "", &[], Key, Turn::Stays),
-    rule!(Anywhere, "$$", Extent::Itself, "", &[], Key, Turn::Stays),
-    rule!(Anywhere, "$-", Extent::Itself, "", &[], Key, Turn::Stays),
-    rule!(Anywhere, "(", Extent::Itself, "", &[], Plain, Turn::Enters(2)),
-    rule!(Anywhere, "`", Extent::Itself, "", &[], Text, Turn::Stays),
-];
-
+#[tactic(auto, unfolding(crate::specs::Heads::by_head))]
 fn sh_3() -> ModeRow
-    ensures { mode_of result ≡ sh_3 }
+    ensures words { mode_of result ≡ sh_3 }
+    ensures rules { heads_in result ≡ by_head sh_rules_3 }
 {
     ModeRow {
+        places: "0000000000000000000000000000000000204000000000000000000000000000000000000000000000000000000030000000000000000000000000000000010000000000000000000000000000000000000000000000000000000000000000000000000000000000000000000000000000000000000000000000000000000000",
+        rules: &SH_3_RULES,
         words: Words::NoWords,
         starts: "",
         more: "",
@@ -345,55 +332,35 @@ fn sh_3() -> ModeRow
     }
 }
 
-fn sh_rules_3(kind: Kind) -> &'static [RuleRow]
-    ensures { map rule_of result.now ≡ filter (may_begin kind) sh_rules_3 }
-{
-    match kind {
-        Kind::Blank => &SH_3_BLANK,
-        Kind::Letter => &SH_3_LETTER,
-        Kind::Sign => &SH_3_SIGN,
-    }
-}
-
 #[rattlefmt::skip]
-static SH_3_BLANK: [RuleRow; 0] = [
+static SH_3_RULES: [&[RuleRow]; 5] = [
+    &[],
+    &[
+        rule!(Anywhere, "}", Extent::Itself, "", &[], Key, Turn::Leaves),
+    ],
+    &[
+        rule!(Anywhere, "\"", Extent::Itself, "", &[], Text, Turn::Enters(1)),
+    ],
+    &[
+        rule!(Anywhere, "\\", Extent::OneMore, "", &[], Text, Turn::Stays),
+    ],
+    &[
+        rule!(Anywhere, "${", Extent::Itself, "", &[], Key, Turn::Enters(3)),
+        rule!(Anywhere, "$(", Extent::Itself, "", &[], Plain, Turn::Enters(2)),
+        rule!(Anywhere, "$", Extent::Word, "", &[], Key, Turn::Stays),
+        rule!(Anywhere, "$#", Extent::Itself, "", &[], Key, Turn::Stays),
+        rule!(Anywhere, "$@", Extent::Itself, "", &[], Key, Turn::Stays),
+        rule!(Anywhere, "$*", Extent::Itself, "", &[], Key, Turn::Stays),
+        rule!(Anywhere, "$?", Extent::Itself, "", &[], Key, Turn::Stays),
+        rule!(Anywhere, "$!", Extent::Itself, "", &[], Key, Turn::Stays),
+        rule!(Anywhere, "$$", Extent::Itself, "", &[], Key, Turn::Stays),
+        rule!(Anywhere, "$-", Extent::Itself, "", &[], Key, Turn::Stays),
+    ],
 ];
-
-#[rattlefmt::skip]
-static SH_3_LETTER: [RuleRow; 0] = [
-];
-
-#[rattlefmt::skip]
-static SH_3_SIGN: [RuleRow; 13] = [
-    rule!(Anywhere, "}", Extent::Itself, "", &[], Key, Turn::Leaves),
-    rule!(Anywhere, "\"", Extent::Itself, "", &[], Text, Turn::Enters(1)),
-    rule!(Anywhere, "\\", Extent::OneMore, "", &[], Text, Turn::Stays),
-    rule!(Anywhere, "${", Extent::Itself, "", &[], Key, Turn::Enters(3)),
-    rule!(Anywhere, "$(", Extent::Itself, "", &[], Plain, Turn::Enters(2)),
-    rule!(Anywhere, "$", Extent::Word, "", &[], Key, Turn::Stays),
-    rule!(Anywhere, "$#", Extent::Itself, "", &[], Key, Turn::Stays),
-    rule!(Anywhere, "$@", Extent::Itself, "", &[], Key, Turn::Stays),
-    rule!(Anywhere, "$*", Extent::Itself, "", &[], Key, Turn::Stays),
-    rule!(Anywhere, "$?", Extent::Itself, "", &[], Key, Turn::Stays),
-    rule!(Anywhere, "$!", Extent::Itself, "", &[], Key, Turn::Stays),
-    rule!(Anywhere, "$$", Extent::Itself, "", &[], Key, Turn::Stays),
-    rule!(Anywhere, "$-", Extent::Itself, "", &[], Key, Turn::Stays),
-];
-
-fn console_rules(n: usize, kind: Kind) -> &'static [RuleRow]
-    ensures { map rule_of result.now ≡ filter (may_begin kind) (console_rules n) }
-{
-    match n {
-        1 => console_rules_1(kind),
-        2 => console_rules_2(kind),
-        3 => console_rules_3(kind),
-        4 => console_rules_4(kind),
-        _ => console_rules_0(kind),
-    }
-}
 
 fn console_mode(n: usize) -> ModeRow
-    ensures { mode_of result ≡ console_mode n }
+    ensures words { mode_of result ≡ console_mode n }
+    ensures rules { heads_in result ≡ by_head (console_rules n) }
 {
     match n {
         1 => console_1(),
@@ -404,10 +371,14 @@ fn console_mode(n: usize) -> ModeRow
     }
 }
 
+#[tactic(auto, unfolding(crate::specs::Heads::by_head))]
 fn console_0() -> ModeRow
-    ensures { mode_of result ≡ console_0 }
+    ensures words { mode_of result ≡ console_0 }
+    ensures rules { heads_in result ≡ by_head console_rules_0 }
 {
     ModeRow {
+        places: "0000000000000000000000000000000000021300000000000000000000000040000000000000000000000000000000000000000000000000000000000000000000000000000000000000000000000000000000000000000000000000000000000000000000000000000000000000000000000000000000000000000000000000",
+        rules: &CONSOLE_0_RULES,
         words: Words::NoWords,
         starts: "",
         more: "",
@@ -419,36 +390,31 @@ fn console_0() -> ModeRow
     }
 }
 
-fn console_rules_0(kind: Kind) -> &'static [RuleRow]
-    ensures { map rule_of result.now ≡ filter (may_begin kind) console_rules_0 }
-{
-    match kind {
-        Kind::Blank => &CONSOLE_0_BLANK,
-        Kind::Letter => &CONSOLE_0_LETTER,
-        Kind::Sign => &CONSOLE_0_SIGN,
-    }
-}
-
 #[rattlefmt::skip]
-static CONSOLE_0_BLANK: [RuleRow; 0] = [
+static CONSOLE_0_RULES: [&[RuleRow]; 5] = [
+    &[],
+    &[
+        rule!(FirstWord, "$ ", Extent::Itself, "", &[], Key, Turn::Enters(1)),
+    ],
+    &[
+        rule!(FirstWord, "# ", Extent::Itself, "", &[], Key, Turn::Enters(1)),
+    ],
+    &[
+        rule!(FirstWord, "% ", Extent::Itself, "", &[], Key, Turn::Enters(1)),
+    ],
+    &[
+        rule!(FirstWord, "> ", Extent::Itself, "", &[], Key, Turn::Enters(1)),
+    ],
 ];
 
-#[rattlefmt::skip]
-static CONSOLE_0_LETTER: [RuleRow; 0] = [
-];
-
-#[rattlefmt::skip]
-static CONSOLE_0_SIGN: [RuleRow; 4] = [
-    rule!(FirstWord, "$ ", Extent::Itself, "", &[], Key, Turn::Enters(1)),
-    rule!(FirstWord, "# ", Extent::Itself, "", &[], Key, Turn::Enters(1)),
-    rule!(FirstWord, "% ", Extent::Itself, "", &[], Key, Turn::Enters(1)),
-    rule!(FirstWord, "> ", Extent::Itself, "", &[], Key, Turn::Enters(1)),
-];
-
+#[tactic(auto, unfolding(crate::specs::Heads::by_head))]
 fn console_1() -> ModeRow
-    ensures { mode_of result ≡ console_1 }
+    ensures words { mode_of result ≡ console_1 }
+    ensures rules { heads_in result ≡ by_head console_rules_1 }
 {
     ModeRow {
+        places: "0000000000100000000000000000000000427005800000000000000000003000000000000000000000000000000060009000000000000000000000000000000000000000000000000000000000000000000000000000000000000000000000000000000000000000000000000000000000000000000000000000000000000000",
+        rules: &CONSOLE_1_RULES,
         words: Words::ShWords,
         starts: "",
         more: "",
@@ -460,57 +426,79 @@ fn console_1() -> ModeRow
     }
 }
 
-fn console_rules_1(kind: Kind) -> &'static [RuleRow]
-    ensures { map rule_of result.now ≡ filter (may_begin kind) console_rules_1 }
-{
-    match kind {
-        Kind::Blank => &CONSOLE_1_BLANK,
-        Kind::Letter => &CONSOLE_1_LETTER,
-        Kind::Sign => &CONSOLE_1_SIGN,
-    }
-}
-
 #[rattlefmt::skip]
-static CONSOLE_1_BLANK: [RuleRow; 1] = [
-    rule!(Anywhere, "\n", Extent::Itself, "", &[], Plain, Turn::Leaves),
+static CONSOLE_1_RULES: [&[RuleRow]; 10] = [
+    &[
+        rule!(Apart, "", Extent::Word, "", &["=", "+="], Key, Turn::Stays),
+        rule!(Apart, "", Extent::Digits, "", &[], Number, Turn::Stays),
+    ],
+    &[
+        rule!(Anywhere, "\n", Extent::Itself, "", &[], Plain, Turn::Leaves),
+        rule!(Apart, "", Extent::Word, "", &["=", "+="], Key, Turn::Stays),
+        rule!(Apart, "", Extent::Digits, "", &[], Number, Turn::Stays),
+    ],
+    &[
+        rule!(Apart, "#", Extent::Line, "", &[], Comment, Turn::Stays),
+        rule!(Apart, "", Extent::Word, "", &["=", "+="], Key, Turn::Stays),
+        rule!(Apart, "", Extent::Digits, "", &[], Number, Turn::Stays),
+    ],
+    &[
+        rule!(Anywhere, "<<<", Extent::Itself, "", &[], Plain, Turn::Stays),
+        rule!(Anywhere, "<<", Extent::Labelled(false), "", &[], Text, Turn::Stays),
+        rule!(Apart, "", Extent::Word, "", &["=", "+="], Key, Turn::Stays),
+        rule!(Apart, "", Extent::Digits, "", &[], Number, Turn::Stays),
+    ],
+    &[
+        rule!(Anywhere, "\"", Extent::Itself, "", &[], Text, Turn::Enters(2)),
+        rule!(Apart, "", Extent::Word, "", &["=", "+="], Key, Turn::Stays),
+        rule!(Apart, "", Extent::Digits, "", &[], Number, Turn::Stays),
+    ],
+    &[
+        rule!(Anywhere, "'", Extent::ThroughLines(Escape::Never), "'", &[], Text, Turn::Stays),
+        rule!(Apart, "", Extent::Word, "", &["=", "+="], Key, Turn::Stays),
+        rule!(Apart, "", Extent::Digits, "", &[], Number, Turn::Stays),
+    ],
+    &[
+        rule!(Anywhere, "\\\n", Extent::Itself, "", &[], Text, Turn::Stays),
+        rule!(Anywhere, "\\", Extent::OneMore, "", &[], Text, Turn::Stays),
+        rule!(Apart, "", Extent::Word, "", &["=", "+="], Key, Turn::Stays),
+        rule!(Apart, "", Extent::Digits, "", &[], Number, Turn::Stays),
+    ],
+    &[
+        rule!(Anywhere, "$'", Extent::ThroughLines(Escape::Backslash), "'", &[], Text, Turn::Stays),
+        rule!(Apart, "", Extent::Word, "", &["=", "+="], Key, Turn::Stays),
+        rule!(Apart, "", Extent::Digits, "", &[], Number, Turn::Stays),
+        rule!(Anywhere, "${", Extent::Itself, "", &[], Key, Turn::Enters(4)),
+        rule!(Anywhere, "$(", Extent::Itself, "", &[], Plain, Turn::Enters(3)),
+        rule!(Anywhere, "$", Extent::Word, "", &[], Key, Turn::Stays),
+        rule!(Anywhere, "$#", Extent::Itself, "", &[], Key, Turn::Stays),
+        rule!(Anywhere, "$@", Extent::Itself, "", &[], Key, Turn::Stays),
+        rule!(Anywhere, "$*", Extent::Itself, "", &[], Key, Turn::Stays),
+        rule!(Anywhere, "$?", Extent::Itself, "", &[], Key, Turn::Stays),
+        rule!(Anywhere, "$!", Extent::Itself, "", &[], Key, Turn::Stays),
+        rule!(Anywhere, "$$", Extent::Itself, "", &[], Key, Turn::Stays),
+        rule!(Anywhere, "$-", Extent::Itself, "", &[], Key, Turn::Stays),
+    ],
+    &[
+        rule!(Apart, "", Extent::Word, "", &["=", "+="], Key, Turn::Stays),
+        rule!(Apart, "", Extent::Digits, "", &[], Number, Turn::Stays),
+        rule!(Anywhere, "(", Extent::Itself, "", &[], Plain, Turn::Enters(3)),
+    ],
+    &[
+        rule!(Apart, "", Extent::Word, "", &["=", "+="], Key, Turn::Stays),
+        rule!(Apart, "", Extent::Digits, "", &[], Number, Turn::Stays),
+        rule!(Anywhere, "`", Extent::Itself, "", &[], Text, Turn::Stays),
+    ],
 ];
 
-#[rattlefmt::skip]
-static CONSOLE_1_LETTER: [RuleRow; 2] = [
-    rule!(Apart, "", Extent::Word, "", &["=", "+="], Key, Turn::Stays),
-    rule!(Apart, "", Extent::Digits, "", &[], Number, Turn::Stays),
-];
-
-#[rattlefmt::skip]
-static CONSOLE_1_SIGN: [RuleRow; 22] = [
-    rule!(Anywhere, "\\\n", Extent::Itself, "", &[], Text, Turn::Stays),
-    rule!(Apart, "#", Extent::Line, "", &[], Comment, Turn::Stays),
-    rule!(Anywhere, "<<<", Extent::Itself, "", &[], Plain, Turn::Stays),
-    rule!(Anywhere, "<<", Extent::Labelled(false), "", &[], Text, Turn::Stays),
-    rule!(Anywhere, "$'", Extent::ThroughLines(Escape::Backslash), "'", &[], Text, Turn::Stays),
-    rule!(Anywhere, "\"", Extent::Itself, "", &[], Text, Turn::Enters(2)),
-    rule!(Anywhere, "'", Extent::ThroughLines(Escape::Never), "'", &[], Text, Turn::Stays),
-    rule!(Anywhere, "\\", Extent::OneMore, "", &[], Text, Turn::Stays),
-    rule!(Apart, "", Extent::Word, "", &["=", "+="], Key, Turn::Stays),
-    rule!(Apart, "", Extent::Digits, "", &[], Number, Turn::Stays),
-    rule!(Anywhere, "${", Extent::Itself, "", &[], Key, Turn::Enters(4)),
-    rule!(Anywhere, "$(", Extent::Itself, "", &[], Plain, Turn::Enters(3)),
-    rule!(Anywhere, "$", Extent::Word, "", &[], Key, Turn::Stays),
-    rule!(Anywhere, "$#", Extent::Itself, "", &[], Key, Turn::Stays),
-    rule!(Anywhere, "$@", Extent::Itself, "", &[], Key, Turn::Stays),
-    rule!(Anywhere, "$*", Extent::Itself, "", &[], Key, Turn::Stays),
-    rule!(Anywhere, "$?", Extent::Itself, "", &[], Key, Turn::Stays),
-    rule!(Anywhere, "$!", Extent::Itself, "", &[], Key, Turn::Stays),
-    rule!(Anywhere, "$$", Extent::Itself, "", &[], Key, Turn::Stays),
-    rule!(Anywhere, "$-", Extent::Itself, "", &[], Key, Turn::Stays),
-    rule!(Anywhere, "(", Extent::Itself, "", &[], Plain, Turn::Enters(3)),
-    rule!(Anywhere, "`", Extent::Itself, "", &[], Text, Turn::Stays),
-];
-
+#[tactic(auto, unfolding(crate::specs::Heads::by_head))]
 fn console_2() -> ModeRow
-    ensures { mode_of result ≡ console_2 }
+    ensures words { mode_of result ≡ console_2 }
+    ensures rules { heads_in result ≡ by_head console_rules_2 }
 {
     ModeRow {
+        places: "0000000000000000000000000000000000203000000000000000000000000000000000000000000000000000000010000000000000000000000000000000000000000000000000000000000000000000000000000000000000000000000000000000000000000000000000000000000000000000000000000000000000000000",
+        rules: &CONSOLE_2_RULES,
         words: Words::NoWords,
         starts: "",
         more: "",
@@ -522,44 +510,37 @@ fn console_2() -> ModeRow
     }
 }
 
-fn console_rules_2(kind: Kind) -> &'static [RuleRow]
-    ensures { map rule_of result.now ≡ filter (may_begin kind) console_rules_2 }
-{
-    match kind {
-        Kind::Blank => &CONSOLE_2_BLANK,
-        Kind::Letter => &CONSOLE_2_LETTER,
-        Kind::Sign => &CONSOLE_2_SIGN,
-    }
-}
-
 #[rattlefmt::skip]
-static CONSOLE_2_BLANK: [RuleRow; 0] = [
+static CONSOLE_2_RULES: [&[RuleRow]; 4] = [
+    &[],
+    &[
+        rule!(Anywhere, "\\", Extent::OneMore, "", &[], Text, Turn::Stays),
+    ],
+    &[
+        rule!(Anywhere, "\"", Extent::Itself, "", &[], Text, Turn::Leaves),
+    ],
+    &[
+        rule!(Anywhere, "${", Extent::Itself, "", &[], Key, Turn::Enters(4)),
+        rule!(Anywhere, "$(", Extent::Itself, "", &[], Plain, Turn::Enters(3)),
+        rule!(Anywhere, "$", Extent::Word, "", &[], Key, Turn::Stays),
+        rule!(Anywhere, "$#", Extent::Itself, "", &[], Key, Turn::Stays),
+        rule!(Anywhere, "$@", Extent::Itself, "", &[], Key, Turn::Stays),
+        rule!(Anywhere, "$*", Extent::Itself, "", &[], Key, Turn::Stays),
+        rule!(Anywhere, "$?", Extent::Itself, "", &[], Key, Turn::Stays),
+        rule!(Anywhere, "$!", Extent::Itself, "", &[], Key, Turn::Stays),
+        rule!(Anywhere, "$$", Extent::Itself, "", &[], Key, Turn::Stays),
+        rule!(Anywhere, "$-", Extent::Itself, "", &[], Key, Turn::Stays),
+    ],
 ];
 
-#[rattlefmt::skip]
-static CONSOLE_2_LETTER: [RuleRow; 0] = [
-];
-
-#[rattlefmt::skip]
-static CONSOLE_2_SIGN: [RuleRow; 12] = [
-    rule!(Anywhere, "\\", Extent::OneMore, "", &[], Text, Turn::Stays),
-    rule!(Anywhere, "\"", Extent::Itself, "", &[], Text, Turn::Leaves),
-    rule!(Anywhere, "${", Extent::Itself, "", &[], Key, Turn::Enters(4)),
-    rule!(Anywhere, "$(", Extent::Itself, "", &[], Plain, Turn::Enters(3)),
-    rule!(Anywhere, "$", Extent::Word, "", &[], Key, Turn::Stays),
-    rule!(Anywhere, "$#", Extent::Itself, "", &[], Key, Turn::Stays),
-    rule!(Anywhere, "$@", Extent::Itself, "", &[], Key, Turn::Stays),
-    rule!(Anywhere, "$*", Extent::Itself, "", &[], Key, Turn::Stays),
-    rule!(Anywhere, "$?", Extent::Itself, "", &[], Key, Turn::Stays),
-    rule!(Anywhere, "$!", Extent::Itself, "", &[], Key, Turn::Stays),
-    rule!(Anywhere, "$$", Extent::Itself, "", &[], Key, Turn::Stays),
-    rule!(Anywhere, "$-", Extent::Itself, "", &[], Key, Turn::Stays),
-];
-
+#[tactic(auto, unfolding(crate::specs::Heads::by_head))]
 fn console_3() -> ModeRow
-    ensures { mode_of result ≡ console_3 }
+    ensures words { mode_of result ≡ console_3 }
+    ensures rules { heads_in result ≡ by_head console_rules_3 }
 {
     ModeRow {
+        places: "0000000000000000000000000000000000427005810000000000000000003000000000000000000000000000000060009000000000000000000000000000000000000000000000000000000000000000000000000000000000000000000000000000000000000000000000000000000000000000000000000000000000000000",
+        rules: &CONSOLE_3_RULES,
         words: Words::ShWords,
         starts: "",
         more: "",
@@ -571,56 +552,78 @@ fn console_3() -> ModeRow
     }
 }
 
-fn console_rules_3(kind: Kind) -> &'static [RuleRow]
-    ensures { map rule_of result.now ≡ filter (may_begin kind) console_rules_3 }
-{
-    match kind {
-        Kind::Blank => &CONSOLE_3_BLANK,
-        Kind::Letter => &CONSOLE_3_LETTER,
-        Kind::Sign => &CONSOLE_3_SIGN,
-    }
-}
-
 #[rattlefmt::skip]
-static CONSOLE_3_BLANK: [RuleRow; 0] = [
+static CONSOLE_3_RULES: [&[RuleRow]; 10] = [
+    &[
+        rule!(Apart, "", Extent::Word, "", &["=", "+="], Key, Turn::Stays),
+        rule!(Apart, "", Extent::Digits, "", &[], Number, Turn::Stays),
+    ],
+    &[
+        rule!(Anywhere, ")", Extent::Itself, "", &[], Plain, Turn::Leaves),
+        rule!(Apart, "", Extent::Word, "", &["=", "+="], Key, Turn::Stays),
+        rule!(Apart, "", Extent::Digits, "", &[], Number, Turn::Stays),
+    ],
+    &[
+        rule!(Apart, "#", Extent::Line, "", &[], Comment, Turn::Stays),
+        rule!(Apart, "", Extent::Word, "", &["=", "+="], Key, Turn::Stays),
+        rule!(Apart, "", Extent::Digits, "", &[], Number, Turn::Stays),
+    ],
+    &[
+        rule!(Anywhere, "<<<", Extent::Itself, "", &[], Plain, Turn::Stays),
+        rule!(Anywhere, "<<", Extent::Labelled(false), "", &[], Text, Turn::Stays),
+        rule!(Apart, "", Extent::Word, "", &["=", "+="], Key, Turn::Stays),
+        rule!(Apart, "", Extent::Digits, "", &[], Number, Turn::Stays),
+    ],
+    &[
+        rule!(Anywhere, "\"", Extent::Itself, "", &[], Text, Turn::Enters(2)),
+        rule!(Apart, "", Extent::Word, "", &["=", "+="], Key, Turn::Stays),
+        rule!(Apart, "", Extent::Digits, "", &[], Number, Turn::Stays),
+    ],
+    &[
+        rule!(Anywhere, "'", Extent::ThroughLines(Escape::Never), "'", &[], Text, Turn::Stays),
+        rule!(Apart, "", Extent::Word, "", &["=", "+="], Key, Turn::Stays),
+        rule!(Apart, "", Extent::Digits, "", &[], Number, Turn::Stays),
+    ],
+    &[
+        rule!(Anywhere, "\\", Extent::OneMore, "", &[], Text, Turn::Stays),
+        rule!(Apart, "", Extent::Word, "", &["=", "+="], Key, Turn::Stays),
+        rule!(Apart, "", Extent::Digits, "", &[], Number, Turn::Stays),
+    ],
+    &[
+        rule!(Anywhere, "$'", Extent::ThroughLines(Escape::Backslash), "'", &[], Text, Turn::Stays),
+        rule!(Apart, "", Extent::Word, "", &["=", "+="], Key, Turn::Stays),
+        rule!(Apart, "", Extent::Digits, "", &[], Number, Turn::Stays),
+        rule!(Anywhere, "${", Extent::Itself, "", &[], Key, Turn::Enters(4)),
+        rule!(Anywhere, "$(", Extent::Itself, "", &[], Plain, Turn::Enters(3)),
+        rule!(Anywhere, "$", Extent::Word, "", &[], Key, Turn::Stays),
+        rule!(Anywhere, "$#", Extent::Itself, "", &[], Key, Turn::Stays),
+        rule!(Anywhere, "$@", Extent::Itself, "", &[], Key, Turn::Stays),
+        rule!(Anywhere, "$*", Extent::Itself, "", &[], Key, Turn::Stays),
+        rule!(Anywhere, "$?", Extent::Itself, "", &[], Key, Turn::Stays),
+        rule!(Anywhere, "$!", Extent::Itself, "", &[], Key, Turn::Stays),
+        rule!(Anywhere, "$$", Extent::Itself, "", &[], Key, Turn::Stays),
+        rule!(Anywhere, "$-", Extent::Itself, "", &[], Key, Turn::Stays),
+    ],
+    &[
+        rule!(Apart, "", Extent::Word, "", &["=", "+="], Key, Turn::Stays),
+        rule!(Apart, "", Extent::Digits, "", &[], Number, Turn::Stays),
+        rule!(Anywhere, "(", Extent::Itself, "", &[], Plain, Turn::Enters(3)),
+    ],
+    &[
+        rule!(Apart, "", Extent::Word, "", &["=", "+="], Key, Turn::Stays),
+        rule!(Apart, "", Extent::Digits, "", &[], Number, Turn::Stays),
+        rule!(Anywhere, "`", Extent::Itself, "", &[], Text, Turn::Stays),
+    ],
 ];
 
-#[rattlefmt::skip]
-static CONSOLE_3_LETTER: [RuleRow; 2] = [
-    rule!(Apart, "", Extent::Word, "", &["=", "+="], Key, Turn::Stays),
-    rule!(Apart, "", Extent::Digits, "", &[], Number, Turn::Stays),
-];
-
-#[rattlefmt::skip]
-static CONSOLE_3_SIGN: [RuleRow; 22] = [
-    rule!(Anywhere, ")", Extent::Itself, "", &[], Plain, Turn::Leaves),
-    rule!(Apart, "#", Extent::Line, "", &[], Comment, Turn::Stays),
-    rule!(Anywhere, "<<<", Extent::Itself, "", &[], Plain, Turn::Stays),
-    rule!(Anywhere, "<<", Extent::Labelled(false), "", &[], Text, Turn::Stays),
-    rule!(Anywhere, "$'", Extent::ThroughLines(Escape::Backslash), "'", &[], Text, Turn::Stays),
-    rule!(Anywhere, "\"", Extent::Itself, "", &[], Text, Turn::Enters(2)),
-    rule!(Anywhere, "'", Extent::ThroughLines(Escape::Never), "'", &[], Text, Turn::Stays),
-    rule!(Anywhere, "\\", Extent::OneMore, "", &[], Text, Turn::Stays),
-    rule!(Apart, "", Extent::Word, "", &["=", "+="], Key, Turn::Stays),
-    rule!(Apart, "", Extent::Digits, "", &[], Number, Turn::Stays),
-    rule!(Anywhere, "${", Extent::Itself, "", &[], Key, Turn::Enters(4)),
-    rule!(Anywhere, "$(", Extent::Itself, "", &[], Plain, Turn::Enters(3)),
-    rule!(Anywhere, "$", Extent::Word, "", &[], Key, Turn::Stays),
-    rule!(Anywhere, "$#", Extent::Itself, "", &[], Key, Turn::Stays),
-    rule!(Anywhere, "$@", Extent::Itself, "", &[], Key, Turn::Stays),
-    rule!(Anywhere, "$*", Extent::Itself, "", &[], Key, Turn::Stays),
-    rule!(Anywhere, "$?", Extent::Itself, "", &[], Key, Turn::Stays),
-    rule!(Anywhere, "$!", Extent::Itself, "", &[], Key, Turn::Stays),
-    rule!(Anywhere, "$$", Extent::Itself, "", &[], Key, Turn::Stays),
-    rule!(Anywhere, "$-", Extent::Itself, "", &[], Key, Turn::Stays),
-    rule!(Anywhere, "(", Extent::Itself, "", &[], Plain, Turn::Enters(3)),
-    rule!(Anywhere, "`", Extent::Itself, "", &[], Text, Turn::Stays),
-];
-
+#[tactic(auto, unfolding(crate::specs::Heads::by_head))]
 fn console_4() -> ModeRow
-    ensures { mode_of result ≡ console_4 }
+    ensures words { mode_of result ≡ console_4 }
+    ensures rules { heads_in result ≡ by_head console_rules_4 }
 {
     ModeRow {
+        places: "0000000000000000000000000000000000204000000000000000000000000000000000000000000000000000000030000000000000000000000000000000010000000000000000000000000000000000000000000000000000000000000000000000000000000000000000000000000000000000000000000000000000000000",
+        rules: &CONSOLE_4_RULES,
         words: Words::NoWords,
         starts: "",
         more: "",
@@ -632,57 +635,47 @@ fn console_4() -> ModeRow
     }
 }
 
-fn console_rules_4(kind: Kind) -> &'static [RuleRow]
-    ensures { map rule_of result.now ≡ filter (may_begin kind) console_rules_4 }
-{
-    match kind {
-        Kind::Blank => &CONSOLE_4_BLANK,
-        Kind::Letter => &CONSOLE_4_LETTER,
-        Kind::Sign => &CONSOLE_4_SIGN,
-    }
-}
-
 #[rattlefmt::skip]
-static CONSOLE_4_BLANK: [RuleRow; 0] = [
+static CONSOLE_4_RULES: [&[RuleRow]; 5] = [
+    &[],
+    &[
+        rule!(Anywhere, "}", Extent::Itself, "", &[], Key, Turn::Leaves),
+    ],
+    &[
+        rule!(Anywhere, "\"", Extent::Itself, "", &[], Text, Turn::Enters(2)),
+    ],
+    &[
+        rule!(Anywhere, "\\", Extent::OneMore, "", &[], Text, Turn::Stays),
+    ],
+    &[
+        rule!(Anywhere, "${", Extent::Itself, "", &[], Key, Turn::Enters(4)),
+        rule!(Anywhere, "$(", Extent::Itself, "", &[], Plain, Turn::Enters(3)),
+        rule!(Anywhere, "$", Extent::Word, "", &[], Key, Turn::Stays),
+        rule!(Anywhere, "$#", Extent::Itself, "", &[], Key, Turn::Stays),
+        rule!(Anywhere, "$@", Extent::Itself, "", &[], Key, Turn::Stays),
+        rule!(Anywhere, "$*", Extent::Itself, "", &[], Key, Turn::Stays),
+        rule!(Anywhere, "$?", Extent::Itself, "", &[], Key, Turn::Stays),
+        rule!(Anywhere, "$!", Extent::Itself, "", &[], Key, Turn::Stays),
+        rule!(Anywhere, "$$", Extent::Itself, "", &[], Key, Turn::Stays),
+        rule!(Anywhere, "$-", Extent::Itself, "", &[], Key, Turn::Stays),
+    ],
 ];
-
-#[rattlefmt::skip]
-static CONSOLE_4_LETTER: [RuleRow; 0] = [
-];
-
-#[rattlefmt::skip]
-static CONSOLE_4_SIGN: [RuleRow; 13] = [
-    rule!(Anywhere, "}", Extent::Itself, "", &[], Key, Turn::Leaves),
-    rule!(Anywhere, "\"", Extent::Itself, "", &[], Text, Turn::Enters(2)),
-    rule!(Anywhere, "\\", Extent::OneMore, "", &[], Text, Turn::Stays),
-    rule!(Anywhere, "${", Extent::Itself, "", &[], Key, Turn::Enters(4)),
-    rule!(Anywhere, "$(", Extent::Itself, "", &[], Plain, Turn::Enters(3)),
-    rule!(Anywhere, "$", Extent::Word, "", &[], Key, Turn::Stays),
-    rule!(Anywhere, "$#", Extent::Itself, "", &[], Key, Turn::Stays),
-    rule!(Anywhere, "$@", Extent::Itself, "", &[], Key, Turn::Stays),
-    rule!(Anywhere, "$*", Extent::Itself, "", &[], Key, Turn::Stays),
-    rule!(Anywhere, "$?", Extent::Itself, "", &[], Key, Turn::Stays),
-    rule!(Anywhere, "$!", Extent::Itself, "", &[], Key, Turn::Stays),
-    rule!(Anywhere, "$$", Extent::Itself, "", &[], Key, Turn::Stays),
-    rule!(Anywhere, "$-", Extent::Itself, "", &[], Key, Turn::Stays),
-];
-
-fn python_rules(_n: usize, kind: Kind) -> &'static [RuleRow]
-    ensures { map rule_of result.now ≡ filter (may_begin kind) (python_rules _n) }
-{
-    python_rules_0(kind)
-}
 
 fn python_mode(_n: usize) -> ModeRow
-    ensures { mode_of result ≡ python_mode _n }
+    ensures words { mode_of result ≡ python_mode _n }
+    ensures rules { heads_in result ≡ by_head (python_rules _n) }
 {
     python_0()
 }
 
+#[tactic(auto, unfolding(crate::specs::Heads::by_head))]
 fn python_0() -> ModeRow
-    ensures { mode_of result ≡ python_0 }
+    ensures words { mode_of result ≡ python_0 }
+    ensures rules { heads_in result ≡ by_head python_rules_0 }
 {
     ModeRow {
+        places: "0000000000000000000000000000000000210003000000000000000000000000<09000:00000000000800;00000000000050006000000000007004000000000000000000000000000000000000000000000000000000000000000000000000000000000000000000000000000000000000000000000000000000000000000000",
+        rules: &PYTHON_0_RULES,
         words: Words::PythonWords,
         starts: "",
         more: "",
@@ -694,93 +687,92 @@ fn python_0() -> ModeRow
     }
 }
 
-fn python_rules_0(kind: Kind) -> &'static [RuleRow]
-    ensures { map rule_of result.now ≡ filter (may_begin kind) python_rules_0 }
-{
-    match kind {
-        Kind::Blank => &PYTHON_0_BLANK,
-        Kind::Letter => &PYTHON_0_LETTER,
-        Kind::Sign => &PYTHON_0_SIGN,
-    }
-}
-
 #[rattlefmt::skip]
-static PYTHON_0_BLANK: [RuleRow; 0] = [
+static PYTHON_0_RULES: [&[RuleRow]; 13] = [
+    &[],
+    &[
+        rule!(Anywhere, "#", Extent::Line, "", &[], Comment, Turn::Stays),
+    ],
+    &[
+        rule!(Anywhere, "\"\"\"", Extent::ThroughLines(Escape::Backslash), "\"\"\"", &[], Text, Turn::Stays),
+        rule!(Anywhere, "\"", Extent::Through(Escape::Backslash), "\"", &[], Text, Turn::Stays),
+    ],
+    &[
+        rule!(Anywhere, "'''", Extent::ThroughLines(Escape::Backslash), "'''", &[], Text, Turn::Stays),
+        rule!(Anywhere, "'", Extent::Through(Escape::Backslash), "'", &[], Text, Turn::Stays),
+    ],
+    &[
+        rule!(Anywhere, "u\"\"\"", Extent::ThroughLines(Escape::Backslash), "\"\"\"", &[], Text, Turn::Stays),
+        rule!(Anywhere, "u'''", Extent::ThroughLines(Escape::Backslash), "'''", &[], Text, Turn::Stays),
+        rule!(Anywhere, "u\"", Extent::Through(Escape::Backslash), "\"", &[], Text, Turn::Stays),
+        rule!(Anywhere, "u'", Extent::Through(Escape::Backslash), "'", &[], Text, Turn::Stays),
+    ],
+    &[
+        rule!(Anywhere, "b\"\"\"", Extent::ThroughLines(Escape::Backslash), "\"\"\"", &[], Text, Turn::Stays),
+        rule!(Anywhere, "br\"\"\"", Extent::ThroughLines(Escape::Backslash), "\"\"\"", &[], Text, Turn::Stays),
+        rule!(Anywhere, "b'''", Extent::ThroughLines(Escape::Backslash), "'''", &[], Text, Turn::Stays),
+        rule!(Anywhere, "br'''", Extent::ThroughLines(Escape::Backslash), "'''", &[], Text, Turn::Stays),
+        rule!(Anywhere, "b\"", Extent::Through(Escape::Backslash), "\"", &[], Text, Turn::Stays),
+        rule!(Anywhere, "br\"", Extent::Through(Escape::Backslash), "\"", &[], Text, Turn::Stays),
+        rule!(Anywhere, "b'", Extent::Through(Escape::Backslash), "'", &[], Text, Turn::Stays),
+        rule!(Anywhere, "br'", Extent::Through(Escape::Backslash), "'", &[], Text, Turn::Stays),
+    ],
+    &[
+        rule!(Anywhere, "f\"\"\"", Extent::ThroughLines(Escape::Backslash), "\"\"\"", &[], Text, Turn::Stays),
+        rule!(Anywhere, "fr\"\"\"", Extent::ThroughLines(Escape::Backslash), "\"\"\"", &[], Text, Turn::Stays),
+        rule!(Anywhere, "f'''", Extent::ThroughLines(Escape::Backslash), "'''", &[], Text, Turn::Stays),
+        rule!(Anywhere, "fr'''", Extent::ThroughLines(Escape::Backslash), "'''", &[], Text, Turn::Stays),
+        rule!(Anywhere, "f\"", Extent::Through(Escape::Backslash), "\"", &[], Text, Turn::Stays),
+        rule!(Anywhere, "fr\"", Extent::Through(Escape::Backslash), "\"", &[], Text, Turn::Stays),
+        rule!(Anywhere, "f'", Extent::Through(Escape::Backslash), "'", &[], Text, Turn::Stays),
+        rule!(Anywhere, "fr'", Extent::Through(Escape::Backslash), "'", &[], Text, Turn::Stays),
+    ],
+    &[
+        rule!(Anywhere, "r\"\"\"", Extent::ThroughLines(Escape::Backslash), "\"\"\"", &[], Text, Turn::Stays),
+        rule!(Anywhere, "rb\"\"\"", Extent::ThroughLines(Escape::Backslash), "\"\"\"", &[], Text, Turn::Stays),
+        rule!(Anywhere, "rf\"\"\"", Extent::ThroughLines(Escape::Backslash), "\"\"\"", &[], Text, Turn::Stays),
+        rule!(Anywhere, "r'''", Extent::ThroughLines(Escape::Backslash), "'''", &[], Text, Turn::Stays),
+        rule!(Anywhere, "rb'''", Extent::ThroughLines(Escape::Backslash), "'''", &[], Text, Turn::Stays),
+        rule!(Anywhere, "rf'''", Extent::ThroughLines(Escape::Backslash), "'''", &[], Text, Turn::Stays),
+        rule!(Anywhere, "r\"", Extent::Through(Escape::Backslash), "\"", &[], Text, Turn::Stays),
+        rule!(Anywhere, "rb\"", Extent::Through(Escape::Backslash), "\"", &[], Text, Turn::Stays),
+        rule!(Anywhere, "rf\"", Extent::Through(Escape::Backslash), "\"", &[], Text, Turn::Stays),
+        rule!(Anywhere, "r'", Extent::Through(Escape::Backslash), "'", &[], Text, Turn::Stays),
+        rule!(Anywhere, "rb'", Extent::Through(Escape::Backslash), "'", &[], Text, Turn::Stays),
+        rule!(Anywhere, "rf'", Extent::Through(Escape::Backslash), "'", &[], Text, Turn::Stays),
+    ],
+    &[
+        rule!(Anywhere, "R\"\"\"", Extent::ThroughLines(Escape::Backslash), "\"\"\"", &[], Text, Turn::Stays),
+        rule!(Anywhere, "R'''", Extent::ThroughLines(Escape::Backslash), "'''", &[], Text, Turn::Stays),
+        rule!(Anywhere, "R\"", Extent::Through(Escape::Backslash), "\"", &[], Text, Turn::Stays),
+        rule!(Anywhere, "R'", Extent::Through(Escape::Backslash), "'", &[], Text, Turn::Stays),
+    ],
+    &[
+        rule!(Anywhere, "B\"\"\"", Extent::ThroughLines(Escape::Backslash), "\"\"\"", &[], Text, Turn::Stays),
+        rule!(Anywhere, "B'''", Extent::ThroughLines(Escape::Backslash), "'''", &[], Text, Turn::Stays),
+        rule!(Anywhere, "B\"", Extent::Through(Escape::Backslash), "\"", &[], Text, Turn::Stays),
+        rule!(Anywhere, "B'", Extent::Through(Escape::Backslash), "'", &[], Text, Turn::Stays),
+    ],
+    &[
+        rule!(Anywhere, "F\"\"\"", Extent::ThroughLines(Escape::Backslash), "\"\"\"", &[], Text, Turn::Stays),
+        rule!(Anywhere, "F'''", Extent::ThroughLines(Escape::Backslash), "'''", &[], Text, Turn::Stays),
+        rule!(Anywhere, "F\"", Extent::Through(Escape::Backslash), "\"", &[], Text, Turn::Stays),
+        rule!(Anywhere, "F'", Extent::Through(Escape::Backslash), "'", &[], Text, Turn::Stays),
+    ],
+    &[
+        rule!(Anywhere, "U\"\"\"", Extent::ThroughLines(Escape::Backslash), "\"\"\"", &[], Text, Turn::Stays),
+        rule!(Anywhere, "U'''", Extent::ThroughLines(Escape::Backslash), "'''", &[], Text, Turn::Stays),
+        rule!(Anywhere, "U\"", Extent::Through(Escape::Backslash), "\"", &[], Text, Turn::Stays),
+        rule!(Anywhere, "U'", Extent::Through(Escape::Backslash), "'", &[], Text, Turn::Stays),
+    ],
+    &[
+        rule!(FirstWord, "@", Extent::UpTo, "( \t#", &[], Key, Turn::Stays),
+    ],
 ];
-
-#[rattlefmt::skip]
-static PYTHON_0_LETTER: [RuleRow; 48] = [
-    rule!(Anywhere, "r\"\"\"", Extent::ThroughLines(Escape::Backslash), "\"\"\"", &[], Text, Turn::Stays),
-    rule!(Anywhere, "b\"\"\"", Extent::ThroughLines(Escape::Backslash), "\"\"\"", &[], Text, Turn::Stays),
-    rule!(Anywhere, "f\"\"\"", Extent::ThroughLines(Escape::Backslash), "\"\"\"", &[], Text, Turn::Stays),
-    rule!(Anywhere, "u\"\"\"", Extent::ThroughLines(Escape::Backslash), "\"\"\"", &[], Text, Turn::Stays),
-    rule!(Anywhere, "rb\"\"\"", Extent::ThroughLines(Escape::Backslash), "\"\"\"", &[], Text, Turn::Stays),
-    rule!(Anywhere, "br\"\"\"", Extent::ThroughLines(Escape::Backslash), "\"\"\"", &[], Text, Turn::Stays),
-    rule!(Anywhere, "fr\"\"\"", Extent::ThroughLines(Escape::Backslash), "\"\"\"", &[], Text, Turn::Stays),
-    rule!(Anywhere, "rf\"\"\"", Extent::ThroughLines(Escape::Backslash), "\"\"\"", &[], Text, Turn::Stays),
-    rule!(Anywhere, "R\"\"\"", Extent::ThroughLines(Escape::Backslash), "\"\"\"", &[], Text, Turn::Stays),
-    rule!(Anywhere, "B\"\"\"", Extent::ThroughLines(Escape::Backslash), "\"\"\"", &[], Text, Turn::Stays),
-    rule!(Anywhere, "F\"\"\"", Extent::ThroughLines(Escape::Backslash), "\"\"\"", &[], Text, Turn::Stays),
-    rule!(Anywhere, "U\"\"\"", Extent::ThroughLines(Escape::Backslash), "\"\"\"", &[], Text, Turn::Stays),
-    rule!(Anywhere, "r'''", Extent::ThroughLines(Escape::Backslash), "'''", &[], Text, Turn::Stays),
-    rule!(Anywhere, "b'''", Extent::ThroughLines(Escape::Backslash), "'''", &[], Text, Turn::Stays),
-    rule!(Anywhere, "f'''", Extent::ThroughLines(Escape::Backslash), "'''", &[], Text, Turn::Stays),
-    rule!(Anywhere, "u'''", Extent::ThroughLines(Escape::Backslash), "'''", &[], Text, Turn::Stays),
-    rule!(Anywhere, "rb'''", Extent::ThroughLines(Escape::Backslash), "'''", &[], Text, Turn::Stays),
-    rule!(Anywhere, "br'''", Extent::ThroughLines(Escape::Backslash), "'''", &[], Text, Turn::Stays),
-    rule!(Anywhere, "fr'''", Extent::ThroughLines(Escape::Backslash), "'''", &[], Text, Turn::Stays),
-    rule!(Anywhere, "rf'''", Extent::ThroughLines(Escape::Backslash), "'''", &[], Text, Turn::Stays),
-    rule!(Anywhere, "R'''", Extent::ThroughLines(Escape::Backslash), "'''", &[], Text, Turn::Stays),
-    rule!(Anywhere, "B'''", Extent::ThroughLines(Escape::Backslash), "'''", &[], Text, Turn::Stays),
-    rule!(Anywhere, "F'''", Extent::ThroughLines(Escape::Backslash), "'''", &[], Text, Turn::Stays),
-    rule!(Anywhere, "U'''", Extent::ThroughLines(Escape::Backslash), "'''", &[], Text, Turn::Stays),
-    rule!(Anywhere, "r\"", Extent::Through(Escape::Backslash), "\"", &[], Text, Turn::Stays),
-    rule!(Anywhere, "b\"", Extent::Through(Escape::Backslash), "\"", &[], Text, Turn::Stays),
-    rule!(Anywhere, "f\"", Extent::Through(Escape::Backslash), "\"", &[], Text, Turn::Stays),
-    rule!(Anywhere, "u\"", Extent::Through(Escape::Backslash), "\"", &[], Text, Turn::Stays),
-    rule!(Anywhere, "rb\"", Extent::Through(Escape::Backslash), "\"", &[], Text, Turn::Stays),
-    rule!(Anywhere, "br\"", Extent::Through(Escape::Backslash), "\"", &[], Text, Turn::Stays),
-    rule!(Anywhere, "fr\"", Extent::Through(Escape::Backslash), "\"", &[], Text, Turn::Stays),
-    rule!(Anywhere, "rf\"", Extent::Through(Escape::Backslash), "\"", &[], Text, Turn::Stays),
-    rule!(Anywhere, "R\"", Extent::Through(Escape::Backslash), "\"", &[], Text, Turn::Stays),
-    rule!(Anywhere, "B\"", Extent::Through(Escape::Backslash), "\"", &[], Text, Turn::Stays),
-    rule!(Anywhere, "F\"", Extent::Through(Escape::Backslash), "\"", &[], Text, Turn::Stays),
-    rule!(Anywhere, "U\"", Extent::Through(Escape::Backslash), "\"", &[], Text, Turn::Stays),
-    rule!(Anywhere, "r'", Extent::Through(Escape::Backslash), "'", &[], Text, Turn::Stays),
-    rule!(Anywhere, "b'", Extent::Through(Escape::Backslash), "'", &[], Text, Turn::Stays),
-    rule!(Anywhere, "f'", Extent::Through(Escape::Backslash), "'", &[], Text, Turn::Stays),
-    rule!(Anywhere, "u'", Extent::Through(Escape::Backslash), "'", &[], Text, Turn::Stays),
-    rule!(Anywhere, "rb'", Extent::Through(Escape::Backslash), "'", &[], Text, Turn::Stays),
-    rule!(Anywhere, "br'", Extent::Through(Escape::Backslash), "'", &[], Text, Turn::Stays),
-    rule!(Anywhere, "fr'", Extent::Through(Escape::Backslash), "'", &[], Text, Turn::Stays),
-    rule!(Anywhere, "rf'", Extent::Through(Escape::Backslash), "'", &[], Text, Turn::Stays),
-    rule!(Anywhere, "R'", Extent::Through(Escape::Backslash), "'", &[], Text, Turn::Stays),
-    rule!(Anywhere, "B'", Extent::Through(Escape::Backslash), "'", &[], Text, Turn::Stays),
-    rule!(Anywhere, "F'", Extent::Through(Escape::Backslash), "'", &[], Text, Turn::Stays),
-    rule!(Anywhere, "U'", Extent::Through(Escape::Backslash), "'", &[], Text, Turn::Stays),
-];
-
-#[rattlefmt::skip]
-static PYTHON_0_SIGN: [RuleRow; 6] = [
-    rule!(Anywhere, "#", Extent::Line, "", &[], Comment, Turn::Stays),
-    rule!(Anywhere, "\"\"\"", Extent::ThroughLines(Escape::Backslash), "\"\"\"", &[], Text, Turn::Stays),
-    rule!(Anywhere, "'''", Extent::ThroughLines(Escape::Backslash), "'''", &[], Text, Turn::Stays),
-    rule!(Anywhere, "\"", Extent::Through(Escape::Backslash), "\"", &[], Text, Turn::Stays),
-    rule!(Anywhere, "'", Extent::Through(Escape::Backslash), "'", &[], Text, Turn::Stays),
-    rule!(FirstWord, "@", Extent::UpTo, "( \t#", &[], Key, Turn::Stays),
-];
-
-fn pycon_rules(n: usize, kind: Kind) -> &'static [RuleRow]
-    ensures { map rule_of result.now ≡ filter (may_begin kind) (pycon_rules n) }
-{
-    match n {
-        1 => pycon_rules_1(kind),
-        _ => pycon_rules_0(kind),
-    }
-}
 
 fn pycon_mode(n: usize) -> ModeRow
-    ensures { mode_of result ≡ pycon_mode n }
+    ensures words { mode_of result ≡ pycon_mode n }
+    ensures rules { heads_in result ≡ by_head (pycon_rules n) }
 {
     match n {
         1 => pycon_1(),
@@ -788,10 +780,14 @@ fn pycon_mode(n: usize) -> ModeRow
     }
 }
 
+#[tactic(auto, unfolding(crate::specs::Heads::by_head))]
 fn pycon_0() -> ModeRow
-    ensures { mode_of result ≡ pycon_0 }
+    ensures words { mode_of result ≡ pycon_0 }
+    ensures rules { heads_in result ≡ by_head pycon_rules_0 }
 {
     ModeRow {
+        places: "0000000000000000000000000000000000000000000000200000000000000010000000000000000000000000000000000000000000000000000000000000000000000000000000000000000000000000000000000000000000000000000000000000000000000000000000000000000000000000000000000000000000000000",
+        rules: &PYCON_0_RULES,
         words: Words::NoWords,
         starts: "",
         more: "",
@@ -803,37 +799,28 @@ fn pycon_0() -> ModeRow
     }
 }
 
-fn pycon_rules_0(kind: Kind) -> &'static [RuleRow]
-    ensures { map rule_of result.now ≡ filter (may_begin kind) pycon_rules_0 }
-{
-    match kind {
-        Kind::Blank => &PYCON_0_BLANK,
-        Kind::Letter => &PYCON_0_LETTER,
-        Kind::Sign => &PYCON_0_SIGN,
-    }
-}
-
 #[rattlefmt::skip]
-static PYCON_0_BLANK: [RuleRow; 0] = [
+static PYCON_0_RULES: [&[RuleRow]; 3] = [
+    &[],
+    &[
+        rule!(FirstWord, ">>> @", Extent::UpTo, "( \t#", &[], Key, Turn::Enters(1)),
+        rule!(FirstWord, ">>> ", Extent::Itself, "", &[], Key, Turn::Enters(1)),
+    ],
+    &[
+        rule!(FirstWord, "... @", Extent::UpTo, "( \t#", &[], Key, Turn::Enters(1)),
+        rule!(FirstWord, "...     @", Extent::UpTo, "( \t#", &[], Key, Turn::Enters(1)),
+        rule!(FirstWord, "... ", Extent::Itself, "", &[], Key, Turn::Enters(1)),
+    ],
 ];
 
-#[rattlefmt::skip]
-static PYCON_0_LETTER: [RuleRow; 0] = [
-];
-
-#[rattlefmt::skip]
-static PYCON_0_SIGN: [RuleRow; 5] = [
-    rule!(FirstWord, ">>> @", Extent::UpTo, "( \t#", &[], Key, Turn::Enters(1)),
-    rule!(FirstWord, "... @", Extent::UpTo, "( \t#", &[], Key, Turn::Enters(1)),
-    rule!(FirstWord, "...     @", Extent::UpTo, "( \t#", &[], Key, Turn::Enters(1)),
-    rule!(FirstWord, ">>> ", Extent::Itself, "", &[], Key, Turn::Enters(1)),
-    rule!(FirstWord, "... ", Extent::Itself, "", &[], Key, Turn::Enters(1)),
-];
-
+#[tactic(auto, unfolding(crate::specs::Heads::by_head))]
 fn pycon_1() -> ModeRow
-    ensures { mode_of result ≡ pycon_1 }
+    ensures words { mode_of result ≡ pycon_1 }
+    ensures rules { heads_in result ≡ by_head pycon_rules_1 }
 {
     ModeRow {
+        places: "000000000010000000000000000000000032000400000000000000000000000000:000;00000000000900<00000000000060007000000000005008000000000000000000000000000000000000000000000000000000000000000000000000000000000000000000000000000000000000000000000000000000000000000000",
+        rules: &PYCON_1_RULES,
         words: Words::PythonWords,
         starts: "",
         more: "",
@@ -845,59 +832,58 @@ fn pycon_1() -> ModeRow
     }
 }
 
-fn pycon_rules_1(kind: Kind) -> &'static [RuleRow]
-    ensures { map rule_of result.now ≡ filter (may_begin kind) pycon_rules_1 }
-{
-    match kind {
-        Kind::Blank => &PYCON_1_BLANK,
-        Kind::Letter => &PYCON_1_LETTER,
-        Kind::Sign => &PYCON_1_SIGN,
-    }
-}
-
 #[rattlefmt::skip]
-static PYCON_1_BLANK: [RuleRow; 1] = [
-    rule!(Anywhere, "\n", Extent::Itself, "", &[], Plain, Turn::Leaves),
+static PYCON_1_RULES: [&[RuleRow]; 13] = [
+    &[],
+    &[
+        rule!(Anywhere, "\n", Extent::Itself, "", &[], Plain, Turn::Leaves),
+    ],
+    &[
+        rule!(Anywhere, "#", Extent::Line, "", &[], Comment, Turn::Stays),
+    ],
+    &[
+        rule!(Anywhere, "\"", Extent::Through(Escape::Backslash), "\"", &[], Text, Turn::Stays),
+    ],
+    &[
+        rule!(Anywhere, "'", Extent::Through(Escape::Backslash), "'", &[], Text, Turn::Stays),
+    ],
+    &[
+        rule!(Anywhere, "r\"", Extent::Through(Escape::Backslash), "\"", &[], Text, Turn::Stays),
+        rule!(Anywhere, "r'", Extent::Through(Escape::Backslash), "'", &[], Text, Turn::Stays),
+    ],
+    &[
+        rule!(Anywhere, "b\"", Extent::Through(Escape::Backslash), "\"", &[], Text, Turn::Stays),
+        rule!(Anywhere, "b'", Extent::Through(Escape::Backslash), "'", &[], Text, Turn::Stays),
+    ],
+    &[
+        rule!(Anywhere, "f\"", Extent::Through(Escape::Backslash), "\"", &[], Text, Turn::Stays),
+        rule!(Anywhere, "f'", Extent::Through(Escape::Backslash), "'", &[], Text, Turn::Stays),
+    ],
+    &[
+        rule!(Anywhere, "u\"", Extent::Through(Escape::Backslash), "\"", &[], Text, Turn::Stays),
+        rule!(Anywhere, "u'", Extent::Through(Escape::Backslash), "'", &[], Text, Turn::Stays),
+    ],
+    &[
+        rule!(Anywhere, "R\"", Extent::Through(Escape::Backslash), "\"", &[], Text, Turn::Stays),
+        rule!(Anywhere, "R'", Extent::Through(Escape::Backslash), "'", &[], Text, Turn::Stays),
+    ],
+    &[
+        rule!(Anywhere, "B\"", Extent::Through(Escape::Backslash), "\"", &[], Text, Turn::Stays),
+        rule!(Anywhere, "B'", Extent::Through(Escape::Backslash), "'", &[], Text, Turn::Stays),
+    ],
+    &[
+        rule!(Anywhere, "F\"", Extent::Through(Escape::Backslash), "\"", &[], Text, Turn::Stays),
+        rule!(Anywhere, "F'", Extent::Through(Escape::Backslash), "'", &[], Text, Turn::Stays),
+    ],
+    &[
+        rule!(Anywhere, "U\"", Extent::Through(Escape::Backslash), "\"", &[], Text, Turn::Stays),
+        rule!(Anywhere, "U'", Extent::Through(Escape::Backslash), "'", &[], Text, Turn::Stays),
+    ],
 ];
-
-#[rattlefmt::skip]
-static PYCON_1_LETTER: [RuleRow; 16] = [
-    rule!(Anywhere, "r\"", Extent::Through(Escape::Backslash), "\"", &[], Text, Turn::Stays),
-    rule!(Anywhere, "b\"", Extent::Through(Escape::Backslash), "\"", &[], Text, Turn::Stays),
-    rule!(Anywhere, "f\"", Extent::Through(Escape::Backslash), "\"", &[], Text, Turn::Stays),
-    rule!(Anywhere, "u\"", Extent::Through(Escape::Backslash), "\"", &[], Text, Turn::Stays),
-    rule!(Anywhere, "R\"", Extent::Through(Escape::Backslash), "\"", &[], Text, Turn::Stays),
-    rule!(Anywhere, "B\"", Extent::Through(Escape::Backslash), "\"", &[], Text, Turn::Stays),
-    rule!(Anywhere, "F\"", Extent::Through(Escape::Backslash), "\"", &[], Text, Turn::Stays),
-    rule!(Anywhere, "U\"", Extent::Through(Escape::Backslash), "\"", &[], Text, Turn::Stays),
-    rule!(Anywhere, "r'", Extent::Through(Escape::Backslash), "'", &[], Text, Turn::Stays),
-    rule!(Anywhere, "b'", Extent::Through(Escape::Backslash), "'", &[], Text, Turn::Stays),
-    rule!(Anywhere, "f'", Extent::Through(Escape::Backslash), "'", &[], Text, Turn::Stays),
-    rule!(Anywhere, "u'", Extent::Through(Escape::Backslash), "'", &[], Text, Turn::Stays),
-    rule!(Anywhere, "R'", Extent::Through(Escape::Backslash), "'", &[], Text, Turn::Stays),
-    rule!(Anywhere, "B'", Extent::Through(Escape::Backslash), "'", &[], Text, Turn::Stays),
-    rule!(Anywhere, "F'", Extent::Through(Escape::Backslash), "'", &[], Text, Turn::Stays),
-    rule!(Anywhere, "U'", Extent::Through(Escape::Backslash), "'", &[], Text, Turn::Stays),
-];
-
-#[rattlefmt::skip]
-static PYCON_1_SIGN: [RuleRow; 3] = [
-    rule!(Anywhere, "#", Extent::Line, "", &[], Comment, Turn::Stays),
-    rule!(Anywhere, "\"", Extent::Through(Escape::Backslash), "\"", &[], Text, Turn::Stays),
-    rule!(Anywhere, "'", Extent::Through(Escape::Backslash), "'", &[], Text, Turn::Stays),
-];
-
-fn rust_rules(n: usize, kind: Kind) -> &'static [RuleRow]
-    ensures { map rule_of result.now ≡ filter (may_begin kind) (rust_rules n) }
-{
-    match n {
-        1 => rust_rules_1(kind),
-        _ => rust_rules_0(kind),
-    }
-}
 
 fn rust_mode(n: usize) -> ModeRow
-    ensures { mode_of result ≡ rust_mode n }
+    ensures words { mode_of result ≡ rust_mode n }
+    ensures rules { heads_in result ≡ by_head (rust_rules n) }
 {
     match n {
         1 => rust_1(),
@@ -905,10 +891,14 @@ fn rust_mode(n: usize) -> ModeRow
     }
 }
 
+#[tactic(auto, unfolding(crate::specs::Heads::by_head))]
 fn rust_0() -> ModeRow
-    ensures { mode_of result ≡ rust_0 }
+    ensures words { mode_of result ≡ rust_0 }
+    ensures rules { heads_in result ≡ by_head rust_rules_0 }
 {
     ModeRow {
+        places: "0000000000000000000000000000000000367005000000010000000000000000000000000000000000000000000000000040000000000800002000000000000000000000000000000000000000000000000000000000000000000000000000000000000000000000000000000000000000000000000000000000000000000000",
+        rules: &RUST_0_RULES,
         words: Words::RustWords,
         starts: "",
         more: "",
@@ -920,53 +910,64 @@ fn rust_0() -> ModeRow
     }
 }
 
-fn rust_rules_0(kind: Kind) -> &'static [RuleRow]
-    ensures { map rule_of result.now ≡ filter (may_begin kind) rust_rules_0 }
-{
-    match kind {
-        Kind::Blank => &RUST_0_BLANK,
-        Kind::Letter => &RUST_0_LETTER,
-        Kind::Sign => &RUST_0_SIGN,
-    }
-}
-
 #[rattlefmt::skip]
-static RUST_0_BLANK: [RuleRow; 0] = [
+static RUST_0_RULES: [&[RuleRow]; 9] = [
+    &[
+        rule!(Anywhere, "", Extent::Word, "", &["!(", "![", "!{"], Name, Turn::Stays),
+    ],
+    &[
+        rule!(Anywhere, "//", Extent::Line, "", &[], Comment, Turn::Stays),
+        rule!(Anywhere, "/*", Extent::Nested, "*/", &[], Comment, Turn::Stays),
+        rule!(Anywhere, "", Extent::Word, "", &["!(", "![", "!{"], Name, Turn::Stays),
+    ],
+    &[
+        rule!(Anywhere, "r\"", Extent::ThroughLines(Escape::Never), "\"", &[], Text, Turn::Stays),
+        rule!(Anywhere, "r#\"", Extent::ThroughLines(Escape::Never), "\"#", &[], Text, Turn::Stays),
+        rule!(Anywhere, "r##\"", Extent::ThroughLines(Escape::Never), "\"##", &[], Text, Turn::Stays),
+        rule!(Anywhere, "r###\"", Extent::ThroughLines(Escape::Never), "\"###", &[], Text, Turn::Stays),
+        rule!(Anywhere, "", Extent::Word, "", &["!(", "![", "!{"], Name, Turn::Stays),
+    ],
+    &[
+        rule!(Anywhere, "\"", Extent::ThroughLines(Escape::Backslash), "\"", &[], Text, Turn::Stays),
+        rule!(Anywhere, "", Extent::Word, "", &["!(", "![", "!{"], Name, Turn::Stays),
+    ],
+    &[
+        rule!(Anywhere, "br\"", Extent::ThroughLines(Escape::Never), "\"", &[], Text, Turn::Stays),
+        rule!(Anywhere, "br#\"", Extent::ThroughLines(Escape::Never), "\"#", &[], Text, Turn::Stays),
+        rule!(Anywhere, "br##\"", Extent::ThroughLines(Escape::Never), "\"##", &[], Text, Turn::Stays),
+        rule!(Anywhere, "br###\"", Extent::ThroughLines(Escape::Never), "\"###", &[], Text, Turn::Stays),
+        rule!(Anywhere, "b\"", Extent::ThroughLines(Escape::Backslash), "\"", &[], Text, Turn::Stays),
+        rule!(Anywhere, "b'", Extent::QuotedChar, "", &[], Text, Turn::Stays),
+        rule!(Anywhere, "", Extent::Word, "", &["!(", "![", "!{"], Name, Turn::Stays),
+    ],
+    &[
+        rule!(Anywhere, "'", Extent::QuotedChar, "", &[], Text, Turn::Stays),
+        rule!(Anywhere, "'", Extent::Word, "", &[], Key, Turn::Stays),
+        rule!(Anywhere, "", Extent::Word, "", &["!(", "![", "!{"], Name, Turn::Stays),
+    ],
+    &[
+        rule!(Anywhere, "#![", Extent::Itself, "", &[], Key, Turn::Enters(1)),
+        rule!(Anywhere, "#[", Extent::Itself, "", &[], Key, Turn::Enters(1)),
+        rule!(Anywhere, "", Extent::Word, "", &["!(", "![", "!{"], Name, Turn::Stays),
+    ],
+    &[
+        rule!(Anywhere, "$", Extent::Word, "", &[], Key, Turn::Stays),
+        rule!(Anywhere, "", Extent::Word, "", &["!(", "![", "!{"], Name, Turn::Stays),
+    ],
+    &[
+        rule!(Anywhere, "", Extent::Word, "", &["!(", "![", "!{"], Name, Turn::Stays),
+        rule!(Anywhere, "macro_rules!", Extent::Itself, "", &[], Name, Turn::Stays),
+    ],
 ];
 
-#[rattlefmt::skip]
-static RUST_0_LETTER: [RuleRow; 12] = [
-    rule!(Anywhere, "r\"", Extent::ThroughLines(Escape::Never), "\"", &[], Text, Turn::Stays),
-    rule!(Anywhere, "r#\"", Extent::ThroughLines(Escape::Never), "\"#", &[], Text, Turn::Stays),
-    rule!(Anywhere, "r##\"", Extent::ThroughLines(Escape::Never), "\"##", &[], Text, Turn::Stays),
-    rule!(Anywhere, "r###\"", Extent::ThroughLines(Escape::Never), "\"###", &[], Text, Turn::Stays),
-    rule!(Anywhere, "br\"", Extent::ThroughLines(Escape::Never), "\"", &[], Text, Turn::Stays),
-    rule!(Anywhere, "br#\"", Extent::ThroughLines(Escape::Never), "\"#", &[], Text, Turn::Stays),
-    rule!(Anywhere, "br##\"", Extent::ThroughLines(Escape::Never), "\"##", &[], Text, Turn::Stays),
-    rule!(Anywhere, "br###\"", Extent::ThroughLines(Escape::Never), "\"###", &[], Text, Turn::Stays),
-    rule!(Anywhere, "b\"", Extent::ThroughLines(Escape::Backslash), "\"", &[], Text, Turn::Stays),
-    rule!(Anywhere, "b'", Extent::QuotedChar, "", &[], Text, Turn::Stays),
-    rule!(Anywhere, "", Extent::Word, "", &["!(", "![", "!{"], Name, Turn::Stays),
-    rule!(Anywhere, "macro_rules!", Extent::Itself, "", &[], Name, Turn::Stays),
-];
-
-#[rattlefmt::skip]
-static RUST_0_SIGN: [RuleRow; 9] = [
-    rule!(Anywhere, "//", Extent::Line, "", &[], Comment, Turn::Stays),
-    rule!(Anywhere, "/*", Extent::Nested, "*/", &[], Comment, Turn::Stays),
-    rule!(Anywhere, "\"", Extent::ThroughLines(Escape::Backslash), "\"", &[], Text, Turn::Stays),
-    rule!(Anywhere, "'", Extent::QuotedChar, "", &[], Text, Turn::Stays),
-    rule!(Anywhere, "'", Extent::Word, "", &[], Key, Turn::Stays),
-    rule!(Anywhere, "#![", Extent::Itself, "", &[], Key, Turn::Enters(1)),
-    rule!(Anywhere, "#[", Extent::Itself, "", &[], Key, Turn::Enters(1)),
-    rule!(Anywhere, "$", Extent::Word, "", &[], Key, Turn::Stays),
-    rule!(Anywhere, "", Extent::Word, "", &["!(", "![", "!{"], Name, Turn::Stays),
-];
-
+#[tactic(auto, unfolding(crate::specs::Heads::by_head))]
 fn rust_1() -> ModeRow
-    ensures { mode_of result ≡ rust_1 }
+    ensures words { mode_of result ≡ rust_1 }
+    ensures rules { heads_in result ≡ by_head rust_rules_1 }
 {
     ModeRow {
+        places: "0000000000000000000000000000000000100000000000000000000000000000000000000000000000000000000203000000000000000000000000000000000000000000000000000000000000000000000000000000000000000000000000000000000000000000000000000000000000000000000000000000000000000000",
+        rules: &RUST_1_RULES,
         words: Words::NoWords,
         starts: "",
         more: "",
@@ -978,43 +979,23 @@ fn rust_1() -> ModeRow
     }
 }
 
-fn rust_rules_1(kind: Kind) -> &'static [RuleRow]
-    ensures { map rule_of result.now ≡ filter (may_begin kind) rust_rules_1 }
-{
-    match kind {
-        Kind::Blank => &RUST_1_BLANK,
-        Kind::Letter => &RUST_1_LETTER,
-        Kind::Sign => &RUST_1_SIGN,
-    }
-}
-
 #[rattlefmt::skip]
-static RUST_1_BLANK: [RuleRow; 0] = [
+static RUST_1_RULES: [&[RuleRow]; 4] = [
+    &[],
+    &[
+        rule!(Anywhere, "\"", Extent::ThroughLines(Escape::Backslash), "\"", &[], Text, Turn::Stays),
+    ],
+    &[
+        rule!(Anywhere, "[", Extent::Itself, "", &[], Key, Turn::Enters(1)),
+    ],
+    &[
+        rule!(Anywhere, "]", Extent::Itself, "", &[], Key, Turn::Leaves),
+    ],
 ];
-
-#[rattlefmt::skip]
-static RUST_1_LETTER: [RuleRow; 0] = [
-];
-
-#[rattlefmt::skip]
-static RUST_1_SIGN: [RuleRow; 3] = [
-    rule!(Anywhere, "\"", Extent::ThroughLines(Escape::Backslash), "\"", &[], Text, Turn::Stays),
-    rule!(Anywhere, "[", Extent::Itself, "", &[], Key, Turn::Enters(1)),
-    rule!(Anywhere, "]", Extent::Itself, "", &[], Key, Turn::Leaves),
-];
-
-fn javascript_rules(n: usize, kind: Kind) -> &'static [RuleRow]
-    ensures { map rule_of result.now ≡ filter (may_begin kind) (javascript_rules n) }
-{
-    match n {
-        1 => javascript_rules_1(kind),
-        2 => javascript_rules_2(kind),
-        _ => javascript_rules_0(kind),
-    }
-}
 
 fn javascript_mode(n: usize) -> ModeRow
-    ensures { mode_of result ≡ javascript_mode n }
+    ensures words { mode_of result ≡ javascript_mode n }
+    ensures rules { heads_in result ≡ by_head (javascript_rules n) }
 {
     match n {
         1 => javascript_1(),
@@ -1023,10 +1004,14 @@ fn javascript_mode(n: usize) -> ModeRow
     }
 }
 
+#[tactic(auto, unfolding(crate::specs::Heads::by_head))]
 fn javascript_0() -> ModeRow
-    ensures { mode_of result ≡ javascript_0 }
+    ensures words { mode_of result ≡ javascript_0 }
+    ensures rules { heads_in result ≡ by_head javascript_rules_0 }
 {
     ModeRow {
+        places: "0000000000000000000000000000000000210003000000060000000000000000000000000000000000000000000000004000000000000000000000000005000000000000000000000000000000000000000000000000000000000000000000000000000000000000000000000000000000000000000000000000000000000000",
+        rules: &JAVASCRIPT_0_RULES,
         words: Words::JavascriptWords,
         starts: "$",
         more: "$",
@@ -1038,40 +1023,39 @@ fn javascript_0() -> ModeRow
     }
 }
 
-fn javascript_rules_0(kind: Kind) -> &'static [RuleRow]
-    ensures { map rule_of result.now ≡ filter (may_begin kind) javascript_rules_0 }
-{
-    match kind {
-        Kind::Blank => &JAVASCRIPT_0_BLANK,
-        Kind::Letter => &JAVASCRIPT_0_LETTER,
-        Kind::Sign => &JAVASCRIPT_0_SIGN,
-    }
-}
-
 #[rattlefmt::skip]
-static JAVASCRIPT_0_BLANK: [RuleRow; 0] = [
+static JAVASCRIPT_0_RULES: [&[RuleRow]; 7] = [
+    &[],
+    &[
+        rule!(FirstByte, "#!", Extent::Line, "", &[], Comment, Turn::Stays),
+    ],
+    &[
+        rule!(Anywhere, "\"", Extent::Through(Escape::Backslash), "\"", &[], Text, Turn::Stays),
+    ],
+    &[
+        rule!(Anywhere, "'", Extent::Through(Escape::Backslash), "'", &[], Text, Turn::Stays),
+    ],
+    &[
+        rule!(Anywhere, "`", Extent::Itself, "", &[], Text, Turn::Enters(1)),
+    ],
+    &[
+        rule!(Anywhere, "{", Extent::Itself, "", &[], Plain, Turn::Enters(2)),
+    ],
+    &[
+        rule!(Anywhere, "//", Extent::Line, "", &[], Comment, Turn::Stays),
+        rule!(Anywhere, "/*", Extent::ThroughLines(Escape::Never), "*/", &[], Comment, Turn::Stays),
+        rule!(Value, "/", Extent::Pattern, "", &[], Text, Turn::Stays),
+    ],
 ];
 
-#[rattlefmt::skip]
-static JAVASCRIPT_0_LETTER: [RuleRow; 0] = [
-];
-
-#[rattlefmt::skip]
-static JAVASCRIPT_0_SIGN: [RuleRow; 8] = [
-    rule!(FirstByte, "#!", Extent::Line, "", &[], Comment, Turn::Stays),
-    rule!(Anywhere, "//", Extent::Line, "", &[], Comment, Turn::Stays),
-    rule!(Anywhere, "/*", Extent::ThroughLines(Escape::Never), "*/", &[], Comment, Turn::Stays),
-    rule!(Anywhere, "\"", Extent::Through(Escape::Backslash), "\"", &[], Text, Turn::Stays),
-    rule!(Anywhere, "'", Extent::Through(Escape::Backslash), "'", &[], Text, Turn::Stays),
-    rule!(Anywhere, "`", Extent::Itself, "", &[], Text, Turn::Enters(1)),
-    rule!(Anywhere, "{", Extent::Itself, "", &[], Plain, Turn::Enters(2)),
-    rule!(Value, "/", Extent::Pattern, "", &[], Text, Turn::Stays),
-];
-
+#[tactic(auto, unfolding(crate::specs::Heads::by_head))]
 fn javascript_1() -> ModeRow
-    ensures { mode_of result ≡ javascript_1 }
+    ensures words { mode_of result ≡ javascript_1 }
+    ensures rules { heads_in result ≡ by_head javascript_rules_1 }
 {
     ModeRow {
+        places: "0000000000000000000000000000000000003000000000000000000000000000000000000000000000000000000010002000000000000000000000000000000000000000000000000000000000000000000000000000000000000000000000000000000000000000000000000000000000000000000000000000000000000000",
+        rules: &JAVASCRIPT_1_RULES,
         words: Words::NoWords,
         starts: "",
         more: "",
@@ -1083,35 +1067,28 @@ fn javascript_1() -> ModeRow
     }
 }
 
-fn javascript_rules_1(kind: Kind) -> &'static [RuleRow]
-    ensures { map rule_of result.now ≡ filter (may_begin kind) javascript_rules_1 }
-{
-    match kind {
-        Kind::Blank => &JAVASCRIPT_1_BLANK,
-        Kind::Letter => &JAVASCRIPT_1_LETTER,
-        Kind::Sign => &JAVASCRIPT_1_SIGN,
-    }
-}
-
 #[rattlefmt::skip]
-static JAVASCRIPT_1_BLANK: [RuleRow; 0] = [
+static JAVASCRIPT_1_RULES: [&[RuleRow]; 4] = [
+    &[],
+    &[
+        rule!(Anywhere, "\\", Extent::OneMore, "", &[], Text, Turn::Stays),
+    ],
+    &[
+        rule!(Anywhere, "`", Extent::Itself, "", &[], Text, Turn::Leaves),
+    ],
+    &[
+        rule!(Anywhere, "${", Extent::Itself, "", &[], Text, Turn::Enters(2)),
+    ],
 ];
 
-#[rattlefmt::skip]
-static JAVASCRIPT_1_LETTER: [RuleRow; 0] = [
-];
-
-#[rattlefmt::skip]
-static JAVASCRIPT_1_SIGN: [RuleRow; 3] = [
-    rule!(Anywhere, "\\", Extent::OneMore, "", &[], Text, Turn::Stays),
-    rule!(Anywhere, "`", Extent::Itself, "", &[], Text, Turn::Leaves),
-    rule!(Anywhere, "${", Extent::Itself, "", &[], Text, Turn::Enters(2)),
-];
-
+#[tactic(auto, unfolding(crate::specs::Heads::by_head))]
 fn javascript_2() -> ModeRow
-    ensures { mode_of result ≡ javascript_2 }
+    ensures words { mode_of result ≡ javascript_2 }
+    ensures rules { heads_in result ≡ by_head javascript_rules_2 }
 {
     ModeRow {
+        places: "0000000000000000000000000000000000320004000000070000000000000000000000000000000000000000000000005000000000000000000000000006010000000000000000000000000000000000000000000000000000000000000000000000000000000000000000000000000000000000000000000000000000000000",
+        rules: &JAVASCRIPT_2_RULES,
         words: Words::JavascriptWords,
         starts: "$",
         more: "$",
@@ -1123,49 +1100,37 @@ fn javascript_2() -> ModeRow
     }
 }
 
-fn javascript_rules_2(kind: Kind) -> &'static [RuleRow]
-    ensures { map rule_of result.now ≡ filter (may_begin kind) javascript_rules_2 }
-{
-    match kind {
-        Kind::Blank => &JAVASCRIPT_2_BLANK,
-        Kind::Letter => &JAVASCRIPT_2_LETTER,
-        Kind::Sign => &JAVASCRIPT_2_SIGN,
-    }
-}
-
 #[rattlefmt::skip]
-static JAVASCRIPT_2_BLANK: [RuleRow; 0] = [
+static JAVASCRIPT_2_RULES: [&[RuleRow]; 8] = [
+    &[],
+    &[
+        rule!(Anywhere, "}", Extent::Itself, "", &[], Plain, Turn::Leaves),
+    ],
+    &[
+        rule!(FirstByte, "#!", Extent::Line, "", &[], Comment, Turn::Stays),
+    ],
+    &[
+        rule!(Anywhere, "\"", Extent::Through(Escape::Backslash), "\"", &[], Text, Turn::Stays),
+    ],
+    &[
+        rule!(Anywhere, "'", Extent::Through(Escape::Backslash), "'", &[], Text, Turn::Stays),
+    ],
+    &[
+        rule!(Anywhere, "`", Extent::Itself, "", &[], Text, Turn::Enters(1)),
+    ],
+    &[
+        rule!(Anywhere, "{", Extent::Itself, "", &[], Plain, Turn::Enters(2)),
+    ],
+    &[
+        rule!(Anywhere, "//", Extent::Line, "", &[], Comment, Turn::Stays),
+        rule!(Anywhere, "/*", Extent::ThroughLines(Escape::Never), "*/", &[], Comment, Turn::Stays),
+        rule!(Value, "/", Extent::Pattern, "", &[], Text, Turn::Stays),
+    ],
 ];
-
-#[rattlefmt::skip]
-static JAVASCRIPT_2_LETTER: [RuleRow; 0] = [
-];
-
-#[rattlefmt::skip]
-static JAVASCRIPT_2_SIGN: [RuleRow; 9] = [
-    rule!(Anywhere, "}", Extent::Itself, "", &[], Plain, Turn::Leaves),
-    rule!(FirstByte, "#!", Extent::Line, "", &[], Comment, Turn::Stays),
-    rule!(Anywhere, "//", Extent::Line, "", &[], Comment, Turn::Stays),
-    rule!(Anywhere, "/*", Extent::ThroughLines(Escape::Never), "*/", &[], Comment, Turn::Stays),
-    rule!(Anywhere, "\"", Extent::Through(Escape::Backslash), "\"", &[], Text, Turn::Stays),
-    rule!(Anywhere, "'", Extent::Through(Escape::Backslash), "'", &[], Text, Turn::Stays),
-    rule!(Anywhere, "`", Extent::Itself, "", &[], Text, Turn::Enters(1)),
-    rule!(Anywhere, "{", Extent::Itself, "", &[], Plain, Turn::Enters(2)),
-    rule!(Value, "/", Extent::Pattern, "", &[], Text, Turn::Stays),
-];
-
-fn typescript_rules(n: usize, kind: Kind) -> &'static [RuleRow]
-    ensures { map rule_of result.now ≡ filter (may_begin kind) (typescript_rules n) }
-{
-    match n {
-        1 => typescript_rules_1(kind),
-        2 => typescript_rules_2(kind),
-        _ => typescript_rules_0(kind),
-    }
-}
 
 fn typescript_mode(n: usize) -> ModeRow
-    ensures { mode_of result ≡ typescript_mode n }
+    ensures words { mode_of result ≡ typescript_mode n }
+    ensures rules { heads_in result ≡ by_head (typescript_rules n) }
 {
     match n {
         1 => typescript_1(),
@@ -1174,10 +1139,14 @@ fn typescript_mode(n: usize) -> ModeRow
     }
 }
 
+#[tactic(auto, unfolding(crate::specs::Heads::by_head))]
 fn typescript_0() -> ModeRow
-    ensures { mode_of result ≡ typescript_0 }
+    ensures words { mode_of result ≡ typescript_0 }
+    ensures rules { heads_in result ≡ by_head typescript_rules_0 }
 {
     ModeRow {
+        places: "0000000000000000000000000000000000210003000000060000000000000000700000000000000000000000000000004000000000000000000000000005000000000000000000000000000000000000000000000000000000000000000000000000000000000000000000000000000000000000000000000000000000000000",
+        rules: &TYPESCRIPT_0_RULES,
         words: Words::TypescriptWords,
         starts: "$",
         more: "$",
@@ -1189,43 +1158,51 @@ fn typescript_0() -> ModeRow
     }
 }
 
-fn typescript_rules_0(kind: Kind) -> &'static [RuleRow]
-    ensures { map rule_of result.now ≡ filter (may_begin kind) typescript_rules_0 }
-{
-    match kind {
-        Kind::Blank => &TYPESCRIPT_0_BLANK,
-        Kind::Letter => &TYPESCRIPT_0_LETTER,
-        Kind::Sign => &TYPESCRIPT_0_SIGN,
-    }
-}
-
 #[rattlefmt::skip]
-static TYPESCRIPT_0_BLANK: [RuleRow; 0] = [
+static TYPESCRIPT_0_RULES: [&[RuleRow]; 8] = [
+    &[
+        rule!(AfterColon, "", Extent::Word, "", &[], Name, Turn::Stays),
+    ],
+    &[
+        rule!(FirstByte, "#!", Extent::Line, "", &[], Comment, Turn::Stays),
+        rule!(AfterColon, "", Extent::Word, "", &[], Name, Turn::Stays),
+    ],
+    &[
+        rule!(Anywhere, "\"", Extent::Through(Escape::Backslash), "\"", &[], Text, Turn::Stays),
+        rule!(AfterColon, "", Extent::Word, "", &[], Name, Turn::Stays),
+    ],
+    &[
+        rule!(Anywhere, "'", Extent::Through(Escape::Backslash), "'", &[], Text, Turn::Stays),
+        rule!(AfterColon, "", Extent::Word, "", &[], Name, Turn::Stays),
+    ],
+    &[
+        rule!(Anywhere, "`", Extent::Itself, "", &[], Text, Turn::Enters(1)),
+        rule!(AfterColon, "", Extent::Word, "", &[], Name, Turn::Stays),
+    ],
+    &[
+        rule!(Anywhere, "{", Extent::Itself, "", &[], Plain, Turn::Enters(2)),
+        rule!(AfterColon, "", Extent::Word, "", &[], Name, Turn::Stays),
+    ],
+    &[
+        rule!(Anywhere, "//", Extent::Line, "", &[], Comment, Turn::Stays),
+        rule!(Anywhere, "/*", Extent::ThroughLines(Escape::Never), "*/", &[], Comment, Turn::Stays),
+        rule!(Value, "/", Extent::Pattern, "", &[], Text, Turn::Stays),
+        rule!(AfterColon, "", Extent::Word, "", &[], Name, Turn::Stays),
+    ],
+    &[
+        rule!(Anywhere, "@", Extent::Word, "", &[], Keyword, Turn::Stays),
+        rule!(AfterColon, "", Extent::Word, "", &[], Name, Turn::Stays),
+    ],
 ];
 
-#[rattlefmt::skip]
-static TYPESCRIPT_0_LETTER: [RuleRow; 1] = [
-    rule!(AfterColon, "", Extent::Word, "", &[], Name, Turn::Stays),
-];
-
-#[rattlefmt::skip]
-static TYPESCRIPT_0_SIGN: [RuleRow; 10] = [
-    rule!(FirstByte, "#!", Extent::Line, "", &[], Comment, Turn::Stays),
-    rule!(Anywhere, "//", Extent::Line, "", &[], Comment, Turn::Stays),
-    rule!(Anywhere, "/*", Extent::ThroughLines(Escape::Never), "*/", &[], Comment, Turn::Stays),
-    rule!(Anywhere, "\"", Extent::Through(Escape::Backslash), "\"", &[], Text, Turn::Stays),
-    rule!(Anywhere, "'", Extent::Through(Escape::Backslash), "'", &[], Text, Turn::Stays),
-    rule!(Anywhere, "`", Extent::Itself, "", &[], Text, Turn::Enters(1)),
-    rule!(Anywhere, "{", Extent::Itself, "", &[], Plain, Turn::Enters(2)),
-    rule!(Value, "/", Extent::Pattern, "", &[], Text, Turn::Stays),
-    rule!(Anywhere, "@", Extent::Word, "", &[], Keyword, Turn::Stays),
-    rule!(AfterColon, "", Extent::Word, "", &[], Name, Turn::Stays),
-];
-
+#[tactic(auto, unfolding(crate::specs::Heads::by_head))]
 fn typescript_1() -> ModeRow
-    ensures { mode_of result ≡ typescript_1 }
+    ensures words { mode_of result ≡ typescript_1 }
+    ensures rules { heads_in result ≡ by_head typescript_rules_1 }
 {
     ModeRow {
+        places: "0000000000000000000000000000000000003000000000000000000000000000000000000000000000000000000010002000000000000000000000000000000000000000000000000000000000000000000000000000000000000000000000000000000000000000000000000000000000000000000000000000000000000000",
+        rules: &TYPESCRIPT_1_RULES,
         words: Words::NoWords,
         starts: "",
         more: "",
@@ -1237,35 +1214,28 @@ fn typescript_1() -> ModeRow
     }
 }
 
-fn typescript_rules_1(kind: Kind) -> &'static [RuleRow]
-    ensures { map rule_of result.now ≡ filter (may_begin kind) typescript_rules_1 }
-{
-    match kind {
-        Kind::Blank => &TYPESCRIPT_1_BLANK,
-        Kind::Letter => &TYPESCRIPT_1_LETTER,
-        Kind::Sign => &TYPESCRIPT_1_SIGN,
-    }
-}
-
 #[rattlefmt::skip]
-static TYPESCRIPT_1_BLANK: [RuleRow; 0] = [
+static TYPESCRIPT_1_RULES: [&[RuleRow]; 4] = [
+    &[],
+    &[
+        rule!(Anywhere, "\\", Extent::OneMore, "", &[], Text, Turn::Stays),
+    ],
+    &[
+        rule!(Anywhere, "`", Extent::Itself, "", &[], Text, Turn::Leaves),
+    ],
+    &[
+        rule!(Anywhere, "${", Extent::Itself, "", &[], Text, Turn::Enters(2)),
+    ],
 ];
 
-#[rattlefmt::skip]
-static TYPESCRIPT_1_LETTER: [RuleRow; 0] = [
-];
-
-#[rattlefmt::skip]
-static TYPESCRIPT_1_SIGN: [RuleRow; 3] = [
-    rule!(Anywhere, "\\", Extent::OneMore, "", &[], Text, Turn::Stays),
-    rule!(Anywhere, "`", Extent::Itself, "", &[], Text, Turn::Leaves),
-    rule!(Anywhere, "${", Extent::Itself, "", &[], Text, Turn::Enters(2)),
-];
-
+#[tactic(auto, unfolding(crate::specs::Heads::by_head))]
 fn typescript_2() -> ModeRow
-    ensures { mode_of result ≡ typescript_2 }
+    ensures words { mode_of result ≡ typescript_2 }
+    ensures rules { heads_in result ≡ by_head typescript_rules_2 }
 {
     ModeRow {
+        places: "0000000000000000000000000000000000320004000000070000000000000000800000000000000000000000000000005000000000000000000000000006010000000000000000000000000000000000000000000000000000000000000000000000000000000000000000000000000000000000000000000000000000000000",
+        rules: &TYPESCRIPT_2_RULES,
         words: Words::TypescriptWords,
         starts: "$",
         more: "$",
@@ -1277,56 +1247,62 @@ fn typescript_2() -> ModeRow
     }
 }
 
-fn typescript_rules_2(kind: Kind) -> &'static [RuleRow]
-    ensures { map rule_of result.now ≡ filter (may_begin kind) typescript_rules_2 }
-{
-    match kind {
-        Kind::Blank => &TYPESCRIPT_2_BLANK,
-        Kind::Letter => &TYPESCRIPT_2_LETTER,
-        Kind::Sign => &TYPESCRIPT_2_SIGN,
-    }
-}
-
 #[rattlefmt::skip]
-static TYPESCRIPT_2_BLANK: [RuleRow; 0] = [
+static TYPESCRIPT_2_RULES: [&[RuleRow]; 9] = [
+    &[
+        rule!(AfterColon, "", Extent::Word, "", &[], Name, Turn::Stays),
+    ],
+    &[
+        rule!(Anywhere, "}", Extent::Itself, "", &[], Plain, Turn::Leaves),
+        rule!(AfterColon, "", Extent::Word, "", &[], Name, Turn::Stays),
+    ],
+    &[
+        rule!(FirstByte, "#!", Extent::Line, "", &[], Comment, Turn::Stays),
+        rule!(AfterColon, "", Extent::Word, "", &[], Name, Turn::Stays),
+    ],
+    &[
+        rule!(Anywhere, "\"", Extent::Through(Escape::Backslash), "\"", &[], Text, Turn::Stays),
+        rule!(AfterColon, "", Extent::Word, "", &[], Name, Turn::Stays),
+    ],
+    &[
+        rule!(Anywhere, "'", Extent::Through(Escape::Backslash), "'", &[], Text, Turn::Stays),
+        rule!(AfterColon, "", Extent::Word, "", &[], Name, Turn::Stays),
+    ],
+    &[
+        rule!(Anywhere, "`", Extent::Itself, "", &[], Text, Turn::Enters(1)),
+        rule!(AfterColon, "", Extent::Word, "", &[], Name, Turn::Stays),
+    ],
+    &[
+        rule!(Anywhere, "{", Extent::Itself, "", &[], Plain, Turn::Enters(2)),
+        rule!(AfterColon, "", Extent::Word, "", &[], Name, Turn::Stays),
+    ],
+    &[
+        rule!(Anywhere, "//", Extent::Line, "", &[], Comment, Turn::Stays),
+        rule!(Anywhere, "/*", Extent::ThroughLines(Escape::Never), "*/", &[], Comment, Turn::Stays),
+        rule!(Value, "/", Extent::Pattern, "", &[], Text, Turn::Stays),
+        rule!(AfterColon, "", Extent::Word, "", &[], Name, Turn::Stays),
+    ],
+    &[
+        rule!(Anywhere, "@", Extent::Word, "", &[], Keyword, Turn::Stays),
+        rule!(AfterColon, "", Extent::Word, "", &[], Name, Turn::Stays),
+    ],
 ];
-
-#[rattlefmt::skip]
-static TYPESCRIPT_2_LETTER: [RuleRow; 1] = [
-    rule!(AfterColon, "", Extent::Word, "", &[], Name, Turn::Stays),
-];
-
-#[rattlefmt::skip]
-static TYPESCRIPT_2_SIGN: [RuleRow; 11] = [
-    rule!(Anywhere, "}", Extent::Itself, "", &[], Plain, Turn::Leaves),
-    rule!(FirstByte, "#!", Extent::Line, "", &[], Comment, Turn::Stays),
-    rule!(Anywhere, "//", Extent::Line, "", &[], Comment, Turn::Stays),
-    rule!(Anywhere, "/*", Extent::ThroughLines(Escape::Never), "*/", &[], Comment, Turn::Stays),
-    rule!(Anywhere, "\"", Extent::Through(Escape::Backslash), "\"", &[], Text, Turn::Stays),
-    rule!(Anywhere, "'", Extent::Through(Escape::Backslash), "'", &[], Text, Turn::Stays),
-    rule!(Anywhere, "`", Extent::Itself, "", &[], Text, Turn::Enters(1)),
-    rule!(Anywhere, "{", Extent::Itself, "", &[], Plain, Turn::Enters(2)),
-    rule!(Value, "/", Extent::Pattern, "", &[], Text, Turn::Stays),
-    rule!(Anywhere, "@", Extent::Word, "", &[], Keyword, Turn::Stays),
-    rule!(AfterColon, "", Extent::Word, "", &[], Name, Turn::Stays),
-];
-
-fn json_rules(_n: usize, kind: Kind) -> &'static [RuleRow]
-    ensures { map rule_of result.now ≡ filter (may_begin kind) (json_rules _n) }
-{
-    json_rules_0(kind)
-}
 
 fn json_mode(_n: usize) -> ModeRow
-    ensures { mode_of result ≡ json_mode _n }
+    ensures words { mode_of result ≡ json_mode _n }
+    ensures rules { heads_in result ≡ by_head (json_rules _n) }
 {
     json_0()
 }
 
+#[tactic(auto, unfolding(crate::specs::Heads::by_head))]
 fn json_0() -> ModeRow
-    ensures { mode_of result ≡ json_0 }
+    ensures words { mode_of result ≡ json_0 }
+    ensures rules { heads_in result ≡ by_head json_rules_0 }
 {
     ModeRow {
+        places: "0000000000000000000000000000000000200000000000010000000000000000000000000000000000000000000000000000000000000000000000000000000000000000000000000000000000000000000000000000000000000000000000000000000000000000000000000000000000000000000000000000000000000000",
+        rules: &JSON_0_RULES,
         words: Words::JsonWords,
         starts: "",
         more: "",
@@ -1338,48 +1314,34 @@ fn json_0() -> ModeRow
     }
 }
 
-fn json_rules_0(kind: Kind) -> &'static [RuleRow]
-    ensures { map rule_of result.now ≡ filter (may_begin kind) json_rules_0 }
-{
-    match kind {
-        Kind::Blank => &JSON_0_BLANK,
-        Kind::Letter => &JSON_0_LETTER,
-        Kind::Sign => &JSON_0_SIGN,
-    }
-}
-
 #[rattlefmt::skip]
-static JSON_0_BLANK: [RuleRow; 0] = [
+static JSON_0_RULES: [&[RuleRow]; 3] = [
+    &[],
+    &[
+        rule!(Anywhere, "//", Extent::Line, "", &[], Comment, Turn::Stays),
+        rule!(Anywhere, "/*", Extent::ThroughLines(Escape::Never), "*/", &[], Comment, Turn::Stays),
+    ],
+    &[
+        rule!(Anywhere, "\"", Extent::Through(Escape::Backslash), "\"", &[":"], Key, Turn::Stays),
+        rule!(Anywhere, "\"", Extent::Through(Escape::Backslash), "\"", &[], Text, Turn::Stays),
+    ],
 ];
-
-#[rattlefmt::skip]
-static JSON_0_LETTER: [RuleRow; 0] = [
-];
-
-#[rattlefmt::skip]
-static JSON_0_SIGN: [RuleRow; 4] = [
-    rule!(Anywhere, "//", Extent::Line, "", &[], Comment, Turn::Stays),
-    rule!(Anywhere, "/*", Extent::ThroughLines(Escape::Never), "*/", &[], Comment, Turn::Stays),
-    rule!(Anywhere, "\"", Extent::Through(Escape::Backslash), "\"", &[":"], Key, Turn::Stays),
-    rule!(Anywhere, "\"", Extent::Through(Escape::Backslash), "\"", &[], Text, Turn::Stays),
-];
-
-fn yaml_rules(_n: usize, kind: Kind) -> &'static [RuleRow]
-    ensures { map rule_of result.now ≡ filter (may_begin kind) (yaml_rules _n) }
-{
-    yaml_rules_0(kind)
-}
 
 fn yaml_mode(_n: usize) -> ModeRow
-    ensures { mode_of result ≡ yaml_mode _n }
+    ensures words { mode_of result ≡ yaml_mode _n }
+    ensures rules { heads_in result ≡ by_head (yaml_rules _n) }
 {
     yaml_0()
 }
 
+#[tactic(auto, unfolding(crate::specs::Heads::by_head))]
 fn yaml_0() -> ModeRow
-    ensures { mode_of result ≡ yaml_0 }
+    ensures words { mode_of result ≡ yaml_0 }
+    ensures rules { heads_in result ≡ by_head yaml_rules_0 }
 {
     ModeRow {
+        places: "0000000000000000000000000000000008410265007003000000000000000000000000000000000000000000000000000000000000000000000000000000000000000000000000000000000000000000000000000000000000000000000000000000000000000000000000000000000000000000000000000000000000000000",
+        rules: &YAML_0_RULES,
         words: Words::NoWords,
         starts: "",
         more: "-.",
@@ -1391,57 +1353,63 @@ fn yaml_0() -> ModeRow
     }
 }
 
-fn yaml_rules_0(kind: Kind) -> &'static [RuleRow]
-    ensures { map rule_of result.now ≡ filter (may_begin kind) yaml_rules_0 }
-{
-    match kind {
-        Kind::Blank => &YAML_0_BLANK,
-        Kind::Letter => &YAML_0_LETTER,
-        Kind::Sign => &YAML_0_SIGN,
-    }
-}
-
 #[rattlefmt::skip]
-static YAML_0_BLANK: [RuleRow; 0] = [
+static YAML_0_RULES: [&[RuleRow]; 9] = [
+    &[
+        rule!(FirstWord, "", Extent::UpTo, ":#\"'{}[],&*!|>%@`", &[": ", ":\n"], Key, Turn::Stays),
+    ],
+    &[
+        rule!(Apart, "#", Extent::Line, "", &[], Comment, Turn::Stays),
+        rule!(FirstWord, "", Extent::UpTo, ":#\"'{}[],&*!|>%@`", &[": ", ":\n"], Key, Turn::Stays),
+    ],
+    &[
+        rule!(FirstByte, "%", Extent::Line, "", &[], Key, Turn::Stays),
+        rule!(FirstWord, "", Extent::UpTo, ":#\"'{}[],&*!|>%@`", &[": ", ":\n"], Key, Turn::Stays),
+    ],
+    &[
+        rule!(FirstByte, "---", Extent::Line, "", &[], Plain, Turn::Stays),
+        rule!(FirstWord, "- ", Extent::Itself, "", &[], Plain, Turn::Stays),
+        rule!(FirstWord, "", Extent::UpTo, ":#\"'{}[],&*!|>%@`", &[": ", ":\n"], Key, Turn::Stays),
+    ],
+    &[
+        rule!(FirstWord, "\"", Extent::Through(Escape::Backslash), "\"", &[": ", ":\n"], Key, Turn::Stays),
+        rule!(Apart, "\"", Extent::ThroughLines(Escape::Backslash), "\"", &[], Text, Turn::Stays),
+        rule!(FirstWord, "", Extent::UpTo, ":#\"'{}[],&*!|>%@`", &[": ", ":\n"], Key, Turn::Stays),
+    ],
+    &[
+        rule!(FirstWord, "'", Extent::Through(Escape::Doubled), "'", &[": ", ":\n"], Key, Turn::Stays),
+        rule!(Apart, "'", Extent::ThroughLines(Escape::Doubled), "'", &[], Text, Turn::Stays),
+        rule!(FirstWord, "", Extent::UpTo, ":#\"'{}[],&*!|>%@`", &[": ", ":\n"], Key, Turn::Stays),
+    ],
+    &[
+        rule!(FirstWord, "", Extent::UpTo, ":#\"'{}[],&*!|>%@`", &[": ", ":\n"], Key, Turn::Stays),
+        rule!(Apart, "&", Extent::Word, "", &[], Key, Turn::Stays),
+    ],
+    &[
+        rule!(FirstWord, "", Extent::UpTo, ":#\"'{}[],&*!|>%@`", &[": ", ":\n"], Key, Turn::Stays),
+        rule!(Apart, "*", Extent::Word, "", &[], Key, Turn::Stays),
+    ],
+    &[
+        rule!(FirstWord, "", Extent::UpTo, ":#\"'{}[],&*!|>%@`", &[": ", ":\n"], Key, Turn::Stays),
+        rule!(Apart, "!", Extent::Word, "", &[], Key, Turn::Stays),
+    ],
 ];
-
-#[rattlefmt::skip]
-static YAML_0_LETTER: [RuleRow; 1] = [
-    rule!(FirstWord, "", Extent::UpTo, ":#\"'{}[],&*!|>%@`", &[": ", ":\n"], Key, Turn::Stays),
-];
-
-#[rattlefmt::skip]
-static YAML_0_SIGN: [RuleRow; 12] = [
-    rule!(Apart, "#", Extent::Line, "", &[], Comment, Turn::Stays),
-    rule!(FirstByte, "---", Extent::Line, "", &[], Plain, Turn::Stays),
-    rule!(FirstByte, "%", Extent::Line, "", &[], Key, Turn::Stays),
-    rule!(FirstWord, "- ", Extent::Itself, "", &[], Plain, Turn::Stays),
-    rule!(FirstWord, "\"", Extent::Through(Escape::Backslash), "\"", &[": ", ":\n"], Key, Turn::Stays),
-    rule!(FirstWord, "'", Extent::Through(Escape::Doubled), "'", &[": ", ":\n"], Key, Turn::Stays),
-    rule!(Apart, "\"", Extent::ThroughLines(Escape::Backslash), "\"", &[], Text, Turn::Stays),
-    rule!(Apart, "'", Extent::ThroughLines(Escape::Doubled), "'", &[], Text, Turn::Stays),
-    rule!(FirstWord, "", Extent::UpTo, ":#\"'{}[],&*!|>%@`", &[": ", ":\n"], Key, Turn::Stays),
-    rule!(Apart, "&", Extent::Word, "", &[], Key, Turn::Stays),
-    rule!(Apart, "*", Extent::Word, "", &[], Key, Turn::Stays),
-    rule!(Apart, "!", Extent::Word, "", &[], Key, Turn::Stays),
-];
-
-fn toml_rules(_n: usize, kind: Kind) -> &'static [RuleRow]
-    ensures { map rule_of result.now ≡ filter (may_begin kind) (toml_rules _n) }
-{
-    toml_rules_0(kind)
-}
 
 fn toml_mode(_n: usize) -> ModeRow
-    ensures { mode_of result ≡ toml_mode _n }
+    ensures words { mode_of result ≡ toml_mode _n }
+    ensures rules { heads_in result ≡ by_head (toml_rules _n) }
 {
     toml_0()
 }
 
+#[tactic(auto, unfolding(crate::specs::Heads::by_head))]
 fn toml_0() -> ModeRow
-    ensures { mode_of result ≡ toml_0 }
+    ensures words { mode_of result ≡ toml_0 }
+    ensures rules { heads_in result ≡ by_head toml_rules_0 }
 {
     ModeRow {
+        places: "0000000000000000000000000000000000310004000000000000000000000000000000000000000000000000000200000000000000000000000000000000000000000000000000000000000000000000000000000000000000000000000000000000000000000000000000000000000000000000000000000000000000000000",
+        rules: &TOML_0_RULES,
         words: Words::TomlWords,
         starts: "",
         more: "-",
@@ -1453,51 +1421,40 @@ fn toml_0() -> ModeRow
     }
 }
 
-fn toml_rules_0(kind: Kind) -> &'static [RuleRow]
-    ensures { map rule_of result.now ≡ filter (may_begin kind) toml_rules_0 }
-{
-    match kind {
-        Kind::Blank => &TOML_0_BLANK,
-        Kind::Letter => &TOML_0_LETTER,
-        Kind::Sign => &TOML_0_SIGN,
-    }
-}
-
 #[rattlefmt::skip]
-static TOML_0_BLANK: [RuleRow; 0] = [
+static TOML_0_RULES: [&[RuleRow]; 5] = [
+    &[
+        rule!(FirstWord, "", Extent::UpTo, "=\"#[{}],", &["="], Key, Turn::Stays),
+        rule!(Anywhere, "", Extent::Word, "", &["="], Key, Turn::Stays),
+    ],
+    &[
+        rule!(Anywhere, "#", Extent::Line, "", &[], Comment, Turn::Stays),
+        rule!(FirstWord, "", Extent::UpTo, "=\"#[{}],", &["="], Key, Turn::Stays),
+        rule!(Anywhere, "", Extent::Word, "", &["="], Key, Turn::Stays),
+    ],
+    &[
+        rule!(FirstWord, "[", Extent::UpTo, "#", &[], Keyword, Turn::Stays),
+        rule!(FirstWord, "", Extent::UpTo, "=\"#[{}],", &["="], Key, Turn::Stays),
+        rule!(Anywhere, "", Extent::Word, "", &["="], Key, Turn::Stays),
+    ],
+    &[
+        rule!(Anywhere, "\"\"\"", Extent::ThroughLines(Escape::Backslash), "\"\"\"", &[], Text, Turn::Stays),
+        rule!(FirstWord, "\"", Extent::Through(Escape::Backslash), "\"", &["=", "."], Key, Turn::Stays),
+        rule!(Anywhere, "\"", Extent::Through(Escape::Backslash), "\"", &[], Text, Turn::Stays),
+        rule!(FirstWord, "", Extent::UpTo, "=\"#[{}],", &["="], Key, Turn::Stays),
+        rule!(Anywhere, "", Extent::Word, "", &["="], Key, Turn::Stays),
+    ],
+    &[
+        rule!(Anywhere, "'''", Extent::ThroughLines(Escape::Never), "'''", &[], Text, Turn::Stays),
+        rule!(Anywhere, "'", Extent::Through(Escape::Never), "'", &[], Text, Turn::Stays),
+        rule!(FirstWord, "", Extent::UpTo, "=\"#[{}],", &["="], Key, Turn::Stays),
+        rule!(Anywhere, "", Extent::Word, "", &["="], Key, Turn::Stays),
+    ],
 ];
-
-#[rattlefmt::skip]
-static TOML_0_LETTER: [RuleRow; 2] = [
-    rule!(FirstWord, "", Extent::UpTo, "=\"#[{}],", &["="], Key, Turn::Stays),
-    rule!(Anywhere, "", Extent::Word, "", &["="], Key, Turn::Stays),
-];
-
-#[rattlefmt::skip]
-static TOML_0_SIGN: [RuleRow; 9] = [
-    rule!(Anywhere, "#", Extent::Line, "", &[], Comment, Turn::Stays),
-    rule!(FirstWord, "[", Extent::UpTo, "#", &[], Keyword, Turn::Stays),
-    rule!(Anywhere, "\"\"\"", Extent::ThroughLines(Escape::Backslash), "\"\"\"", &[], Text, Turn::Stays),
-    rule!(Anywhere, "'''", Extent::ThroughLines(Escape::Never), "'''", &[], Text, Turn::Stays),
-    rule!(FirstWord, "\"", Extent::Through(Escape::Backslash), "\"", &["=", "."], Key, Turn::Stays),
-    rule!(Anywhere, "\"", Extent::Through(Escape::Backslash), "\"", &[], Text, Turn::Stays),
-    rule!(Anywhere, "'", Extent::Through(Escape::Never), "'", &[], Text, Turn::Stays),
-    rule!(FirstWord, "", Extent::UpTo, "=\"#[{}],", &["="], Key, Turn::Stays),
-    rule!(Anywhere, "", Extent::Word, "", &["="], Key, Turn::Stays),
-];
-
-fn ini_rules(n: usize, kind: Kind) -> &'static [RuleRow]
-    ensures { map rule_of result.now ≡ filter (may_begin kind) (ini_rules n) }
-{
-    match n {
-        1 => ini_rules_1(kind),
-        2 => ini_rules_2(kind),
-        _ => ini_rules_0(kind),
-    }
-}
 
 fn ini_mode(n: usize) -> ModeRow
-    ensures { mode_of result ≡ ini_mode n }
+    ensures words { mode_of result ≡ ini_mode n }
+    ensures rules { heads_in result ≡ by_head (ini_rules n) }
 {
     match n {
         1 => ini_1(),
@@ -1506,10 +1463,14 @@ fn ini_mode(n: usize) -> ModeRow
     }
 }
 
+#[tactic(auto, unfolding(crate::specs::Heads::by_head))]
 fn ini_0() -> ModeRow
-    ensures { mode_of result ≡ ini_0 }
+    ensures words { mode_of result ≡ ini_0 }
+    ensures rules { heads_in result ≡ by_head ini_rules_0 }
 {
     ModeRow {
+        places: "0000000000000000000000000000000000010000000000000000000000020000000000000000000000000000000300000000000000000000000000000000000000000000000000000000000000000000000000000000000000000000000000000000000000000000000000000000000000000000000000000000000000000000",
+        rules: &INI_0_RULES,
         words: Words::NoWords,
         starts: "",
         more: "",
@@ -1521,39 +1482,37 @@ fn ini_0() -> ModeRow
     }
 }
 
-fn ini_rules_0(kind: Kind) -> &'static [RuleRow]
-    ensures { map rule_of result.now ≡ filter (may_begin kind) ini_rules_0 }
-{
-    match kind {
-        Kind::Blank => &INI_0_BLANK,
-        Kind::Letter => &INI_0_LETTER,
-        Kind::Sign => &INI_0_SIGN,
-    }
-}
-
 #[rattlefmt::skip]
-static INI_0_BLANK: [RuleRow; 0] = [
+static INI_0_RULES: [&[RuleRow]; 4] = [
+    &[
+        rule!(FirstWord, "", Extent::UpTo, "=:;#", &["=", ":"], Key, Turn::Enters(1)),
+        rule!(FirstWord, "", Extent::UpTo, ";#", &[], Key, Turn::Stays),
+    ],
+    &[
+        rule!(FirstWord, "#", Extent::Line, "", &[], Comment, Turn::Stays),
+        rule!(FirstWord, "", Extent::UpTo, "=:;#", &["=", ":"], Key, Turn::Enters(1)),
+        rule!(FirstWord, "", Extent::UpTo, ";#", &[], Key, Turn::Stays),
+    ],
+    &[
+        rule!(FirstWord, ";", Extent::Line, "", &[], Comment, Turn::Stays),
+        rule!(FirstWord, "", Extent::UpTo, "=:;#", &["=", ":"], Key, Turn::Enters(1)),
+        rule!(FirstWord, "", Extent::UpTo, ";#", &[], Key, Turn::Stays),
+    ],
+    &[
+        rule!(FirstWord, "[", Extent::Through(Escape::Never), "]", &[], Keyword, Turn::Stays),
+        rule!(FirstWord, "", Extent::UpTo, "=:;#", &["=", ":"], Key, Turn::Enters(1)),
+        rule!(FirstWord, "", Extent::UpTo, ";#", &[], Key, Turn::Stays),
+    ],
 ];
 
-#[rattlefmt::skip]
-static INI_0_LETTER: [RuleRow; 2] = [
-    rule!(FirstWord, "", Extent::UpTo, "=:;#", &["=", ":"], Key, Turn::Enters(1)),
-    rule!(FirstWord, "", Extent::UpTo, ";#", &[], Key, Turn::Stays),
-];
-
-#[rattlefmt::skip]
-static INI_0_SIGN: [RuleRow; 5] = [
-    rule!(FirstWord, "#", Extent::Line, "", &[], Comment, Turn::Stays),
-    rule!(FirstWord, ";", Extent::Line, "", &[], Comment, Turn::Stays),
-    rule!(FirstWord, "[", Extent::Through(Escape::Never), "]", &[], Keyword, Turn::Stays),
-    rule!(FirstWord, "", Extent::UpTo, "=:;#", &["=", ":"], Key, Turn::Enters(1)),
-    rule!(FirstWord, "", Extent::UpTo, ";#", &[], Key, Turn::Stays),
-];
-
+#[tactic(auto, unfolding(crate::specs::Heads::by_head))]
 fn ini_1() -> ModeRow
-    ensures { mode_of result ≡ ini_1 }
+    ensures words { mode_of result ≡ ini_1 }
+    ensures rules { heads_in result ≡ by_head ini_rules_1 }
 {
     ModeRow {
+        places: "0000000000000000000000000000000000000000000000000000000000200100000000000000000000000000000000000000000000000000000000000000000000000000000000000000000000000000000000000000000000000000000000000000000000000000000000000000000000000000000000000000000000000000",
+        rules: &INI_1_RULES,
         words: Words::NoWords,
         starts: "",
         more: "",
@@ -1565,34 +1524,25 @@ fn ini_1() -> ModeRow
     }
 }
 
-fn ini_rules_1(kind: Kind) -> &'static [RuleRow]
-    ensures { map rule_of result.now ≡ filter (may_begin kind) ini_rules_1 }
-{
-    match kind {
-        Kind::Blank => &INI_1_BLANK,
-        Kind::Letter => &INI_1_LETTER,
-        Kind::Sign => &INI_1_SIGN,
-    }
-}
-
 #[rattlefmt::skip]
-static INI_1_BLANK: [RuleRow; 0] = [
+static INI_1_RULES: [&[RuleRow]; 3] = [
+    &[],
+    &[
+        rule!(Anywhere, "=", Extent::Itself, "", &[], Plain, Turn::Becomes(2)),
+    ],
+    &[
+        rule!(Anywhere, ":", Extent::Itself, "", &[], Plain, Turn::Becomes(2)),
+    ],
 ];
 
-#[rattlefmt::skip]
-static INI_1_LETTER: [RuleRow; 0] = [
-];
-
-#[rattlefmt::skip]
-static INI_1_SIGN: [RuleRow; 2] = [
-    rule!(Anywhere, "=", Extent::Itself, "", &[], Plain, Turn::Becomes(2)),
-    rule!(Anywhere, ":", Extent::Itself, "", &[], Plain, Turn::Becomes(2)),
-];
-
+#[tactic(auto, unfolding(crate::specs::Heads::by_head))]
 fn ini_2() -> ModeRow
-    ensures { mode_of result ≡ ini_2 }
+    ensures words { mode_of result ≡ ini_2 }
+    ensures rules { heads_in result ≡ by_head ini_rules_2 }
 {
     ModeRow {
+        places: "0000000000200000000000000000000000040000000000000000000000030000000000000000000000000000000010000000000000000000000000000000000000000000000000000000000000000000000000000000000000000000000000000000000000000000000000000000000000000000000000000000000000000000",
+        rules: &INI_2_RULES,
         words: Words::NoWords,
         starts: "",
         more: "",
@@ -1604,48 +1554,38 @@ fn ini_2() -> ModeRow
     }
 }
 
-fn ini_rules_2(kind: Kind) -> &'static [RuleRow]
-    ensures { map rule_of result.now ≡ filter (may_begin kind) ini_rules_2 }
-{
-    match kind {
-        Kind::Blank => &INI_2_BLANK,
-        Kind::Letter => &INI_2_LETTER,
-        Kind::Sign => &INI_2_SIGN,
-    }
-}
-
 #[rattlefmt::skip]
-static INI_2_BLANK: [RuleRow; 1] = [
-    rule!(Anywhere, "\n", Extent::Itself, "", &[], Plain, Turn::Leaves),
+static INI_2_RULES: [&[RuleRow]; 5] = [
+    &[],
+    &[
+        rule!(Anywhere, "\\\n", Extent::Itself, "", &[], Plain, Turn::Stays),
+    ],
+    &[
+        rule!(Anywhere, "\n", Extent::Itself, "", &[], Plain, Turn::Leaves),
+    ],
+    &[
+        rule!(Apart, ";", Extent::Line, "", &[], Comment, Turn::Stays),
+    ],
+    &[
+        rule!(Apart, "#", Extent::Line, "", &[], Comment, Turn::Stays),
+    ],
 ];
-
-#[rattlefmt::skip]
-static INI_2_LETTER: [RuleRow; 0] = [
-];
-
-#[rattlefmt::skip]
-static INI_2_SIGN: [RuleRow; 3] = [
-    rule!(Anywhere, "\\\n", Extent::Itself, "", &[], Plain, Turn::Stays),
-    rule!(Apart, ";", Extent::Line, "", &[], Comment, Turn::Stays),
-    rule!(Apart, "#", Extent::Line, "", &[], Comment, Turn::Stays),
-];
-
-fn diff_rules(_n: usize, kind: Kind) -> &'static [RuleRow]
-    ensures { map rule_of result.now ≡ filter (may_begin kind) (diff_rules _n) }
-{
-    diff_rules_0(kind)
-}
 
 fn diff_mode(_n: usize) -> ModeRow
-    ensures { mode_of result ≡ diff_mode _n }
+    ensures words { mode_of result ≡ diff_mode _n }
+    ensures rules { heads_in result ≡ by_head (diff_rules _n) }
 {
     diff_0()
 }
 
+#[tactic(auto, unfolding(crate::specs::Heads::by_head))]
 fn diff_0() -> ModeRow
-    ensures { mode_of result ≡ diff_0 }
+    ensures words { mode_of result ≡ diff_0 }
+    ensures rules { heads_in result ≡ by_head diff_rules_0 }
 {
     ModeRow {
+        places: "00000000000000000000000000000000080000000001020000000000000097:0300000000600000000000000000000000000400005000000000000000000000000000000000000000000000000000000000000000000000000000000000000000000000000000000000000000000000000000000000000000000000000000000",
+        rules: &DIFF_0_RULES,
         words: Words::NoWords,
         starts: "",
         more: "",
@@ -1657,49 +1597,44 @@ fn diff_0() -> ModeRow
     }
 }
 
-fn diff_rules_0(kind: Kind) -> &'static [RuleRow]
-    ensures { map rule_of result.now ≡ filter (may_begin kind) diff_rules_0 }
-{
-    match kind {
-        Kind::Blank => &DIFF_0_BLANK,
-        Kind::Letter => &DIFF_0_LETTER,
-        Kind::Sign => &DIFF_0_SIGN,
-    }
-}
-
 #[rattlefmt::skip]
-static DIFF_0_BLANK: [RuleRow; 0] = [
+static DIFF_0_RULES: [&[RuleRow]; 11] = [
+    &[],
+    &[
+        rule!(FirstByte, "+", Extent::Line, "", &[], Inserted, Turn::Stays),
+    ],
+    &[
+        rule!(FirstByte, "-", Extent::Line, "", &[], Deleted, Turn::Stays),
+    ],
+    &[
+        rule!(FirstByte, "@", Extent::Line, "", &[], Key, Turn::Stays),
+    ],
+    &[
+        rule!(FirstByte, "diff ", Extent::Line, "", &[], Key, Turn::Stays),
+    ],
+    &[
+        rule!(FirstByte, "index ", Extent::Line, "", &[], Key, Turn::Stays),
+    ],
+    &[
+        rule!(FirstByte, "Index", Extent::Line, "", &[], Key, Turn::Stays),
+    ],
+    &[
+        rule!(FirstByte, "=", Extent::Line, "", &[], Key, Turn::Stays),
+    ],
+    &[
+        rule!(FirstByte, "!", Extent::Line, "", &[], Name, Turn::Stays),
+    ],
+    &[
+        rule!(FirstByte, "<", Extent::Line, "", &[], Deleted, Turn::Stays),
+    ],
+    &[
+        rule!(FirstByte, ">", Extent::Line, "", &[], Inserted, Turn::Stays),
+    ],
 ];
-
-#[rattlefmt::skip]
-static DIFF_0_LETTER: [RuleRow; 3] = [
-    rule!(FirstByte, "diff ", Extent::Line, "", &[], Key, Turn::Stays),
-    rule!(FirstByte, "index ", Extent::Line, "", &[], Key, Turn::Stays),
-    rule!(FirstByte, "Index", Extent::Line, "", &[], Key, Turn::Stays),
-];
-
-#[rattlefmt::skip]
-static DIFF_0_SIGN: [RuleRow; 7] = [
-    rule!(FirstByte, "+", Extent::Line, "", &[], Inserted, Turn::Stays),
-    rule!(FirstByte, "-", Extent::Line, "", &[], Deleted, Turn::Stays),
-    rule!(FirstByte, "@", Extent::Line, "", &[], Key, Turn::Stays),
-    rule!(FirstByte, "=", Extent::Line, "", &[], Key, Turn::Stays),
-    rule!(FirstByte, "!", Extent::Line, "", &[], Name, Turn::Stays),
-    rule!(FirstByte, "<", Extent::Line, "", &[], Deleted, Turn::Stays),
-    rule!(FirstByte, ">", Extent::Line, "", &[], Inserted, Turn::Stays),
-];
-
-fn xml_rules(n: usize, kind: Kind) -> &'static [RuleRow]
-    ensures { map rule_of result.now ≡ filter (may_begin kind) (xml_rules n) }
-{
-    match n {
-        1 => xml_rules_1(kind),
-        _ => xml_rules_0(kind),
-    }
-}
 
 fn xml_mode(n: usize) -> ModeRow
-    ensures { mode_of result ≡ xml_mode n }
+    ensures words { mode_of result ≡ xml_mode n }
+    ensures rules { heads_in result ≡ by_head (xml_rules n) }
 {
     match n {
         1 => xml_1(),
@@ -1707,10 +1642,14 @@ fn xml_mode(n: usize) -> ModeRow
     }
 }
 
+#[tactic(auto, unfolding(crate::specs::Heads::by_head))]
 fn xml_0() -> ModeRow
-    ensures { mode_of result ≡ xml_0 }
+    ensures words { mode_of result ≡ xml_0 }
+    ensures rules { heads_in result ≡ by_head xml_rules_0 }
 {
     ModeRow {
+        places: "0000000000000000000000000000000000000020000000000000000000001000000000000000000000000000000000000000000000000000000000000000000000000000000000000000000000000000000000000000000000000000000000000000000000000000000000000000000000000000000000000000000000000000",
+        rules: &XML_0_RULES,
         words: Words::NoWords,
         starts: "",
         more: "-.:",
@@ -1722,40 +1661,31 @@ fn xml_0() -> ModeRow
     }
 }
 
-fn xml_rules_0(kind: Kind) -> &'static [RuleRow]
-    ensures { map rule_of result.now ≡ filter (may_begin kind) xml_rules_0 }
-{
-    match kind {
-        Kind::Blank => &XML_0_BLANK,
-        Kind::Letter => &XML_0_LETTER,
-        Kind::Sign => &XML_0_SIGN,
-    }
-}
-
 #[rattlefmt::skip]
-static XML_0_BLANK: [RuleRow; 0] = [
+static XML_0_RULES: [&[RuleRow]; 3] = [
+    &[],
+    &[
+        rule!(Anywhere, "<!--", Extent::ThroughLines(Escape::Never), "-->", &[], Comment, Turn::Stays),
+        rule!(Anywhere, "<![CDATA[", Extent::ThroughLines(Escape::Never), "]]>", &[], Key, Turn::Stays),
+        rule!(Anywhere, "<?", Extent::ThroughLines(Escape::Never), "?>", &[], Key, Turn::Stays),
+        rule!(Anywhere, "<!", Extent::ThroughLines(Escape::Never), ">", &[], Key, Turn::Stays),
+        rule!(Anywhere, "</", Extent::UpTo, " \t>", &[], Key, Turn::Enters(1)),
+        rule!(Anywhere, "<", Extent::Word, "", &[], Key, Turn::Enters(1)),
+    ],
+    &[
+        rule!(Anywhere, "&", Extent::Word, "", &[";"], Name, Turn::Stays),
+        rule!(Anywhere, "&#", Extent::Word, "", &[], Name, Turn::Stays),
+    ],
 ];
 
-#[rattlefmt::skip]
-static XML_0_LETTER: [RuleRow; 0] = [
-];
-
-#[rattlefmt::skip]
-static XML_0_SIGN: [RuleRow; 8] = [
-    rule!(Anywhere, "<!--", Extent::ThroughLines(Escape::Never), "-->", &[], Comment, Turn::Stays),
-    rule!(Anywhere, "<![CDATA[", Extent::ThroughLines(Escape::Never), "]]>", &[], Key, Turn::Stays),
-    rule!(Anywhere, "<?", Extent::ThroughLines(Escape::Never), "?>", &[], Key, Turn::Stays),
-    rule!(Anywhere, "<!", Extent::ThroughLines(Escape::Never), ">", &[], Key, Turn::Stays),
-    rule!(Anywhere, "</", Extent::UpTo, " \t>", &[], Key, Turn::Enters(1)),
-    rule!(Anywhere, "<", Extent::Word, "", &[], Key, Turn::Enters(1)),
-    rule!(Anywhere, "&", Extent::Word, "", &[";"], Name, Turn::Stays),
-    rule!(Anywhere, "&#", Extent::Word, "", &[], Name, Turn::Stays),
-];
-
+#[tactic(auto, unfolding(crate::specs::Heads::by_head))]
 fn xml_1() -> ModeRow
-    ensures { mode_of result ≡ xml_1 }
+    ensures words { mode_of result ≡ xml_1 }
+    ensures rules { heads_in result ≡ by_head xml_rules_1 }
 {
     ModeRow {
+        places: "0000000000000000000000000000000000400005000000010000000000000320000000000000000000000000000000000000000000000000000000000000000000000000000000000000000000000000000000000000000000000000000000000000000000000000000000000000000000000000000000000000000000000000",
+        rules: &XML_1_RULES,
         words: Words::NoWords,
         starts: "",
         more: "#*-.:@",
@@ -1767,50 +1697,36 @@ fn xml_1() -> ModeRow
     }
 }
 
-fn xml_rules_1(kind: Kind) -> &'static [RuleRow]
-    ensures { map rule_of result.now ≡ filter (may_begin kind) xml_rules_1 }
-{
-    match kind {
-        Kind::Blank => &XML_1_BLANK,
-        Kind::Letter => &XML_1_LETTER,
-        Kind::Sign => &XML_1_SIGN,
-    }
-}
-
 #[rattlefmt::skip]
-static XML_1_BLANK: [RuleRow; 0] = [
+static XML_1_RULES: [&[RuleRow]; 6] = [
+    &[
+        rule!(Anywhere, "", Extent::Word, "", &[], Key, Turn::Stays),
+    ],
+    &[
+        rule!(Anywhere, "/>", Extent::Itself, "", &[], Key, Turn::Leaves),
+        rule!(Anywhere, "", Extent::Word, "", &[], Key, Turn::Stays),
+    ],
+    &[
+        rule!(Anywhere, ">", Extent::Itself, "", &[], Key, Turn::Leaves),
+        rule!(Anywhere, "", Extent::Word, "", &[], Key, Turn::Stays),
+    ],
+    &[
+        rule!(Anywhere, "=", Extent::Itself, "", &[], Key, Turn::Stays),
+        rule!(Anywhere, "", Extent::Word, "", &[], Key, Turn::Stays),
+    ],
+    &[
+        rule!(Anywhere, "\"", Extent::ThroughLines(Escape::Never), "\"", &[], Text, Turn::Stays),
+        rule!(Anywhere, "", Extent::Word, "", &[], Key, Turn::Stays),
+    ],
+    &[
+        rule!(Anywhere, "'", Extent::ThroughLines(Escape::Never), "'", &[], Text, Turn::Stays),
+        rule!(Anywhere, "", Extent::Word, "", &[], Key, Turn::Stays),
+    ],
 ];
-
-#[rattlefmt::skip]
-static XML_1_LETTER: [RuleRow; 1] = [
-    rule!(Anywhere, "", Extent::Word, "", &[], Key, Turn::Stays),
-];
-
-#[rattlefmt::skip]
-static XML_1_SIGN: [RuleRow; 6] = [
-    rule!(Anywhere, "/>", Extent::Itself, "", &[], Key, Turn::Leaves),
-    rule!(Anywhere, ">", Extent::Itself, "", &[], Key, Turn::Leaves),
-    rule!(Anywhere, "=", Extent::Itself, "", &[], Key, Turn::Stays),
-    rule!(Anywhere, "\"", Extent::ThroughLines(Escape::Never), "\"", &[], Text, Turn::Stays),
-    rule!(Anywhere, "'", Extent::ThroughLines(Escape::Never), "'", &[], Text, Turn::Stays),
-    rule!(Anywhere, "", Extent::Word, "", &[], Key, Turn::Stays),
-];
-
-fn html_rules(n: usize, kind: Kind) -> &'static [RuleRow]
-    ensures { map rule_of result.now ≡ filter (may_begin kind) (html_rules n) }
-{
-    match n {
-        1 => html_rules_1(kind),
-        2 => html_rules_2(kind),
-        3 => html_rules_3(kind),
-        4 => html_rules_4(kind),
-        5 => html_rules_5(kind),
-        _ => html_rules_0(kind),
-    }
-}
 
 fn html_mode(n: usize) -> ModeRow
-    ensures { mode_of result ≡ html_mode n }
+    ensures words { mode_of result ≡ html_mode n }
+    ensures rules { heads_in result ≡ by_head (html_rules n) }
 {
     match n {
         1 => html_1(),
@@ -1822,10 +1738,14 @@ fn html_mode(n: usize) -> ModeRow
     }
 }
 
+#[tactic(auto, unfolding(crate::specs::Heads::by_head))]
 fn html_0() -> ModeRow
-    ensures { mode_of result ≡ html_0 }
+    ensures words { mode_of result ≡ html_0 }
+    ensures rules { heads_in result ≡ by_head html_rules_0 }
 {
     ModeRow {
+        places: "0000000000000000000000000000000000000020000000000000000000001000000000000000000000000000000000000000000000000000000000000000000000000000000000000000000000000000000000000000000000000000000000000000000000000000000000000000000000000000000000000000000000000000",
+        rules: &HTML_0_RULES,
         words: Words::NoWords,
         starts: "",
         more: "-.:",
@@ -1837,44 +1757,35 @@ fn html_0() -> ModeRow
     }
 }
 
-fn html_rules_0(kind: Kind) -> &'static [RuleRow]
-    ensures { map rule_of result.now ≡ filter (may_begin kind) html_rules_0 }
-{
-    match kind {
-        Kind::Blank => &HTML_0_BLANK,
-        Kind::Letter => &HTML_0_LETTER,
-        Kind::Sign => &HTML_0_SIGN,
-    }
-}
-
 #[rattlefmt::skip]
-static HTML_0_BLANK: [RuleRow; 0] = [
+static HTML_0_RULES: [&[RuleRow]; 3] = [
+    &[],
+    &[
+        rule!(Anywhere, "<!--", Extent::ThroughLines(Escape::Never), "-->", &[], Comment, Turn::Stays),
+        rule!(Anywhere, "<![CDATA[", Extent::ThroughLines(Escape::Never), "]]>", &[], Key, Turn::Stays),
+        rule!(Anywhere, "<?", Extent::ThroughLines(Escape::Never), "?>", &[], Key, Turn::Stays),
+        rule!(Anywhere, "<!", Extent::ThroughLines(Escape::Never), ">", &[], Key, Turn::Stays),
+        rule!(Anywhere, "<script", Extent::Itself, "", &[], Key, Turn::Enters(2)),
+        rule!(Anywhere, "<SCRIPT", Extent::Itself, "", &[], Key, Turn::Enters(2)),
+        rule!(Anywhere, "<style", Extent::Itself, "", &[], Key, Turn::Enters(3)),
+        rule!(Anywhere, "<STYLE", Extent::Itself, "", &[], Key, Turn::Enters(3)),
+        rule!(Anywhere, "</", Extent::UpTo, " \t>", &[], Key, Turn::Enters(1)),
+        rule!(Anywhere, "<", Extent::Word, "", &[], Key, Turn::Enters(1)),
+    ],
+    &[
+        rule!(Anywhere, "&", Extent::Word, "", &[";"], Name, Turn::Stays),
+        rule!(Anywhere, "&#", Extent::Word, "", &[], Name, Turn::Stays),
+    ],
 ];
 
-#[rattlefmt::skip]
-static HTML_0_LETTER: [RuleRow; 0] = [
-];
-
-#[rattlefmt::skip]
-static HTML_0_SIGN: [RuleRow; 12] = [
-    rule!(Anywhere, "<!--", Extent::ThroughLines(Escape::Never), "-->", &[], Comment, Turn::Stays),
-    rule!(Anywhere, "<![CDATA[", Extent::ThroughLines(Escape::Never), "]]>", &[], Key, Turn::Stays),
-    rule!(Anywhere, "<?", Extent::ThroughLines(Escape::Never), "?>", &[], Key, Turn::Stays),
-    rule!(Anywhere, "<!", Extent::ThroughLines(Escape::Never), ">", &[], Key, Turn::Stays),
-    rule!(Anywhere, "<script", Extent::Itself, "", &[], Key, Turn::Enters(2)),
-    rule!(Anywhere, "<SCRIPT", Extent::Itself, "", &[], Key, Turn::Enters(2)),
-    rule!(Anywhere, "<style", Extent::Itself, "", &[], Key, Turn::Enters(3)),
-    rule!(Anywhere, "<STYLE", Extent::Itself, "", &[], Key, Turn::Enters(3)),
-    rule!(Anywhere, "</", Extent::UpTo, " \t>", &[], Key, Turn::Enters(1)),
-    rule!(Anywhere, "<", Extent::Word, "", &[], Key, Turn::Enters(1)),
-    rule!(Anywhere, "&", Extent::Word, "", &[";"], Name, Turn::Stays),
-    rule!(Anywhere, "&#", Extent::Word, "", &[], Name, Turn::Stays),
-];
-
+#[tactic(auto, unfolding(crate::specs::Heads::by_head))]
 fn html_1() -> ModeRow
-    ensures { mode_of result ≡ html_1 }
+    ensures words { mode_of result ≡ html_1 }
+    ensures rules { heads_in result ≡ by_head html_rules_1 }
 {
     ModeRow {
+        places: "0000000000000000000000000000000000400005000000010000000000000320000000000000000000000000000000000000000000000000000000000000000000000000000000000000000000000000000000000000000000000000000000000000000000000000000000000000000000000000000000000000000000000000",
+        rules: &HTML_1_RULES,
         words: Words::NoWords,
         starts: "",
         more: "#*-.:@",
@@ -1886,39 +1797,41 @@ fn html_1() -> ModeRow
     }
 }
 
-fn html_rules_1(kind: Kind) -> &'static [RuleRow]
-    ensures { map rule_of result.now ≡ filter (may_begin kind) html_rules_1 }
-{
-    match kind {
-        Kind::Blank => &HTML_1_BLANK,
-        Kind::Letter => &HTML_1_LETTER,
-        Kind::Sign => &HTML_1_SIGN,
-    }
-}
-
 #[rattlefmt::skip]
-static HTML_1_BLANK: [RuleRow; 0] = [
+static HTML_1_RULES: [&[RuleRow]; 6] = [
+    &[
+        rule!(Anywhere, "", Extent::Word, "", &[], Key, Turn::Stays),
+    ],
+    &[
+        rule!(Anywhere, "/>", Extent::Itself, "", &[], Key, Turn::Leaves),
+        rule!(Anywhere, "", Extent::Word, "", &[], Key, Turn::Stays),
+    ],
+    &[
+        rule!(Anywhere, ">", Extent::Itself, "", &[], Key, Turn::Leaves),
+        rule!(Anywhere, "", Extent::Word, "", &[], Key, Turn::Stays),
+    ],
+    &[
+        rule!(Anywhere, "=", Extent::Itself, "", &[], Key, Turn::Stays),
+        rule!(Anywhere, "", Extent::Word, "", &[], Key, Turn::Stays),
+    ],
+    &[
+        rule!(Anywhere, "\"", Extent::ThroughLines(Escape::Never), "\"", &[], Text, Turn::Stays),
+        rule!(Anywhere, "", Extent::Word, "", &[], Key, Turn::Stays),
+    ],
+    &[
+        rule!(Anywhere, "'", Extent::ThroughLines(Escape::Never), "'", &[], Text, Turn::Stays),
+        rule!(Anywhere, "", Extent::Word, "", &[], Key, Turn::Stays),
+    ],
 ];
 
-#[rattlefmt::skip]
-static HTML_1_LETTER: [RuleRow; 1] = [
-    rule!(Anywhere, "", Extent::Word, "", &[], Key, Turn::Stays),
-];
-
-#[rattlefmt::skip]
-static HTML_1_SIGN: [RuleRow; 6] = [
-    rule!(Anywhere, "/>", Extent::Itself, "", &[], Key, Turn::Leaves),
-    rule!(Anywhere, ">", Extent::Itself, "", &[], Key, Turn::Leaves),
-    rule!(Anywhere, "=", Extent::Itself, "", &[], Key, Turn::Stays),
-    rule!(Anywhere, "\"", Extent::ThroughLines(Escape::Never), "\"", &[], Text, Turn::Stays),
-    rule!(Anywhere, "'", Extent::ThroughLines(Escape::Never), "'", &[], Text, Turn::Stays),
-    rule!(Anywhere, "", Extent::Word, "", &[], Key, Turn::Stays),
-];
-
+#[tactic(auto, unfolding(crate::specs::Heads::by_head))]
 fn html_2() -> ModeRow
-    ensures { mode_of result ≡ html_2 }
+    ensures words { mode_of result ≡ html_2 }
+    ensures rules { heads_in result ≡ by_head html_rules_2 }
 {
     ModeRow {
+        places: "0000000000000000000000000000000000400005000000010000000000000320000000000000000000000000000000000000000000000000000000000000000000000000000000000000000000000000000000000000000000000000000000000000000000000000000000000000000000000000000000000000000000000000",
+        rules: &HTML_2_RULES,
         words: Words::NoWords,
         starts: "",
         more: "-:",
@@ -1930,39 +1843,41 @@ fn html_2() -> ModeRow
     }
 }
 
-fn html_rules_2(kind: Kind) -> &'static [RuleRow]
-    ensures { map rule_of result.now ≡ filter (may_begin kind) html_rules_2 }
-{
-    match kind {
-        Kind::Blank => &HTML_2_BLANK,
-        Kind::Letter => &HTML_2_LETTER,
-        Kind::Sign => &HTML_2_SIGN,
-    }
-}
-
 #[rattlefmt::skip]
-static HTML_2_BLANK: [RuleRow; 0] = [
+static HTML_2_RULES: [&[RuleRow]; 6] = [
+    &[
+        rule!(Anywhere, "", Extent::Word, "", &[], Key, Turn::Stays),
+    ],
+    &[
+        rule!(Anywhere, "/>", Extent::Itself, "", &[], Key, Turn::Leaves),
+        rule!(Anywhere, "", Extent::Word, "", &[], Key, Turn::Stays),
+    ],
+    &[
+        rule!(Anywhere, ">", Extent::Itself, "", &[], Key, Turn::Becomes(4)),
+        rule!(Anywhere, "", Extent::Word, "", &[], Key, Turn::Stays),
+    ],
+    &[
+        rule!(Anywhere, "=", Extent::Itself, "", &[], Key, Turn::Stays),
+        rule!(Anywhere, "", Extent::Word, "", &[], Key, Turn::Stays),
+    ],
+    &[
+        rule!(Anywhere, "\"", Extent::Through(Escape::Never), "\"", &[], Text, Turn::Stays),
+        rule!(Anywhere, "", Extent::Word, "", &[], Key, Turn::Stays),
+    ],
+    &[
+        rule!(Anywhere, "'", Extent::Through(Escape::Never), "'", &[], Text, Turn::Stays),
+        rule!(Anywhere, "", Extent::Word, "", &[], Key, Turn::Stays),
+    ],
 ];
 
-#[rattlefmt::skip]
-static HTML_2_LETTER: [RuleRow; 1] = [
-    rule!(Anywhere, "", Extent::Word, "", &[], Key, Turn::Stays),
-];
-
-#[rattlefmt::skip]
-static HTML_2_SIGN: [RuleRow; 6] = [
-    rule!(Anywhere, "/>", Extent::Itself, "", &[], Key, Turn::Leaves),
-    rule!(Anywhere, ">", Extent::Itself, "", &[], Key, Turn::Becomes(4)),
-    rule!(Anywhere, "=", Extent::Itself, "", &[], Key, Turn::Stays),
-    rule!(Anywhere, "\"", Extent::Through(Escape::Never), "\"", &[], Text, Turn::Stays),
-    rule!(Anywhere, "'", Extent::Through(Escape::Never), "'", &[], Text, Turn::Stays),
-    rule!(Anywhere, "", Extent::Word, "", &[], Key, Turn::Stays),
-];
-
+#[tactic(auto, unfolding(crate::specs::Heads::by_head))]
 fn html_3() -> ModeRow
-    ensures { mode_of result ≡ html_3 }
+    ensures words { mode_of result ≡ html_3 }
+    ensures rules { heads_in result ≡ by_head html_rules_3 }
 {
     ModeRow {
+        places: "0000000000000000000000000000000000400005000000010000000000000320000000000000000000000000000000000000000000000000000000000000000000000000000000000000000000000000000000000000000000000000000000000000000000000000000000000000000000000000000000000000000000000000",
+        rules: &HTML_3_RULES,
         words: Words::NoWords,
         starts: "",
         more: "-:",
@@ -1974,39 +1889,41 @@ fn html_3() -> ModeRow
     }
 }
 
-fn html_rules_3(kind: Kind) -> &'static [RuleRow]
-    ensures { map rule_of result.now ≡ filter (may_begin kind) html_rules_3 }
-{
-    match kind {
-        Kind::Blank => &HTML_3_BLANK,
-        Kind::Letter => &HTML_3_LETTER,
-        Kind::Sign => &HTML_3_SIGN,
-    }
-}
-
 #[rattlefmt::skip]
-static HTML_3_BLANK: [RuleRow; 0] = [
+static HTML_3_RULES: [&[RuleRow]; 6] = [
+    &[
+        rule!(Anywhere, "", Extent::Word, "", &[], Key, Turn::Stays),
+    ],
+    &[
+        rule!(Anywhere, "/>", Extent::Itself, "", &[], Key, Turn::Leaves),
+        rule!(Anywhere, "", Extent::Word, "", &[], Key, Turn::Stays),
+    ],
+    &[
+        rule!(Anywhere, ">", Extent::Itself, "", &[], Key, Turn::Becomes(5)),
+        rule!(Anywhere, "", Extent::Word, "", &[], Key, Turn::Stays),
+    ],
+    &[
+        rule!(Anywhere, "=", Extent::Itself, "", &[], Key, Turn::Stays),
+        rule!(Anywhere, "", Extent::Word, "", &[], Key, Turn::Stays),
+    ],
+    &[
+        rule!(Anywhere, "\"", Extent::Through(Escape::Never), "\"", &[], Text, Turn::Stays),
+        rule!(Anywhere, "", Extent::Word, "", &[], Key, Turn::Stays),
+    ],
+    &[
+        rule!(Anywhere, "'", Extent::Through(Escape::Never), "'", &[], Text, Turn::Stays),
+        rule!(Anywhere, "", Extent::Word, "", &[], Key, Turn::Stays),
+    ],
 ];
 
-#[rattlefmt::skip]
-static HTML_3_LETTER: [RuleRow; 1] = [
-    rule!(Anywhere, "", Extent::Word, "", &[], Key, Turn::Stays),
-];
-
-#[rattlefmt::skip]
-static HTML_3_SIGN: [RuleRow; 6] = [
-    rule!(Anywhere, "/>", Extent::Itself, "", &[], Key, Turn::Leaves),
-    rule!(Anywhere, ">", Extent::Itself, "", &[], Key, Turn::Becomes(5)),
-    rule!(Anywhere, "=", Extent::Itself, "", &[], Key, Turn::Stays),
-    rule!(Anywhere, "\"", Extent::Through(Escape::Never), "\"", &[], Text, Turn::Stays),
-    rule!(Anywhere, "'", Extent::Through(Escape::Never), "'", &[], Text, Turn::Stays),
-    rule!(Anywhere, "", Extent::Word, "", &[], Key, Turn::Stays),
-];
-
+#[tactic(auto, unfolding(crate::specs::Heads::by_head))]
 fn html_4() -> ModeRow
-    ensures { mode_of result ≡ html_4 }
+    ensures words { mode_of result ≡ html_4 }
+    ensures rules { heads_in result ≡ by_head html_rules_4 }
 {
     ModeRow {
+        places: "0000000000000000000000000000000000200003000000050000000000001000000000000000000000000000000000004000000000000000000000000000000000000000000000000000000000000000000000000000000000000000000000000000000000000000000000000000000000000000000000000000000000000000",
+        rules: &HTML_4_RULES,
         words: Words::JavascriptWords,
         starts: "$",
         more: "$",
@@ -2018,40 +1935,37 @@ fn html_4() -> ModeRow
     }
 }
 
-fn html_rules_4(kind: Kind) -> &'static [RuleRow]
-    ensures { map rule_of result.now ≡ filter (may_begin kind) html_rules_4 }
-{
-    match kind {
-        Kind::Blank => &HTML_4_BLANK,
-        Kind::Letter => &HTML_4_LETTER,
-        Kind::Sign => &HTML_4_SIGN,
-    }
-}
-
 #[rattlefmt::skip]
-static HTML_4_BLANK: [RuleRow; 0] = [
+static HTML_4_RULES: [&[RuleRow]; 6] = [
+    &[],
+    &[
+        rule!(Anywhere, "</script", Extent::Itself, "", &[], Key, Turn::Becomes(1)),
+        rule!(Anywhere, "</SCRIPT", Extent::Itself, "", &[], Key, Turn::Becomes(1)),
+    ],
+    &[
+        rule!(Anywhere, "\"", Extent::Through(Escape::Backslash), "\"", &[], Text, Turn::Stays),
+    ],
+    &[
+        rule!(Anywhere, "'", Extent::Through(Escape::Backslash), "'", &[], Text, Turn::Stays),
+    ],
+    &[
+        rule!(Anywhere, "`", Extent::ThroughLines(Escape::Backslash), "`", &[], Text, Turn::Stays),
+    ],
+    &[
+        rule!(Anywhere, "//", Extent::Line, "", &[], Comment, Turn::Stays),
+        rule!(Anywhere, "/*", Extent::ThroughLines(Escape::Never), "*/", &[], Comment, Turn::Stays),
+        rule!(Value, "/", Extent::Pattern, "", &[], Text, Turn::Stays),
+    ],
 ];
 
-#[rattlefmt::skip]
-static HTML_4_LETTER: [RuleRow; 0] = [
-];
-
-#[rattlefmt::skip]
-static HTML_4_SIGN: [RuleRow; 8] = [
-    rule!(Anywhere, "</script", Extent::Itself, "", &[], Key, Turn::Becomes(1)),
-    rule!(Anywhere, "</SCRIPT", Extent::Itself, "", &[], Key, Turn::Becomes(1)),
-    rule!(Anywhere, "//", Extent::Line, "", &[], Comment, Turn::Stays),
-    rule!(Anywhere, "/*", Extent::ThroughLines(Escape::Never), "*/", &[], Comment, Turn::Stays),
-    rule!(Anywhere, "\"", Extent::Through(Escape::Backslash), "\"", &[], Text, Turn::Stays),
-    rule!(Anywhere, "'", Extent::Through(Escape::Backslash), "'", &[], Text, Turn::Stays),
-    rule!(Anywhere, "`", Extent::ThroughLines(Escape::Backslash), "`", &[], Text, Turn::Stays),
-    rule!(Value, "/", Extent::Pattern, "", &[], Text, Turn::Stays),
-];
-
+#[tactic(auto, unfolding(crate::specs::Heads::by_head))]
 fn html_5() -> ModeRow
-    ensures { mode_of result ≡ html_5 }
+    ensures words { mode_of result ≡ html_5 }
+    ensures rules { heads_in result ≡ by_head html_rules_5 }
 {
     ModeRow {
+        places: "0000000000000000000000000000000000360004000005720000000000001000000000000000000000000000000000000000000000000000000000000000000000000000000000000000000000000000000000000000000000000000000000000000000000000000000000000000000000000000000000000000000000000000",
+        rules: &HTML_5_RULES,
         words: Words::NoWords,
         starts: "-",
         more: "-",
@@ -2063,50 +1977,45 @@ fn html_5() -> ModeRow
     }
 }
 
-fn html_rules_5(kind: Kind) -> &'static [RuleRow]
-    ensures { map rule_of result.now ≡ filter (may_begin kind) html_rules_5 }
-{
-    match kind {
-        Kind::Blank => &HTML_5_BLANK,
-        Kind::Letter => &HTML_5_LETTER,
-        Kind::Sign => &HTML_5_SIGN,
-    }
-}
-
 #[rattlefmt::skip]
-static HTML_5_BLANK: [RuleRow; 0] = [
+static HTML_5_RULES: [&[RuleRow]; 8] = [
+    &[
+        rule!(Anywhere, "", Extent::Word, "", &[":"], Keyword, Turn::Stays),
+    ],
+    &[
+        rule!(Anywhere, "</style", Extent::Itself, "", &[], Key, Turn::Becomes(1)),
+        rule!(Anywhere, "</STYLE", Extent::Itself, "", &[], Key, Turn::Becomes(1)),
+        rule!(Anywhere, "", Extent::Word, "", &[":"], Keyword, Turn::Stays),
+    ],
+    &[
+        rule!(Anywhere, "/*", Extent::ThroughLines(Escape::Never), "*/", &[], Comment, Turn::Stays),
+        rule!(Anywhere, "", Extent::Word, "", &[":"], Keyword, Turn::Stays),
+    ],
+    &[
+        rule!(Anywhere, "\"", Extent::Through(Escape::Backslash), "\"", &[], Text, Turn::Stays),
+        rule!(Anywhere, "", Extent::Word, "", &[":"], Keyword, Turn::Stays),
+    ],
+    &[
+        rule!(Anywhere, "'", Extent::Through(Escape::Backslash), "'", &[], Text, Turn::Stays),
+        rule!(Anywhere, "", Extent::Word, "", &[":"], Keyword, Turn::Stays),
+    ],
+    &[
+        rule!(Anywhere, "-", Extent::Itself, "", &[".", "0", "1", "2", "3", "4", "5", "6", "7", "8", "9"], Plain, Turn::Stays),
+        rule!(Anywhere, "", Extent::Word, "", &[":"], Keyword, Turn::Stays),
+    ],
+    &[
+        rule!(Anywhere, "", Extent::Word, "", &[":"], Keyword, Turn::Stays),
+        rule!(Anywhere, "#", Extent::Word, "", &[], Number, Turn::Stays),
+    ],
+    &[
+        rule!(Anywhere, "", Extent::Word, "", &[":"], Keyword, Turn::Stays),
+        rule!(Anywhere, ".", Extent::Word, "", &[], Key, Turn::Stays),
+    ],
 ];
-
-#[rattlefmt::skip]
-static HTML_5_LETTER: [RuleRow; 1] = [
-    rule!(Anywhere, "", Extent::Word, "", &[":"], Keyword, Turn::Stays),
-];
-
-#[rattlefmt::skip]
-static HTML_5_SIGN: [RuleRow; 9] = [
-    rule!(Anywhere, "</style", Extent::Itself, "", &[], Key, Turn::Becomes(1)),
-    rule!(Anywhere, "</STYLE", Extent::Itself, "", &[], Key, Turn::Becomes(1)),
-    rule!(Anywhere, "/*", Extent::ThroughLines(Escape::Never), "*/", &[], Comment, Turn::Stays),
-    rule!(Anywhere, "\"", Extent::Through(Escape::Backslash), "\"", &[], Text, Turn::Stays),
-    rule!(Anywhere, "'", Extent::Through(Escape::Backslash), "'", &[], Text, Turn::Stays),
-    rule!(Anywhere, "-", Extent::Itself, "", &[".", "0", "1", "2", "3", "4", "5", "6", "7", "8", "9"], Plain, Turn::Stays),
-    rule!(Anywhere, "", Extent::Word, "", &[":"], Keyword, Turn::Stays),
-    rule!(Anywhere, "#", Extent::Word, "", &[], Number, Turn::Stays),
-    rule!(Anywhere, ".", Extent::Word, "", &[], Key, Turn::Stays),
-];
-
-fn css_rules(n: usize, kind: Kind) -> &'static [RuleRow]
-    ensures { map rule_of result.now ≡ filter (may_begin kind) (css_rules n) }
-{
-    match n {
-        1 => css_rules_1(kind),
-        2 => css_rules_2(kind),
-        _ => css_rules_0(kind),
-    }
-}
 
 fn css_mode(n: usize) -> ModeRow
-    ensures { mode_of result ≡ css_mode n }
+    ensures words { mode_of result ≡ css_mode n }
+    ensures rules { heads_in result ≡ by_head (css_rules n) }
 {
     match n {
         1 => css_1(),
@@ -2115,10 +2024,14 @@ fn css_mode(n: usize) -> ModeRow
     }
 }
 
+#[tactic(auto, unfolding(crate::specs::Heads::by_head))]
 fn css_0() -> ModeRow
-    ensures { mode_of result ≡ css_0 }
+    ensures words { mode_of result ≡ css_0 }
+    ensures rules { heads_in result ≡ by_head css_rules_0 }
 {
     ModeRow {
+        places: "0000000000000000000000000000000000100002000000030000000000000000400000000000000000000000000000000000000000000000000000000005060000000000000000000000000000000000000000000000000000000000000000000000000000000000000000000000000000000000000000000000000000000000",
+        rules: &CSS_0_RULES,
         words: Words::NoWords,
         starts: "-",
         more: "-",
@@ -2130,45 +2043,50 @@ fn css_0() -> ModeRow
     }
 }
 
-fn css_rules_0(kind: Kind) -> &'static [RuleRow]
-    ensures { map rule_of result.now ≡ filter (may_begin kind) css_rules_0 }
-{
-    match kind {
-        Kind::Blank => &CSS_0_BLANK,
-        Kind::Letter => &CSS_0_LETTER,
-        Kind::Sign => &CSS_0_SIGN,
-    }
-}
-
 #[rattlefmt::skip]
-static CSS_0_BLANK: [RuleRow; 0] = [
+static CSS_0_RULES: [&[RuleRow]; 7] = [
+    &[
+        rule!(Anywhere, "", Extent::Word, "", &[], Key, Turn::Stays),
+    ],
+    &[
+        rule!(Anywhere, "\"", Extent::Through(Escape::Backslash), "\"", &[], Text, Turn::Stays),
+        rule!(Anywhere, "", Extent::Word, "", &[], Key, Turn::Stays),
+    ],
+    &[
+        rule!(Anywhere, "'", Extent::Through(Escape::Backslash), "'", &[], Text, Turn::Stays),
+        rule!(Anywhere, "", Extent::Word, "", &[], Key, Turn::Stays),
+    ],
+    &[
+        rule!(Anywhere, "/*", Extent::ThroughLines(Escape::Never), "*/", &[], Comment, Turn::Stays),
+        rule!(Anywhere, "//", Extent::Line, "", &[], Comment, Turn::Stays),
+        rule!(Anywhere, "", Extent::Word, "", &[], Key, Turn::Stays),
+    ],
+    &[
+        rule!(Anywhere, "@media", Extent::Itself, "", &[], Keyword, Turn::Enters(2)),
+        rule!(Anywhere, "@supports", Extent::Itself, "", &[], Keyword, Turn::Enters(2)),
+        rule!(Anywhere, "@layer", Extent::Itself, "", &[], Keyword, Turn::Enters(2)),
+        rule!(Anywhere, "@container", Extent::Itself, "", &[], Keyword, Turn::Enters(2)),
+        rule!(Anywhere, "@", Extent::Word, "", &[], Keyword, Turn::Stays),
+        rule!(Anywhere, "", Extent::Word, "", &[], Key, Turn::Stays),
+    ],
+    &[
+        rule!(Anywhere, "{", Extent::Itself, "", &[], Plain, Turn::Enters(1)),
+        rule!(Anywhere, "", Extent::Word, "", &[], Key, Turn::Stays),
+    ],
+    &[
+        rule!(Anywhere, "}", Extent::Itself, "", &[], Plain, Turn::Leaves),
+        rule!(Anywhere, "", Extent::Word, "", &[], Key, Turn::Stays),
+    ],
 ];
 
-#[rattlefmt::skip]
-static CSS_0_LETTER: [RuleRow; 1] = [
-    rule!(Anywhere, "", Extent::Word, "", &[], Key, Turn::Stays),
-];
-
-#[rattlefmt::skip]
-static CSS_0_SIGN: [RuleRow; 12] = [
-    rule!(Anywhere, "/*", Extent::ThroughLines(Escape::Never), "*/", &[], Comment, Turn::Stays),
-    rule!(Anywhere, "\"", Extent::Through(Escape::Backslash), "\"", &[], Text, Turn::Stays),
-    rule!(Anywhere, "'", Extent::Through(Escape::Backslash), "'", &[], Text, Turn::Stays),
-    rule!(Anywhere, "//", Extent::Line, "", &[], Comment, Turn::Stays),
-    rule!(Anywhere, "@media", Extent::Itself, "", &[], Keyword, Turn::Enters(2)),
-    rule!(Anywhere, "@supports", Extent::Itself, "", &[], Keyword, Turn::Enters(2)),
-    rule!(Anywhere, "@layer", Extent::Itself, "", &[], Keyword, Turn::Enters(2)),
-    rule!(Anywhere, "@container", Extent::Itself, "", &[], Keyword, Turn::Enters(2)),
-    rule!(Anywhere, "@", Extent::Word, "", &[], Keyword, Turn::Stays),
-    rule!(Anywhere, "{", Extent::Itself, "", &[], Plain, Turn::Enters(1)),
-    rule!(Anywhere, "}", Extent::Itself, "", &[], Plain, Turn::Leaves),
-    rule!(Anywhere, "", Extent::Word, "", &[], Key, Turn::Stays),
-];
-
+#[tactic(auto, unfolding(crate::specs::Heads::by_head))]
 fn css_1() -> ModeRow
-    ensures { mode_of result ≡ css_1 }
+    ensures words { mode_of result ≡ css_1 }
+    ensures rules { heads_in result ≡ by_head css_rules_1 }
 {
     ModeRow {
+        places: "000000000000000000000000000000000918:;02000007030000000000000000600000000000000000000000000000000000000000000000000000000004050000000000000000000000000000000000000000000000000000000000000000000000000000000000000000000000000000000000000000000000000000000000",
+        rules: &CSS_1_RULES,
         words: Words::NoWords,
         starts: "-",
         more: "-",
@@ -2180,49 +2098,79 @@ fn css_1() -> ModeRow
     }
 }
 
-fn css_rules_1(kind: Kind) -> &'static [RuleRow]
-    ensures { map rule_of result.now ≡ filter (may_begin kind) css_rules_1 }
-{
-    match kind {
-        Kind::Blank => &CSS_1_BLANK,
-        Kind::Letter => &CSS_1_LETTER,
-        Kind::Sign => &CSS_1_SIGN,
-    }
-}
-
 #[rattlefmt::skip]
-static CSS_1_BLANK: [RuleRow; 0] = [
+static CSS_1_RULES: [&[RuleRow]; 12] = [
+    &[
+        rule!(Anywhere, "", Extent::Word, "", &[":"], Keyword, Turn::Stays),
+        rule!(Anywhere, "", Extent::Word, "", &[], Name, Turn::Stays),
+    ],
+    &[
+        rule!(Anywhere, "\"", Extent::Through(Escape::Backslash), "\"", &[], Text, Turn::Stays),
+        rule!(Anywhere, "", Extent::Word, "", &[":"], Keyword, Turn::Stays),
+        rule!(Anywhere, "", Extent::Word, "", &[], Name, Turn::Stays),
+    ],
+    &[
+        rule!(Anywhere, "'", Extent::Through(Escape::Backslash), "'", &[], Text, Turn::Stays),
+        rule!(Anywhere, "", Extent::Word, "", &[":"], Keyword, Turn::Stays),
+        rule!(Anywhere, "", Extent::Word, "", &[], Name, Turn::Stays),
+    ],
+    &[
+        rule!(Anywhere, "/*", Extent::ThroughLines(Escape::Never), "*/", &[], Comment, Turn::Stays),
+        rule!(Anywhere, "//", Extent::Line, "", &[], Comment, Turn::Stays),
+        rule!(Anywhere, "", Extent::Word, "", &[":"], Keyword, Turn::Stays),
+        rule!(Anywhere, "", Extent::Word, "", &[], Name, Turn::Stays),
+    ],
+    &[
+        rule!(Anywhere, "{", Extent::Itself, "", &[], Plain, Turn::Enters(1)),
+        rule!(Anywhere, "", Extent::Word, "", &[":"], Keyword, Turn::Stays),
+        rule!(Anywhere, "", Extent::Word, "", &[], Name, Turn::Stays),
+    ],
+    &[
+        rule!(Anywhere, "}", Extent::Itself, "", &[], Plain, Turn::Leaves),
+        rule!(Anywhere, "", Extent::Word, "", &[":"], Keyword, Turn::Stays),
+        rule!(Anywhere, "", Extent::Word, "", &[], Name, Turn::Stays),
+    ],
+    &[
+        rule!(Anywhere, "@", Extent::Word, "", &[], Keyword, Turn::Stays),
+        rule!(Anywhere, "", Extent::Word, "", &[":"], Keyword, Turn::Stays),
+        rule!(Anywhere, "", Extent::Word, "", &[], Name, Turn::Stays),
+    ],
+    &[
+        rule!(Anywhere, "-", Extent::Itself, "", &[".", "0", "1", "2", "3", "4", "5", "6", "7", "8", "9"], Plain, Turn::Stays),
+        rule!(Anywhere, "--", Extent::Word, "", &[], Key, Turn::Stays),
+        rule!(Anywhere, "", Extent::Word, "", &[":"], Keyword, Turn::Stays),
+        rule!(Anywhere, "", Extent::Word, "", &[], Name, Turn::Stays),
+    ],
+    &[
+        rule!(Anywhere, "", Extent::Word, "", &[":"], Keyword, Turn::Stays),
+        rule!(Anywhere, "#", Extent::Word, "", &[], Number, Turn::Stays),
+        rule!(Anywhere, "", Extent::Word, "", &[], Name, Turn::Stays),
+    ],
+    &[
+        rule!(Anywhere, "", Extent::Word, "", &[":"], Keyword, Turn::Stays),
+        rule!(Anywhere, "!", Extent::Word, "", &[], Key, Turn::Stays),
+        rule!(Anywhere, "", Extent::Word, "", &[], Name, Turn::Stays),
+    ],
+    &[
+        rule!(Anywhere, "", Extent::Word, "", &[":"], Keyword, Turn::Stays),
+        rule!(Anywhere, "$", Extent::Word, "", &[], Key, Turn::Stays),
+        rule!(Anywhere, "", Extent::Word, "", &[], Name, Turn::Stays),
+    ],
+    &[
+        rule!(Anywhere, "", Extent::Word, "", &[":"], Keyword, Turn::Stays),
+        rule!(Anywhere, "%", Extent::Itself, "", &[], Number, Turn::Stays),
+        rule!(Anywhere, "", Extent::Word, "", &[], Name, Turn::Stays),
+    ],
 ];
 
-#[rattlefmt::skip]
-static CSS_1_LETTER: [RuleRow; 2] = [
-    rule!(Anywhere, "", Extent::Word, "", &[":"], Keyword, Turn::Stays),
-    rule!(Anywhere, "", Extent::Word, "", &[], Name, Turn::Stays),
-];
-
-#[rattlefmt::skip]
-static CSS_1_SIGN: [RuleRow; 15] = [
-    rule!(Anywhere, "/*", Extent::ThroughLines(Escape::Never), "*/", &[], Comment, Turn::Stays),
-    rule!(Anywhere, "\"", Extent::Through(Escape::Backslash), "\"", &[], Text, Turn::Stays),
-    rule!(Anywhere, "'", Extent::Through(Escape::Backslash), "'", &[], Text, Turn::Stays),
-    rule!(Anywhere, "//", Extent::Line, "", &[], Comment, Turn::Stays),
-    rule!(Anywhere, "{", Extent::Itself, "", &[], Plain, Turn::Enters(1)),
-    rule!(Anywhere, "}", Extent::Itself, "", &[], Plain, Turn::Leaves),
-    rule!(Anywhere, "@", Extent::Word, "", &[], Keyword, Turn::Stays),
-    rule!(Anywhere, "-", Extent::Itself, "", &[".", "0", "1", "2", "3", "4", "5", "6", "7", "8", "9"], Plain, Turn::Stays),
-    rule!(Anywhere, "--", Extent::Word, "", &[], Key, Turn::Stays),
-    rule!(Anywhere, "", Extent::Word, "", &[":"], Keyword, Turn::Stays),
-    rule!(Anywhere, "#", Extent::Word, "", &[], Number, Turn::Stays),
-    rule!(Anywhere, "!", Extent::Word, "", &[], Key, Turn::Stays),
-    rule!(Anywhere, "$", Extent::Word, "", &[], Key, Turn::Stays),
-    rule!(Anywhere, "%", Extent::Itself, "", &[], Number, Turn::Stays),
-    rule!(Anywhere, "", Extent::Word, "", &[], Name, Turn::Stays),
-];
-
+#[tactic(auto, unfolding(crate::specs::Heads::by_head))]
 fn css_2() -> ModeRow
-    ensures { mode_of result ≡ css_2 }
+    ensures words { mode_of result ≡ css_2 }
+    ensures rules { heads_in result ≡ by_head css_rules_2 }
 {
     ModeRow {
+        places: "0000000000000000000000000000000000200003000000010000000000050000000000000000000000000000000000000000000000000000000000000004000000000000000000000000000000000000000000000000000000000000000000000000000000000000000000000000000000000000000000000000000000000000",
+        rules: &CSS_2_RULES,
         words: Words::NoWords,
         starts: "-",
         more: "-",
@@ -2234,46 +2182,36 @@ fn css_2() -> ModeRow
     }
 }
 
-fn css_rules_2(kind: Kind) -> &'static [RuleRow]
-    ensures { map rule_of result.now ≡ filter (may_begin kind) css_rules_2 }
-{
-    match kind {
-        Kind::Blank => &CSS_2_BLANK,
-        Kind::Letter => &CSS_2_LETTER,
-        Kind::Sign => &CSS_2_SIGN,
-    }
-}
-
 #[rattlefmt::skip]
-static CSS_2_BLANK: [RuleRow; 0] = [
+static CSS_2_RULES: [&[RuleRow]; 6] = [
+    &[
+        rule!(Anywhere, "", Extent::Word, "", &[], Name, Turn::Stays),
+    ],
+    &[
+        rule!(Anywhere, "/*", Extent::ThroughLines(Escape::Never), "*/", &[], Comment, Turn::Stays),
+        rule!(Anywhere, "", Extent::Word, "", &[], Name, Turn::Stays),
+    ],
+    &[
+        rule!(Anywhere, "\"", Extent::Through(Escape::Backslash), "\"", &[], Text, Turn::Stays),
+        rule!(Anywhere, "", Extent::Word, "", &[], Name, Turn::Stays),
+    ],
+    &[
+        rule!(Anywhere, "'", Extent::Through(Escape::Backslash), "'", &[], Text, Turn::Stays),
+        rule!(Anywhere, "", Extent::Word, "", &[], Name, Turn::Stays),
+    ],
+    &[
+        rule!(Anywhere, "{", Extent::Itself, "", &[], Plain, Turn::Becomes(0)),
+        rule!(Anywhere, "", Extent::Word, "", &[], Name, Turn::Stays),
+    ],
+    &[
+        rule!(Anywhere, ";", Extent::Itself, "", &[], Plain, Turn::Leaves),
+        rule!(Anywhere, "", Extent::Word, "", &[], Name, Turn::Stays),
+    ],
 ];
-
-#[rattlefmt::skip]
-static CSS_2_LETTER: [RuleRow; 1] = [
-    rule!(Anywhere, "", Extent::Word, "", &[], Name, Turn::Stays),
-];
-
-#[rattlefmt::skip]
-static CSS_2_SIGN: [RuleRow; 6] = [
-    rule!(Anywhere, "/*", Extent::ThroughLines(Escape::Never), "*/", &[], Comment, Turn::Stays),
-    rule!(Anywhere, "\"", Extent::Through(Escape::Backslash), "\"", &[], Text, Turn::Stays),
-    rule!(Anywhere, "'", Extent::Through(Escape::Backslash), "'", &[], Text, Turn::Stays),
-    rule!(Anywhere, "{", Extent::Itself, "", &[], Plain, Turn::Becomes(0)),
-    rule!(Anywhere, ";", Extent::Itself, "", &[], Plain, Turn::Leaves),
-    rule!(Anywhere, "", Extent::Word, "", &[], Name, Turn::Stays),
-];
-
-fn c_rules(n: usize, kind: Kind) -> &'static [RuleRow]
-    ensures { map rule_of result.now ≡ filter (may_begin kind) (c_rules n) }
-{
-    match n {
-        1 => c_rules_1(kind),
-        _ => c_rules_0(kind),
-    }
-}
 
 fn c_mode(n: usize) -> ModeRow
-    ensures { mode_of result ≡ c_mode n }
+    ensures words { mode_of result ≡ c_mode n }
+    ensures rules { heads_in result ≡ by_head (c_rules n) }
 {
     match n {
         1 => c_1(),
@@ -2281,10 +2219,14 @@ fn c_mode(n: usize) -> ModeRow
     }
 }
 
+#[tactic(auto, unfolding(crate::specs::Heads::by_head))]
 fn c_0() -> ModeRow
-    ensures { mode_of result ≡ c_0 }
+    ensures words { mode_of result ≡ c_0 }
+    ensures rules { heads_in result ≡ by_head c_rules_0 }
 {
     ModeRow {
+        places: "0000000000000000000000000000000000320004000000010000000000000000000000000000500000000000000000000000000000000000000000000000000000000000000000000000000000000000000000000000000000000000000000000000000000000000000000000000000000000000000000000000000000000000",
+        rules: &C_0_RULES,
         words: Words::CWords,
         starts: "",
         more: "",
@@ -2296,38 +2238,35 @@ fn c_0() -> ModeRow
     }
 }
 
-fn c_rules_0(kind: Kind) -> &'static [RuleRow]
-    ensures { map rule_of result.now ≡ filter (may_begin kind) c_rules_0 }
-{
-    match kind {
-        Kind::Blank => &C_0_BLANK,
-        Kind::Letter => &C_0_LETTER,
-        Kind::Sign => &C_0_SIGN,
-    }
-}
-
 #[rattlefmt::skip]
-static C_0_BLANK: [RuleRow; 0] = [
+static C_0_RULES: [&[RuleRow]; 6] = [
+    &[],
+    &[
+        rule!(Anywhere, "//", Extent::Line, "", &[], Comment, Turn::Stays),
+        rule!(Anywhere, "/*", Extent::ThroughLines(Escape::Never), "*/", &[], Comment, Turn::Stays),
+    ],
+    &[
+        rule!(FirstWord, "#", Extent::Itself, "", &[], Key, Turn::Enters(1)),
+    ],
+    &[
+        rule!(Anywhere, "\"", Extent::Through(Escape::Backslash), "\"", &[], Text, Turn::Stays),
+    ],
+    &[
+        rule!(Anywhere, "'", Extent::Through(Escape::Backslash), "'", &[], Text, Turn::Stays),
+    ],
+    &[
+        rule!(Anywhere, "L\"", Extent::Through(Escape::Backslash), "\"", &[], Text, Turn::Stays),
+    ],
 ];
 
-#[rattlefmt::skip]
-static C_0_LETTER: [RuleRow; 1] = [
-    rule!(Anywhere, "L\"", Extent::Through(Escape::Backslash), "\"", &[], Text, Turn::Stays),
-];
-
-#[rattlefmt::skip]
-static C_0_SIGN: [RuleRow; 5] = [
-    rule!(Anywhere, "//", Extent::Line, "", &[], Comment, Turn::Stays),
-    rule!(Anywhere, "/*", Extent::ThroughLines(Escape::Never), "*/", &[], Comment, Turn::Stays),
-    rule!(FirstWord, "#", Extent::Itself, "", &[], Key, Turn::Enters(1)),
-    rule!(Anywhere, "\"", Extent::Through(Escape::Backslash), "\"", &[], Text, Turn::Stays),
-    rule!(Anywhere, "'", Extent::Through(Escape::Backslash), "'", &[], Text, Turn::Stays),
-];
-
+#[tactic(auto, unfolding(crate::specs::Heads::by_head))]
 fn c_1() -> ModeRow
-    ensures { mode_of result ≡ c_1 }
+    ensures words { mode_of result ≡ c_1 }
+    ensures rules { heads_in result ≡ by_head c_rules_1 }
 {
     ModeRow {
+        places: "0000000000200000000000000000000000000000000000030000000000000000000000000000000000000000000010000000000000000000000000000000000000000000000000000000000000000000000000000000000000000000000000000000000000000000000000000000000000000000000000000000000000000000",
+        rules: &C_1_RULES,
         words: Words::NoWords,
         starts: "",
         more: "",
@@ -2339,43 +2278,24 @@ fn c_1() -> ModeRow
     }
 }
 
-fn c_rules_1(kind: Kind) -> &'static [RuleRow]
-    ensures { map rule_of result.now ≡ filter (may_begin kind) c_rules_1 }
-{
-    match kind {
-        Kind::Blank => &C_1_BLANK,
-        Kind::Letter => &C_1_LETTER,
-        Kind::Sign => &C_1_SIGN,
-    }
-}
-
 #[rattlefmt::skip]
-static C_1_BLANK: [RuleRow; 1] = [
-    rule!(Anywhere, "\n", Extent::Itself, "", &[], Plain, Turn::Leaves),
+static C_1_RULES: [&[RuleRow]; 4] = [
+    &[],
+    &[
+        rule!(Anywhere, "\\\n", Extent::Itself, "", &[], Key, Turn::Stays),
+    ],
+    &[
+        rule!(Anywhere, "\n", Extent::Itself, "", &[], Plain, Turn::Leaves),
+    ],
+    &[
+        rule!(Anywhere, "/*", Extent::ThroughLines(Escape::Never), "*/", &[], Comment, Turn::Stays),
+        rule!(Anywhere, "//", Extent::Line, "", &[], Comment, Turn::Stays),
+    ],
 ];
-
-#[rattlefmt::skip]
-static C_1_LETTER: [RuleRow; 0] = [
-];
-
-#[rattlefmt::skip]
-static C_1_SIGN: [RuleRow; 3] = [
-    rule!(Anywhere, "\\\n", Extent::Itself, "", &[], Key, Turn::Stays),
-    rule!(Anywhere, "/*", Extent::ThroughLines(Escape::Never), "*/", &[], Comment, Turn::Stays),
-    rule!(Anywhere, "//", Extent::Line, "", &[], Comment, Turn::Stays),
-];
-
-fn cpp_rules(n: usize, kind: Kind) -> &'static [RuleRow]
-    ensures { map rule_of result.now ≡ filter (may_begin kind) (cpp_rules n) }
-{
-    match n {
-        1 => cpp_rules_1(kind),
-        _ => cpp_rules_0(kind),
-    }
-}
 
 fn cpp_mode(n: usize) -> ModeRow
-    ensures { mode_of result ≡ cpp_mode n }
+    ensures words { mode_of result ≡ cpp_mode n }
+    ensures rules { heads_in result ≡ by_head (cpp_rules n) }
 {
     match n {
         1 => cpp_1(),
@@ -2383,10 +2303,14 @@ fn cpp_mode(n: usize) -> ModeRow
     }
 }
 
+#[tactic(auto, unfolding(crate::specs::Heads::by_head))]
 fn cpp_0() -> ModeRow
-    ensures { mode_of result ≡ cpp_0 }
+    ensures words { mode_of result ≡ cpp_0 }
+    ensures rules { heads_in result ≡ by_head cpp_rules_0 }
 {
     ModeRow {
+        places: "0000000000000000000000000000000000430005000000010000000000000000000000000000600000200000000000000000000000000000000000000000000000000000000000000000000000000000000000000000000000000000000000000000000000000000000000000000000000000000000000000000000000000000",
+        rules: &CPP_0_RULES,
         words: Words::CppWords,
         starts: "",
         more: "",
@@ -2398,39 +2322,38 @@ fn cpp_0() -> ModeRow
     }
 }
 
-fn cpp_rules_0(kind: Kind) -> &'static [RuleRow]
-    ensures { map rule_of result.now ≡ filter (may_begin kind) cpp_rules_0 }
-{
-    match kind {
-        Kind::Blank => &CPP_0_BLANK,
-        Kind::Letter => &CPP_0_LETTER,
-        Kind::Sign => &CPP_0_SIGN,
-    }
-}
-
 #[rattlefmt::skip]
-static CPP_0_BLANK: [RuleRow; 0] = [
+static CPP_0_RULES: [&[RuleRow]; 7] = [
+    &[],
+    &[
+        rule!(Anywhere, "//", Extent::Line, "", &[], Comment, Turn::Stays),
+        rule!(Anywhere, "/*", Extent::ThroughLines(Escape::Never), "*/", &[], Comment, Turn::Stays),
+    ],
+    &[
+        rule!(Anywhere, "R\"(", Extent::ThroughLines(Escape::Never), ")\"", &[], Text, Turn::Stays),
+    ],
+    &[
+        rule!(FirstWord, "#", Extent::Itself, "", &[], Key, Turn::Enters(1)),
+    ],
+    &[
+        rule!(Anywhere, "\"", Extent::Through(Escape::Backslash), "\"", &[], Text, Turn::Stays),
+    ],
+    &[
+        rule!(Anywhere, "'", Extent::Through(Escape::Backslash), "'", &[], Text, Turn::Stays),
+    ],
+    &[
+        rule!(Anywhere, "L\"", Extent::Through(Escape::Backslash), "\"", &[], Text, Turn::Stays),
+    ],
 ];
 
-#[rattlefmt::skip]
-static CPP_0_LETTER: [RuleRow; 2] = [
-    rule!(Anywhere, "R\"(", Extent::ThroughLines(Escape::Never), ")\"", &[], Text, Turn::Stays),
-    rule!(Anywhere, "L\"", Extent::Through(Escape::Backslash), "\"", &[], Text, Turn::Stays),
-];
-
-#[rattlefmt::skip]
-static CPP_0_SIGN: [RuleRow; 5] = [
-    rule!(Anywhere, "//", Extent::Line, "", &[], Comment, Turn::Stays),
-    rule!(Anywhere, "/*", Extent::ThroughLines(Escape::Never), "*/", &[], Comment, Turn::Stays),
-    rule!(FirstWord, "#", Extent::Itself, "", &[], Key, Turn::Enters(1)),
-    rule!(Anywhere, "\"", Extent::Through(Escape::Backslash), "\"", &[], Text, Turn::Stays),
-    rule!(Anywhere, "'", Extent::Through(Escape::Backslash), "'", &[], Text, Turn::Stays),
-];
-
+#[tactic(auto, unfolding(crate::specs::Heads::by_head))]
 fn cpp_1() -> ModeRow
-    ensures { mode_of result ≡ cpp_1 }
+    ensures words { mode_of result ≡ cpp_1 }
+    ensures rules { heads_in result ≡ by_head cpp_rules_1 }
 {
     ModeRow {
+        places: "0000000000200000000000000000000000000000000000030000000000000000000000000000000000000000000010000000000000000000000000000000000000000000000000000000000000000000000000000000000000000000000000000000000000000000000000000000000000000000000000000000000000000000",
+        rules: &CPP_1_RULES,
         words: Words::NoWords,
         starts: "",
         more: "",
@@ -2442,48 +2365,36 @@ fn cpp_1() -> ModeRow
     }
 }
 
-fn cpp_rules_1(kind: Kind) -> &'static [RuleRow]
-    ensures { map rule_of result.now ≡ filter (may_begin kind) cpp_rules_1 }
-{
-    match kind {
-        Kind::Blank => &CPP_1_BLANK,
-        Kind::Letter => &CPP_1_LETTER,
-        Kind::Sign => &CPP_1_SIGN,
-    }
-}
-
 #[rattlefmt::skip]
-static CPP_1_BLANK: [RuleRow; 1] = [
-    rule!(Anywhere, "\n", Extent::Itself, "", &[], Plain, Turn::Leaves),
+static CPP_1_RULES: [&[RuleRow]; 4] = [
+    &[],
+    &[
+        rule!(Anywhere, "\\\n", Extent::Itself, "", &[], Key, Turn::Stays),
+    ],
+    &[
+        rule!(Anywhere, "\n", Extent::Itself, "", &[], Plain, Turn::Leaves),
+    ],
+    &[
+        rule!(Anywhere, "/*", Extent::ThroughLines(Escape::Never), "*/", &[], Comment, Turn::Stays),
+        rule!(Anywhere, "//", Extent::Line, "", &[], Comment, Turn::Stays),
+    ],
 ];
-
-#[rattlefmt::skip]
-static CPP_1_LETTER: [RuleRow; 0] = [
-];
-
-#[rattlefmt::skip]
-static CPP_1_SIGN: [RuleRow; 3] = [
-    rule!(Anywhere, "\\\n", Extent::Itself, "", &[], Key, Turn::Stays),
-    rule!(Anywhere, "/*", Extent::ThroughLines(Escape::Never), "*/", &[], Comment, Turn::Stays),
-    rule!(Anywhere, "//", Extent::Line, "", &[], Comment, Turn::Stays),
-];
-
-fn java_rules(_n: usize, kind: Kind) -> &'static [RuleRow]
-    ensures { map rule_of result.now ≡ filter (may_begin kind) (java_rules _n) }
-{
-    java_rules_0(kind)
-}
 
 fn java_mode(_n: usize) -> ModeRow
-    ensures { mode_of result ≡ java_mode _n }
+    ensures words { mode_of result ≡ java_mode _n }
+    ensures rules { heads_in result ≡ by_head (java_rules _n) }
 {
     java_0()
 }
 
+#[tactic(auto, unfolding(crate::specs::Heads::by_head))]
 fn java_0() -> ModeRow
-    ensures { mode_of result ≡ java_0 }
+    ensures words { mode_of result ≡ java_0 }
+    ensures rules { heads_in result ≡ by_head java_rules_0 }
 {
     ModeRow {
+        places: "0000000000000000000000000000000000300004000000010000000000000000200000000000500000000000000000000000000000000000000000000000000000000000000000000000000000000000000000000000000000000000000000000000000000000000000000000000000000000000000000000000000000000000",
+        rules: &JAVA_0_RULES,
         words: Words::JavaWords,
         starts: "",
         more: "",
@@ -2495,47 +2406,32 @@ fn java_0() -> ModeRow
     }
 }
 
-fn java_rules_0(kind: Kind) -> &'static [RuleRow]
-    ensures { map rule_of result.now ≡ filter (may_begin kind) java_rules_0 }
-{
-    match kind {
-        Kind::Blank => &JAVA_0_BLANK,
-        Kind::Letter => &JAVA_0_LETTER,
-        Kind::Sign => &JAVA_0_SIGN,
-    }
-}
-
 #[rattlefmt::skip]
-static JAVA_0_BLANK: [RuleRow; 0] = [
+static JAVA_0_RULES: [&[RuleRow]; 6] = [
+    &[],
+    &[
+        rule!(Anywhere, "//", Extent::Line, "", &[], Comment, Turn::Stays),
+        rule!(Anywhere, "/*", Extent::ThroughLines(Escape::Never), "*/", &[], Comment, Turn::Stays),
+    ],
+    &[
+        rule!(Anywhere, "@interface", Extent::Itself, "", &[], Keyword, Turn::Stays),
+        rule!(Anywhere, "@", Extent::Word, "", &[], Key, Turn::Stays),
+    ],
+    &[
+        rule!(Anywhere, "\"\"\"", Extent::ThroughLines(Escape::Backslash), "\"\"\"", &[], Text, Turn::Stays),
+        rule!(Anywhere, "\"", Extent::Through(Escape::Backslash), "\"", &[], Text, Turn::Stays),
+    ],
+    &[
+        rule!(Anywhere, "'", Extent::Through(Escape::Backslash), "'", &[], Text, Turn::Stays),
+    ],
+    &[
+        rule!(Anywhere, "L\"", Extent::Through(Escape::Backslash), "\"", &[], Text, Turn::Stays),
+    ],
 ];
-
-#[rattlefmt::skip]
-static JAVA_0_LETTER: [RuleRow; 1] = [
-    rule!(Anywhere, "L\"", Extent::Through(Escape::Backslash), "\"", &[], Text, Turn::Stays),
-];
-
-#[rattlefmt::skip]
-static JAVA_0_SIGN: [RuleRow; 7] = [
-    rule!(Anywhere, "//", Extent::Line, "", &[], Comment, Turn::Stays),
-    rule!(Anywhere, "/*", Extent::ThroughLines(Escape::Never), "*/", &[], Comment, Turn::Stays),
-    rule!(Anywhere, "@interface", Extent::Itself, "", &[], Keyword, Turn::Stays),
-    rule!(Anywhere, "@", Extent::Word, "", &[], Key, Turn::Stays),
-    rule!(Anywhere, "\"\"\"", Extent::ThroughLines(Escape::Backslash), "\"\"\"", &[], Text, Turn::Stays),
-    rule!(Anywhere, "\"", Extent::Through(Escape::Backslash), "\"", &[], Text, Turn::Stays),
-    rule!(Anywhere, "'", Extent::Through(Escape::Backslash), "'", &[], Text, Turn::Stays),
-];
-
-fn csharp_rules(n: usize, kind: Kind) -> &'static [RuleRow]
-    ensures { map rule_of result.now ≡ filter (may_begin kind) (csharp_rules n) }
-{
-    match n {
-        1 => csharp_rules_1(kind),
-        _ => csharp_rules_0(kind),
-    }
-}
 
 fn csharp_mode(n: usize) -> ModeRow
-    ensures { mode_of result ≡ csharp_mode n }
+    ensures words { mode_of result ≡ csharp_mode n }
+    ensures rules { heads_in result ≡ by_head (csharp_rules n) }
 {
     match n {
         1 => csharp_1(),
@@ -2543,10 +2439,14 @@ fn csharp_mode(n: usize) -> ModeRow
     }
 }
 
+#[tactic(auto, unfolding(crate::specs::Heads::by_head))]
 fn csharp_0() -> ModeRow
-    ensures { mode_of result ≡ csharp_0 }
+    ensures words { mode_of result ≡ csharp_0 }
+    ensures rules { heads_in result ≡ by_head csharp_rules_0 }
 {
     ModeRow {
+        places: "0000000000000000000000000000000000654007000000010000000000000000300000000000800000000000000200000000000000000000000000000000000000000000000000000000000000000000000000000000000000000000000000000000000000000000000000000000000000000000000000000000000000000000",
+        rules: &CSHARP_0_RULES,
         words: Words::CsharpWords,
         starts: "",
         more: "",
@@ -2558,41 +2458,44 @@ fn csharp_0() -> ModeRow
     }
 }
 
-fn csharp_rules_0(kind: Kind) -> &'static [RuleRow]
-    ensures { map rule_of result.now ≡ filter (may_begin kind) csharp_rules_0 }
-{
-    match kind {
-        Kind::Blank => &CSHARP_0_BLANK,
-        Kind::Letter => &CSHARP_0_LETTER,
-        Kind::Sign => &CSHARP_0_SIGN,
-    }
-}
-
 #[rattlefmt::skip]
-static CSHARP_0_BLANK: [RuleRow; 0] = [
+static CSHARP_0_RULES: [&[RuleRow]; 9] = [
+    &[],
+    &[
+        rule!(Anywhere, "//", Extent::Line, "", &[], Comment, Turn::Stays),
+        rule!(Anywhere, "/*", Extent::ThroughLines(Escape::Never), "*/", &[], Comment, Turn::Stays),
+    ],
+    &[
+        rule!(FirstWord, "[", Extent::Through(Escape::Backslash), "]", &[], Key, Turn::Stays),
+    ],
+    &[
+        rule!(Anywhere, "@\"", Extent::ThroughLines(Escape::Doubled), "\"", &[], Text, Turn::Stays),
+    ],
+    &[
+        rule!(Anywhere, "$\"", Extent::Through(Escape::Backslash), "\"", &[], Text, Turn::Stays),
+    ],
+    &[
+        rule!(FirstWord, "#", Extent::Itself, "", &[], Key, Turn::Enters(1)),
+    ],
+    &[
+        rule!(Anywhere, "\"", Extent::Through(Escape::Backslash), "\"", &[], Text, Turn::Stays),
+    ],
+    &[
+        rule!(Anywhere, "'", Extent::Through(Escape::Backslash), "'", &[], Text, Turn::Stays),
+    ],
+    &[
+        rule!(Anywhere, "L\"", Extent::Through(Escape::Backslash), "\"", &[], Text, Turn::Stays),
+    ],
 ];
 
-#[rattlefmt::skip]
-static CSHARP_0_LETTER: [RuleRow; 1] = [
-    rule!(Anywhere, "L\"", Extent::Through(Escape::Backslash), "\"", &[], Text, Turn::Stays),
-];
-
-#[rattlefmt::skip]
-static CSHARP_0_SIGN: [RuleRow; 8] = [
-    rule!(Anywhere, "//", Extent::Line, "", &[], Comment, Turn::Stays),
-    rule!(Anywhere, "/*", Extent::ThroughLines(Escape::Never), "*/", &[], Comment, Turn::Stays),
-    rule!(FirstWord, "[", Extent::Through(Escape::Backslash), "]", &[], Key, Turn::Stays),
-    rule!(Anywhere, "@\"", Extent::ThroughLines(Escape::Doubled), "\"", &[], Text, Turn::Stays),
-    rule!(Anywhere, "$\"", Extent::Through(Escape::Backslash), "\"", &[], Text, Turn::Stays),
-    rule!(FirstWord, "#", Extent::Itself, "", &[], Key, Turn::Enters(1)),
-    rule!(Anywhere, "\"", Extent::Through(Escape::Backslash), "\"", &[], Text, Turn::Stays),
-    rule!(Anywhere, "'", Extent::Through(Escape::Backslash), "'", &[], Text, Turn::Stays),
-];
-
+#[tactic(auto, unfolding(crate::specs::Heads::by_head))]
 fn csharp_1() -> ModeRow
-    ensures { mode_of result ≡ csharp_1 }
+    ensures words { mode_of result ≡ csharp_1 }
+    ensures rules { heads_in result ≡ by_head csharp_rules_1 }
 {
     ModeRow {
+        places: "0000000000200000000000000000000000000000000000030000000000000000000000000000000000000000000010000000000000000000000000000000000000000000000000000000000000000000000000000000000000000000000000000000000000000000000000000000000000000000000000000000000000000000",
+        rules: &CSHARP_1_RULES,
         words: Words::NoWords,
         starts: "",
         more: "",
@@ -2604,48 +2507,36 @@ fn csharp_1() -> ModeRow
     }
 }
 
-fn csharp_rules_1(kind: Kind) -> &'static [RuleRow]
-    ensures { map rule_of result.now ≡ filter (may_begin kind) csharp_rules_1 }
-{
-    match kind {
-        Kind::Blank => &CSHARP_1_BLANK,
-        Kind::Letter => &CSHARP_1_LETTER,
-        Kind::Sign => &CSHARP_1_SIGN,
-    }
-}
-
 #[rattlefmt::skip]
-static CSHARP_1_BLANK: [RuleRow; 1] = [
-    rule!(Anywhere, "\n", Extent::Itself, "", &[], Plain, Turn::Leaves),
+static CSHARP_1_RULES: [&[RuleRow]; 4] = [
+    &[],
+    &[
+        rule!(Anywhere, "\\\n", Extent::Itself, "", &[], Key, Turn::Stays),
+    ],
+    &[
+        rule!(Anywhere, "\n", Extent::Itself, "", &[], Plain, Turn::Leaves),
+    ],
+    &[
+        rule!(Anywhere, "/*", Extent::ThroughLines(Escape::Never), "*/", &[], Comment, Turn::Stays),
+        rule!(Anywhere, "//", Extent::Line, "", &[], Comment, Turn::Stays),
+    ],
 ];
-
-#[rattlefmt::skip]
-static CSHARP_1_LETTER: [RuleRow; 0] = [
-];
-
-#[rattlefmt::skip]
-static CSHARP_1_SIGN: [RuleRow; 3] = [
-    rule!(Anywhere, "\\\n", Extent::Itself, "", &[], Key, Turn::Stays),
-    rule!(Anywhere, "/*", Extent::ThroughLines(Escape::Never), "*/", &[], Comment, Turn::Stays),
-    rule!(Anywhere, "//", Extent::Line, "", &[], Comment, Turn::Stays),
-];
-
-fn kotlin_rules(_n: usize, kind: Kind) -> &'static [RuleRow]
-    ensures { map rule_of result.now ≡ filter (may_begin kind) (kotlin_rules _n) }
-{
-    kotlin_rules_0(kind)
-}
 
 fn kotlin_mode(_n: usize) -> ModeRow
-    ensures { mode_of result ≡ kotlin_mode _n }
+    ensures words { mode_of result ≡ kotlin_mode _n }
+    ensures rules { heads_in result ≡ by_head (kotlin_rules _n) }
 {
     kotlin_0()
 }
 
+#[tactic(auto, unfolding(crate::specs::Heads::by_head))]
 fn kotlin_0() -> ModeRow
-    ensures { mode_of result ≡ kotlin_0 }
+    ensures words { mode_of result ≡ kotlin_0 }
+    ensures rules { heads_in result ≡ by_head kotlin_rules_0 }
 {
     ModeRow {
+        places: "0000000000000000000000000000000000300004000000010000000000000000200000000000500000000000000000000000000000000000000000000000000000000000000000000000000000000000000000000000000000000000000000000000000000000000000000000000000000000000000000000000000000000000",
+        rules: &KOTLIN_0_RULES,
         words: Words::KotlinWords,
         starts: "",
         more: "",
@@ -2657,51 +2548,43 @@ fn kotlin_0() -> ModeRow
     }
 }
 
-fn kotlin_rules_0(kind: Kind) -> &'static [RuleRow]
-    ensures { map rule_of result.now ≡ filter (may_begin kind) kotlin_rules_0 }
-{
-    match kind {
-        Kind::Blank => &KOTLIN_0_BLANK,
-        Kind::Letter => &KOTLIN_0_LETTER,
-        Kind::Sign => &KOTLIN_0_SIGN,
-    }
-}
-
 #[rattlefmt::skip]
-static KOTLIN_0_BLANK: [RuleRow; 0] = [
+static KOTLIN_0_RULES: [&[RuleRow]; 6] = [
+    &[],
+    &[
+        rule!(Anywhere, "//", Extent::Line, "", &[], Comment, Turn::Stays),
+        rule!(Anywhere, "/*", Extent::ThroughLines(Escape::Never), "*/", &[], Comment, Turn::Stays),
+    ],
+    &[
+        rule!(Anywhere, "@", Extent::Word, "", &[], Key, Turn::Stays),
+    ],
+    &[
+        rule!(Anywhere, "\"\"\"", Extent::ThroughLines(Escape::Never), "\"\"\"", &[], Text, Turn::Stays),
+        rule!(Anywhere, "\"", Extent::Through(Escape::Backslash), "\"", &[], Text, Turn::Stays),
+    ],
+    &[
+        rule!(Anywhere, "'", Extent::Through(Escape::Backslash), "'", &[], Text, Turn::Stays),
+    ],
+    &[
+        rule!(Anywhere, "L\"", Extent::Through(Escape::Backslash), "\"", &[], Text, Turn::Stays),
+    ],
 ];
-
-#[rattlefmt::skip]
-static KOTLIN_0_LETTER: [RuleRow; 1] = [
-    rule!(Anywhere, "L\"", Extent::Through(Escape::Backslash), "\"", &[], Text, Turn::Stays),
-];
-
-#[rattlefmt::skip]
-static KOTLIN_0_SIGN: [RuleRow; 6] = [
-    rule!(Anywhere, "//", Extent::Line, "", &[], Comment, Turn::Stays),
-    rule!(Anywhere, "/*", Extent::ThroughLines(Escape::Never), "*/", &[], Comment, Turn::Stays),
-    rule!(Anywhere, "@", Extent::Word, "", &[], Key, Turn::Stays),
-    rule!(Anywhere, "\"\"\"", Extent::ThroughLines(Escape::Never), "\"\"\"", &[], Text, Turn::Stays),
-    rule!(Anywhere, "\"", Extent::Through(Escape::Backslash), "\"", &[], Text, Turn::Stays),
-    rule!(Anywhere, "'", Extent::Through(Escape::Backslash), "'", &[], Text, Turn::Stays),
-];
-
-fn swift_rules(_n: usize, kind: Kind) -> &'static [RuleRow]
-    ensures { map rule_of result.now ≡ filter (may_begin kind) (swift_rules _n) }
-{
-    swift_rules_0(kind)
-}
 
 fn swift_mode(_n: usize) -> ModeRow
-    ensures { mode_of result ≡ swift_mode _n }
+    ensures words { mode_of result ≡ swift_mode _n }
+    ensures rules { heads_in result ≡ by_head (swift_rules _n) }
 {
     swift_0()
 }
 
+#[tactic(auto, unfolding(crate::specs::Heads::by_head))]
 fn swift_0() -> ModeRow
-    ensures { mode_of result ≡ swift_0 }
+    ensures words { mode_of result ≡ swift_0 }
+    ensures rules { heads_in result ≡ by_head swift_rules_0 }
 {
     ModeRow {
+        places: "0000000000000000000000000000000000430005000000010000000000000000200000000000600000000000000000000000000000000000000000000000000000000000000000000000000000000000000000000000000000000000000000000000000000000000000000000000000000000000000000000000000000000000",
+        rules: &SWIFT_0_RULES,
         words: Words::SwiftWords,
         starts: "",
         more: "",
@@ -2713,52 +2596,46 @@ fn swift_0() -> ModeRow
     }
 }
 
-fn swift_rules_0(kind: Kind) -> &'static [RuleRow]
-    ensures { map rule_of result.now ≡ filter (may_begin kind) swift_rules_0 }
-{
-    match kind {
-        Kind::Blank => &SWIFT_0_BLANK,
-        Kind::Letter => &SWIFT_0_LETTER,
-        Kind::Sign => &SWIFT_0_SIGN,
-    }
-}
-
 #[rattlefmt::skip]
-static SWIFT_0_BLANK: [RuleRow; 0] = [
+static SWIFT_0_RULES: [&[RuleRow]; 7] = [
+    &[],
+    &[
+        rule!(Anywhere, "//", Extent::Line, "", &[], Comment, Turn::Stays),
+        rule!(Anywhere, "/*", Extent::ThroughLines(Escape::Never), "*/", &[], Comment, Turn::Stays),
+    ],
+    &[
+        rule!(Anywhere, "@", Extent::Word, "", &[], Key, Turn::Stays),
+    ],
+    &[
+        rule!(Anywhere, "#", Extent::Word, "", &[], Keyword, Turn::Stays),
+    ],
+    &[
+        rule!(Anywhere, "\"\"\"", Extent::ThroughLines(Escape::Backslash), "\"\"\"", &[], Text, Turn::Stays),
+        rule!(Anywhere, "\"", Extent::Through(Escape::Backslash), "\"", &[], Text, Turn::Stays),
+    ],
+    &[
+        rule!(Anywhere, "'", Extent::Through(Escape::Backslash), "'", &[], Text, Turn::Stays),
+    ],
+    &[
+        rule!(Anywhere, "L\"", Extent::Through(Escape::Backslash), "\"", &[], Text, Turn::Stays),
+    ],
 ];
-
-#[rattlefmt::skip]
-static SWIFT_0_LETTER: [RuleRow; 1] = [
-    rule!(Anywhere, "L\"", Extent::Through(Escape::Backslash), "\"", &[], Text, Turn::Stays),
-];
-
-#[rattlefmt::skip]
-static SWIFT_0_SIGN: [RuleRow; 7] = [
-    rule!(Anywhere, "//", Extent::Line, "", &[], Comment, Turn::Stays),
-    rule!(Anywhere, "/*", Extent::ThroughLines(Escape::Never), "*/", &[], Comment, Turn::Stays),
-    rule!(Anywhere, "@", Extent::Word, "", &[], Key, Turn::Stays),
-    rule!(Anywhere, "#", Extent::Word, "", &[], Keyword, Turn::Stays),
-    rule!(Anywhere, "\"\"\"", Extent::ThroughLines(Escape::Backslash), "\"\"\"", &[], Text, Turn::Stays),
-    rule!(Anywhere, "\"", Extent::Through(Escape::Backslash), "\"", &[], Text, Turn::Stays),
-    rule!(Anywhere, "'", Extent::Through(Escape::Backslash), "'", &[], Text, Turn::Stays),
-];
-
-fn go_rules(_n: usize, kind: Kind) -> &'static [RuleRow]
-    ensures { map rule_of result.now ≡ filter (may_begin kind) (go_rules _n) }
-{
-    go_rules_0(kind)
-}
 
 fn go_mode(_n: usize) -> ModeRow
-    ensures { mode_of result ≡ go_mode _n }
+    ensures words { mode_of result ≡ go_mode _n }
+    ensures rules { heads_in result ≡ by_head (go_rules _n) }
 {
     go_0()
 }
 
+#[tactic(auto, unfolding(crate::specs::Heads::by_head))]
 fn go_0() -> ModeRow
-    ensures { mode_of result ≡ go_0 }
+    ensures words { mode_of result ≡ go_0 }
+    ensures rules { heads_in result ≡ by_head go_rules_0 }
 {
     ModeRow {
+        places: "0000000000000000000000000000000000300004000000010000000000000000000000000000000000000000000000002000000000000000000000000000000000000000000000000000000000000000000000000000000000000000000000000000000000000000000000000000000000000000000000000000000000000000",
+        rules: &GO_0_RULES,
         words: Words::GoWords,
         starts: "",
         more: "",
@@ -2770,49 +2647,39 @@ fn go_0() -> ModeRow
     }
 }
 
-fn go_rules_0(kind: Kind) -> &'static [RuleRow]
-    ensures { map rule_of result.now ≡ filter (may_begin kind) go_rules_0 }
-{
-    match kind {
-        Kind::Blank => &GO_0_BLANK,
-        Kind::Letter => &GO_0_LETTER,
-        Kind::Sign => &GO_0_SIGN,
-    }
-}
-
 #[rattlefmt::skip]
-static GO_0_BLANK: [RuleRow; 0] = [
+static GO_0_RULES: [&[RuleRow]; 5] = [
+    &[],
+    &[
+        rule!(Anywhere, "//", Extent::Line, "", &[], Comment, Turn::Stays),
+        rule!(Anywhere, "/*", Extent::ThroughLines(Escape::Never), "*/", &[], Comment, Turn::Stays),
+    ],
+    &[
+        rule!(Anywhere, "`", Extent::ThroughLines(Escape::Never), "`", &[], Text, Turn::Stays),
+    ],
+    &[
+        rule!(Anywhere, "\"", Extent::Through(Escape::Backslash), "\"", &[], Text, Turn::Stays),
+    ],
+    &[
+        rule!(Anywhere, "'", Extent::Through(Escape::Backslash), "'", &[], Text, Turn::Stays),
+    ],
 ];
-
-#[rattlefmt::skip]
-static GO_0_LETTER: [RuleRow; 0] = [
-];
-
-#[rattlefmt::skip]
-static GO_0_SIGN: [RuleRow; 5] = [
-    rule!(Anywhere, "//", Extent::Line, "", &[], Comment, Turn::Stays),
-    rule!(Anywhere, "/*", Extent::ThroughLines(Escape::Never), "*/", &[], Comment, Turn::Stays),
-    rule!(Anywhere, "`", Extent::ThroughLines(Escape::Never), "`", &[], Text, Turn::Stays),
-    rule!(Anywhere, "\"", Extent::Through(Escape::Backslash), "\"", &[], Text, Turn::Stays),
-    rule!(Anywhere, "'", Extent::Through(Escape::Backslash), "'", &[], Text, Turn::Stays),
-];
-
-fn protobuf_rules(_n: usize, kind: Kind) -> &'static [RuleRow]
-    ensures { map rule_of result.now ≡ filter (may_begin kind) (protobuf_rules _n) }
-{
-    protobuf_rules_0(kind)
-}
 
 fn protobuf_mode(_n: usize) -> ModeRow
-    ensures { mode_of result ≡ protobuf_mode _n }
+    ensures words { mode_of result ≡ protobuf_mode _n }
+    ensures rules { heads_in result ≡ by_head (protobuf_rules _n) }
 {
     protobuf_0()
 }
 
+#[tactic(auto, unfolding(crate::specs::Heads::by_head))]
 fn protobuf_0() -> ModeRow
-    ensures { mode_of result ≡ protobuf_0 }
+    ensures words { mode_of result ≡ protobuf_0 }
+    ensures rules { heads_in result ≡ by_head protobuf_rules_0 }
 {
     ModeRow {
+        places: "0000000000000000000000000000000000200003000000010000000000000000000000000000400000000000000000000000000000000000000000000000000000000000000000000000000000000000000000000000000000000000000000000000000000000000000000000000000000000000000000000000000000000000",
+        rules: &PROTOBUF_0_RULES,
         words: Words::ProtobufWords,
         starts: "",
         more: "",
@@ -2824,46 +2691,27 @@ fn protobuf_0() -> ModeRow
     }
 }
 
-fn protobuf_rules_0(kind: Kind) -> &'static [RuleRow]
-    ensures { map rule_of result.now ≡ filter (may_begin kind) protobuf_rules_0 }
-{
-    match kind {
-        Kind::Blank => &PROTOBUF_0_BLANK,
-        Kind::Letter => &PROTOBUF_0_LETTER,
-        Kind::Sign => &PROTOBUF_0_SIGN,
-    }
-}
-
 #[rattlefmt::skip]
-static PROTOBUF_0_BLANK: [RuleRow; 0] = [
+static PROTOBUF_0_RULES: [&[RuleRow]; 5] = [
+    &[],
+    &[
+        rule!(Anywhere, "//", Extent::Line, "", &[], Comment, Turn::Stays),
+        rule!(Anywhere, "/*", Extent::ThroughLines(Escape::Never), "*/", &[], Comment, Turn::Stays),
+    ],
+    &[
+        rule!(Anywhere, "\"", Extent::Through(Escape::Backslash), "\"", &[], Text, Turn::Stays),
+    ],
+    &[
+        rule!(Anywhere, "'", Extent::Through(Escape::Backslash), "'", &[], Text, Turn::Stays),
+    ],
+    &[
+        rule!(Anywhere, "L\"", Extent::Through(Escape::Backslash), "\"", &[], Text, Turn::Stays),
+    ],
 ];
-
-#[rattlefmt::skip]
-static PROTOBUF_0_LETTER: [RuleRow; 1] = [
-    rule!(Anywhere, "L\"", Extent::Through(Escape::Backslash), "\"", &[], Text, Turn::Stays),
-];
-
-#[rattlefmt::skip]
-static PROTOBUF_0_SIGN: [RuleRow; 4] = [
-    rule!(Anywhere, "//", Extent::Line, "", &[], Comment, Turn::Stays),
-    rule!(Anywhere, "/*", Extent::ThroughLines(Escape::Never), "*/", &[], Comment, Turn::Stays),
-    rule!(Anywhere, "\"", Extent::Through(Escape::Backslash), "\"", &[], Text, Turn::Stays),
-    rule!(Anywhere, "'", Extent::Through(Escape::Backslash), "'", &[], Text, Turn::Stays),
-];
-
-fn php_rules(n: usize, kind: Kind) -> &'static [RuleRow]
-    ensures { map rule_of result.now ≡ filter (may_begin kind) (php_rules n) }
-{
-    match n {
-        1 => php_rules_1(kind),
-        2 => php_rules_2(kind),
-        3 => php_rules_3(kind),
-        _ => php_rules_0(kind),
-    }
-}
 
 fn php_mode(n: usize) -> ModeRow
-    ensures { mode_of result ≡ php_mode n }
+    ensures words { mode_of result ≡ php_mode n }
+    ensures rules { heads_in result ≡ by_head (php_rules n) }
 {
     match n {
         1 => php_1(),
@@ -2873,10 +2721,14 @@ fn php_mode(n: usize) -> ModeRow
     }
 }
 
+#[tactic(auto, unfolding(crate::specs::Heads::by_head))]
 fn php_0() -> ModeRow
-    ensures { mode_of result ≡ php_0 }
+    ensures words { mode_of result ≡ php_0 }
+    ensures rules { heads_in result ≡ by_head php_rules_0 }
 {
     ModeRow {
+        places: "0000000000000000000000000000000000537006000000020000000000004001000000000000000000000000000000000000000000000000000000000000000000000000000000000000000000000000000000000000000000000000000000000000000000000000000000000000000000000000000000000000000000000000",
+        rules: &PHP_0_RULES,
         words: Words::PhpWords,
         starts: "",
         more: "",
@@ -2888,44 +2740,45 @@ fn php_0() -> ModeRow
     }
 }
 
-fn php_rules_0(kind: Kind) -> &'static [RuleRow]
-    ensures { map rule_of result.now ≡ filter (may_begin kind) php_rules_0 }
-{
-    match kind {
-        Kind::Blank => &PHP_0_BLANK,
-        Kind::Letter => &PHP_0_LETTER,
-        Kind::Sign => &PHP_0_SIGN,
-    }
-}
-
 #[rattlefmt::skip]
-static PHP_0_BLANK: [RuleRow; 0] = [
+static PHP_0_RULES: [&[RuleRow]; 8] = [
+    &[],
+    &[
+        rule!(Anywhere, "?>", Extent::Itself, "", &[], Key, Turn::Becomes(2)),
+    ],
+    &[
+        rule!(Anywhere, "//", Extent::Line, "", &[], Comment, Turn::Stays),
+        rule!(Anywhere, "/*", Extent::ThroughLines(Escape::Never), "*/", &[], Comment, Turn::Stays),
+    ],
+    &[
+        rule!(Anywhere, "#[", Extent::Through(Escape::Never), "]", &[], Key, Turn::Stays),
+        rule!(Anywhere, "#", Extent::Line, "", &[], Comment, Turn::Stays),
+    ],
+    &[
+        rule!(Anywhere, "<?php", Extent::Itself, "", &[], Key, Turn::Stays),
+        rule!(Anywhere, "<?PHP", Extent::Itself, "", &[], Key, Turn::Stays),
+        rule!(Anywhere, "<?=", Extent::Itself, "", &[], Key, Turn::Stays),
+        rule!(Anywhere, "<<<", Extent::Labelled(false), "", &[], Text, Turn::Stays),
+    ],
+    &[
+        rule!(Anywhere, "\"", Extent::Itself, "", &[], Text, Turn::Enters(1)),
+    ],
+    &[
+        rule!(Anywhere, "'", Extent::ThroughLines(Escape::Backslash), "'", &[], Text, Turn::Stays),
+    ],
+    &[
+        rule!(Anywhere, "$", Extent::Word, "", &[], Key, Turn::Stays),
+    ],
 ];
 
-#[rattlefmt::skip]
-static PHP_0_LETTER: [RuleRow; 0] = [
-];
-
-#[rattlefmt::skip]
-static PHP_0_SIGN: [RuleRow; 12] = [
-    rule!(Anywhere, "<?php", Extent::Itself, "", &[], Key, Turn::Stays),
-    rule!(Anywhere, "<?PHP", Extent::Itself, "", &[], Key, Turn::Stays),
-    rule!(Anywhere, "<?=", Extent::Itself, "", &[], Key, Turn::Stays),
-    rule!(Anywhere, "?>", Extent::Itself, "", &[], Key, Turn::Becomes(2)),
-    rule!(Anywhere, "//", Extent::Line, "", &[], Comment, Turn::Stays),
-    rule!(Anywhere, "/*", Extent::ThroughLines(Escape::Never), "*/", &[], Comment, Turn::Stays),
-    rule!(Anywhere, "#[", Extent::Through(Escape::Never), "]", &[], Key, Turn::Stays),
-    rule!(Anywhere, "#", Extent::Line, "", &[], Comment, Turn::Stays),
-    rule!(Anywhere, "<<<", Extent::Labelled(false), "", &[], Text, Turn::Stays),
-    rule!(Anywhere, "\"", Extent::Itself, "", &[], Text, Turn::Enters(1)),
-    rule!(Anywhere, "'", Extent::ThroughLines(Escape::Backslash), "'", &[], Text, Turn::Stays),
-    rule!(Anywhere, "$", Extent::Word, "", &[], Key, Turn::Stays),
-];
-
+#[tactic(auto, unfolding(crate::specs::Heads::by_head))]
 fn php_1() -> ModeRow
-    ensures { mode_of result ≡ php_1 }
+    ensures words { mode_of result ≡ php_1 }
+    ensures rules { heads_in result ≡ by_head php_rules_1 }
 {
     ModeRow {
+        places: "0000000000000000000000000000000000204000000000000000000000000000000000000000000000000000000010000000000000000000000000000003000000000000000000000000000000000000000000000000000000000000000000000000000000000000000000000000000000000000000000000000000000000000",
+        rules: &PHP_1_RULES,
         words: Words::NoWords,
         starts: "",
         more: "",
@@ -2937,36 +2790,31 @@ fn php_1() -> ModeRow
     }
 }
 
-fn php_rules_1(kind: Kind) -> &'static [RuleRow]
-    ensures { map rule_of result.now ≡ filter (may_begin kind) php_rules_1 }
-{
-    match kind {
-        Kind::Blank => &PHP_1_BLANK,
-        Kind::Letter => &PHP_1_LETTER,
-        Kind::Sign => &PHP_1_SIGN,
-    }
-}
-
 #[rattlefmt::skip]
-static PHP_1_BLANK: [RuleRow; 0] = [
+static PHP_1_RULES: [&[RuleRow]; 5] = [
+    &[],
+    &[
+        rule!(Anywhere, "\\", Extent::OneMore, "", &[], Text, Turn::Stays),
+    ],
+    &[
+        rule!(Anywhere, "\"", Extent::Itself, "", &[], Text, Turn::Leaves),
+    ],
+    &[
+        rule!(Anywhere, "{$", Extent::Through(Escape::Never), "}", &[], Key, Turn::Stays),
+    ],
+    &[
+        rule!(Anywhere, "$", Extent::Word, "", &[], Key, Turn::Stays),
+    ],
 ];
 
-#[rattlefmt::skip]
-static PHP_1_LETTER: [RuleRow; 0] = [
-];
-
-#[rattlefmt::skip]
-static PHP_1_SIGN: [RuleRow; 4] = [
-    rule!(Anywhere, "\\", Extent::OneMore, "", &[], Text, Turn::Stays),
-    rule!(Anywhere, "\"", Extent::Itself, "", &[], Text, Turn::Leaves),
-    rule!(Anywhere, "{$", Extent::Through(Escape::Never), "}", &[], Key, Turn::Stays),
-    rule!(Anywhere, "$", Extent::Word, "", &[], Key, Turn::Stays),
-];
-
+#[tactic(auto, unfolding(crate::specs::Heads::by_head))]
 fn php_2() -> ModeRow
-    ensures { mode_of result ≡ php_2 }
+    ensures words { mode_of result ≡ php_2 }
+    ensures rules { heads_in result ≡ by_head php_rules_2 }
 {
     ModeRow {
+        places: "0000000000000000000000000000000000000000000000000000000000001000000000000000000000000000000000000000000000000000000000000000000000000000000000000000000000000000000000000000000000000000000000000000000000000000000000000000000000000000000000000000000000000000",
+        rules: &PHP_2_RULES,
         words: Words::NoWords,
         starts: "",
         more: "-.:",
@@ -2978,39 +2826,28 @@ fn php_2() -> ModeRow
     }
 }
 
-fn php_rules_2(kind: Kind) -> &'static [RuleRow]
-    ensures { map rule_of result.now ≡ filter (may_begin kind) php_rules_2 }
-{
-    match kind {
-        Kind::Blank => &PHP_2_BLANK,
-        Kind::Letter => &PHP_2_LETTER,
-        Kind::Sign => &PHP_2_SIGN,
-    }
-}
-
 #[rattlefmt::skip]
-static PHP_2_BLANK: [RuleRow; 0] = [
+static PHP_2_RULES: [&[RuleRow]; 2] = [
+    &[],
+    &[
+        rule!(Anywhere, "<?php", Extent::Itself, "", &[], Key, Turn::Becomes(0)),
+        rule!(Anywhere, "<?PHP", Extent::Itself, "", &[], Key, Turn::Becomes(0)),
+        rule!(Anywhere, "<?=", Extent::Itself, "", &[], Key, Turn::Becomes(0)),
+        rule!(Anywhere, "<?", Extent::Itself, "", &[], Key, Turn::Becomes(0)),
+        rule!(Anywhere, "<!--", Extent::ThroughLines(Escape::Never), "-->", &[], Comment, Turn::Stays),
+        rule!(Anywhere, "</", Extent::UpTo, " \t>", &[], Key, Turn::Enters(3)),
+        rule!(Anywhere, "<", Extent::Word, "", &[], Key, Turn::Enters(3)),
+    ],
 ];
 
-#[rattlefmt::skip]
-static PHP_2_LETTER: [RuleRow; 0] = [
-];
-
-#[rattlefmt::skip]
-static PHP_2_SIGN: [RuleRow; 7] = [
-    rule!(Anywhere, "<?php", Extent::Itself, "", &[], Key, Turn::Becomes(0)),
-    rule!(Anywhere, "<?PHP", Extent::Itself, "", &[], Key, Turn::Becomes(0)),
-    rule!(Anywhere, "<?=", Extent::Itself, "", &[], Key, Turn::Becomes(0)),
-    rule!(Anywhere, "<?", Extent::Itself, "", &[], Key, Turn::Becomes(0)),
-    rule!(Anywhere, "<!--", Extent::ThroughLines(Escape::Never), "-->", &[], Comment, Turn::Stays),
-    rule!(Anywhere, "</", Extent::UpTo, " \t>", &[], Key, Turn::Enters(3)),
-    rule!(Anywhere, "<", Extent::Word, "", &[], Key, Turn::Enters(3)),
-];
-
+#[tactic(auto, unfolding(crate::specs::Heads::by_head))]
 fn php_3() -> ModeRow
-    ensures { mode_of result ≡ php_3 }
+    ensures words { mode_of result ≡ php_3 }
+    ensures rules { heads_in result ≡ by_head php_rules_3 }
 {
     ModeRow {
+        places: "0000000000000000000000000000000000500006000000020000000000003410000000000000000000000000000000000000000000000000000000000000000000000000000000000000000000000000000000000000000000000000000000000000000000000000000000000000000000000000000000000000000000000000",
+        rules: &PHP_3_RULES,
         words: Words::NoWords,
         starts: "",
         more: "-.:",
@@ -3022,50 +2859,42 @@ fn php_3() -> ModeRow
     }
 }
 
-fn php_rules_3(kind: Kind) -> &'static [RuleRow]
-    ensures { map rule_of result.now ≡ filter (may_begin kind) php_rules_3 }
-{
-    match kind {
-        Kind::Blank => &PHP_3_BLANK,
-        Kind::Letter => &PHP_3_LETTER,
-        Kind::Sign => &PHP_3_SIGN,
-    }
-}
-
 #[rattlefmt::skip]
-static PHP_3_BLANK: [RuleRow; 0] = [
+static PHP_3_RULES: [&[RuleRow]; 7] = [
+    &[
+        rule!(Anywhere, "", Extent::Word, "", &[], Key, Turn::Stays),
+    ],
+    &[
+        rule!(Anywhere, ">", Extent::Itself, "", &[], Key, Turn::Leaves),
+        rule!(Anywhere, "", Extent::Word, "", &[], Key, Turn::Stays),
+    ],
+    &[
+        rule!(Anywhere, "/>", Extent::Itself, "", &[], Key, Turn::Leaves),
+        rule!(Anywhere, "", Extent::Word, "", &[], Key, Turn::Stays),
+    ],
+    &[
+        rule!(Anywhere, "<?php", Extent::Itself, "", &[], Key, Turn::Enters(0)),
+        rule!(Anywhere, "<?PHP", Extent::Itself, "", &[], Key, Turn::Enters(0)),
+        rule!(Anywhere, "<?=", Extent::Itself, "", &[], Key, Turn::Enters(0)),
+        rule!(Anywhere, "", Extent::Word, "", &[], Key, Turn::Stays),
+    ],
+    &[
+        rule!(Anywhere, "=", Extent::Itself, "", &[], Key, Turn::Stays),
+        rule!(Anywhere, "", Extent::Word, "", &[], Key, Turn::Stays),
+    ],
+    &[
+        rule!(Anywhere, "\"", Extent::ThroughLines(Escape::Never), "\"", &[], Text, Turn::Stays),
+        rule!(Anywhere, "", Extent::Word, "", &[], Key, Turn::Stays),
+    ],
+    &[
+        rule!(Anywhere, "'", Extent::ThroughLines(Escape::Never), "'", &[], Text, Turn::Stays),
+        rule!(Anywhere, "", Extent::Word, "", &[], Key, Turn::Stays),
+    ],
 ];
-
-#[rattlefmt::skip]
-static PHP_3_LETTER: [RuleRow; 1] = [
-    rule!(Anywhere, "", Extent::Word, "", &[], Key, Turn::Stays),
-];
-
-#[rattlefmt::skip]
-static PHP_3_SIGN: [RuleRow; 9] = [
-    rule!(Anywhere, ">", Extent::Itself, "", &[], Key, Turn::Leaves),
-    rule!(Anywhere, "/>", Extent::Itself, "", &[], Key, Turn::Leaves),
-    rule!(Anywhere, "<?php", Extent::Itself, "", &[], Key, Turn::Enters(0)),
-    rule!(Anywhere, "<?PHP", Extent::Itself, "", &[], Key, Turn::Enters(0)),
-    rule!(Anywhere, "<?=", Extent::Itself, "", &[], Key, Turn::Enters(0)),
-    rule!(Anywhere, "=", Extent::Itself, "", &[], Key, Turn::Stays),
-    rule!(Anywhere, "\"", Extent::ThroughLines(Escape::Never), "\"", &[], Text, Turn::Stays),
-    rule!(Anywhere, "'", Extent::ThroughLines(Escape::Never), "'", &[], Text, Turn::Stays),
-    rule!(Anywhere, "", Extent::Word, "", &[], Key, Turn::Stays),
-];
-
-fn ruby_rules(n: usize, kind: Kind) -> &'static [RuleRow]
-    ensures { map rule_of result.now ≡ filter (may_begin kind) (ruby_rules n) }
-{
-    match n {
-        1 => ruby_rules_1(kind),
-        2 => ruby_rules_2(kind),
-        _ => ruby_rules_0(kind),
-    }
-}
 
 fn ruby_mode(n: usize) -> ModeRow
-    ensures { mode_of result ≡ ruby_mode n }
+    ensures words { mode_of result ≡ ruby_mode n }
+    ensures rules { heads_in result ≡ by_head (ruby_rules n) }
 {
     match n {
         1 => ruby_1(),
@@ -3074,10 +2903,14 @@ fn ruby_mode(n: usize) -> ModeRow
     }
 }
 
+#[tactic(auto, unfolding(crate::specs::Heads::by_head))]
 fn ruby_0() -> ModeRow
-    ensures { mode_of result ≡ ruby_0 }
+    ensures words { mode_of result ≡ ruby_0 }
+    ensures rules { heads_in result ≡ by_head ruby_rules_0 }
 {
     ModeRow {
+        places: "000000000000000000000000000000000053;<060000000=0000000000904100:00000000000000000000000000000027000000000000000000000000008000000000000000000000000000000000000000000000000000000000000000000000000000000000000000000000000000000000000000000000000000000000000",
+        rules: &RUBY_0_RULES,
         words: Words::RubyWords,
         starts: "",
         more: "!?",
@@ -3089,59 +2922,85 @@ fn ruby_0() -> ModeRow
     }
 }
 
-fn ruby_rules_0(kind: Kind) -> &'static [RuleRow]
-    ensures { map rule_of result.now ≡ filter (may_begin kind) ruby_rules_0 }
-{
-    match kind {
-        Kind::Blank => &RUBY_0_BLANK,
-        Kind::Letter => &RUBY_0_LETTER,
-        Kind::Sign => &RUBY_0_SIGN,
-    }
-}
-
 #[rattlefmt::skip]
-static RUBY_0_BLANK: [RuleRow; 0] = [
+static RUBY_0_RULES: [&[RuleRow]; 14] = [
+    &[
+        rule!(Apart, "", Extent::Word, ":", &[": ", ":\n"], Text, Turn::Stays),
+    ],
+    &[
+        rule!(FirstByte, "=begin", Extent::ThroughLines(Escape::Never), "\n=end", &[], Comment, Turn::Stays),
+        rule!(Apart, "", Extent::Word, ":", &[": ", ":\n"], Text, Turn::Stays),
+    ],
+    &[
+        rule!(FirstByte, "__END__", Extent::ThroughLines(Escape::Never), "\0", &[], Comment, Turn::Stays),
+        rule!(Apart, "", Extent::Word, ":", &[": ", ":\n"], Text, Turn::Stays),
+    ],
+    &[
+        rule!(Anywhere, "#", Extent::Line, "", &[], Comment, Turn::Stays),
+        rule!(Apart, "", Extent::Word, ":", &[": ", ":\n"], Text, Turn::Stays),
+    ],
+    &[
+        rule!(Anywhere, "<<", Extent::Labelled(true), "", &[], Text, Turn::Stays),
+        rule!(Apart, "", Extent::Word, ":", &[": ", ":\n"], Text, Turn::Stays),
+    ],
+    &[
+        rule!(Anywhere, "\"", Extent::Itself, "", &[], Text, Turn::Enters(1)),
+        rule!(Apart, "", Extent::Word, ":", &[": ", ":\n"], Text, Turn::Stays),
+    ],
+    &[
+        rule!(Anywhere, "'", Extent::ThroughLines(Escape::Backslash), "'", &[], Text, Turn::Stays),
+        rule!(Apart, "", Extent::Word, ":", &[": ", ":\n"], Text, Turn::Stays),
+    ],
+    &[
+        rule!(Anywhere, "`", Extent::ThroughLines(Escape::Backslash), "`", &[], Text, Turn::Stays),
+        rule!(Apart, "", Extent::Word, ":", &[": ", ":\n"], Text, Turn::Stays),
+    ],
+    &[
+        rule!(Anywhere, "{", Extent::Itself, "", &[], Plain, Turn::Enters(2)),
+        rule!(Apart, "", Extent::Word, ":", &[": ", ":\n"], Text, Turn::Stays),
+    ],
+    &[
+        rule!(Anywhere, ":\"", Extent::Through(Escape::Backslash), "\"", &[], Text, Turn::Stays),
+        rule!(Anywhere, "::", Extent::Itself, "", &[], Plain, Turn::Stays),
+        rule!(Anywhere, ":", Extent::Word, "", &[], Text, Turn::Stays),
+        rule!(Apart, "", Extent::Word, ":", &[": ", ":\n"], Text, Turn::Stays),
+    ],
+    &[
+        rule!(Anywhere, "@@", Extent::Word, "", &[], Key, Turn::Stays),
+        rule!(Anywhere, "@", Extent::Word, "", &[], Key, Turn::Stays),
+        rule!(Apart, "", Extent::Word, ":", &[": ", ":\n"], Text, Turn::Stays),
+    ],
+    &[
+        rule!(Anywhere, "$", Extent::Word, "", &[], Key, Turn::Stays),
+        rule!(Apart, "", Extent::Word, ":", &[": ", ":\n"], Text, Turn::Stays),
+    ],
+    &[
+        rule!(Anywhere, "%w(", Extent::ThroughLines(Escape::Backslash), ")", &[], Text, Turn::Stays),
+        rule!(Anywhere, "%w[", Extent::ThroughLines(Escape::Backslash), "]", &[], Text, Turn::Stays),
+        rule!(Anywhere, "%i[", Extent::ThroughLines(Escape::Backslash), "]", &[], Text, Turn::Stays),
+        rule!(Anywhere, "%i(", Extent::ThroughLines(Escape::Backslash), ")", &[], Text, Turn::Stays),
+        rule!(Anywhere, "%w{", Extent::ThroughLines(Escape::Backslash), "}", &[], Text, Turn::Stays),
+        rule!(Anywhere, "%q(", Extent::ThroughLines(Escape::Backslash), ")", &[], Text, Turn::Stays),
+        rule!(Anywhere, "%Q(", Extent::ThroughLines(Escape::Backslash), ")", &[], Text, Turn::Stays),
+        rule!(Anywhere, "%r{", Extent::ThroughLines(Escape::Backslash), "}", &[], Text, Turn::Stays),
+        rule!(Anywhere, "%{", Extent::ThroughLines(Escape::Backslash), "}", &[], Text, Turn::Stays),
+        rule!(Anywhere, "%(", Extent::ThroughLines(Escape::Backslash), ")", &[], Text, Turn::Stays),
+        rule!(Apart, "", Extent::Word, ":", &[": ", ":\n"], Text, Turn::Stays),
+    ],
+    &[
+        rule!(Apart, "", Extent::Word, ":", &[": ", ":\n"], Text, Turn::Stays),
+        rule!(Value, "/", Extent::Through(Escape::Backslash), "/", &[], Text, Turn::Stays),
+    ],
 ];
 
-#[rattlefmt::skip]
-static RUBY_0_LETTER: [RuleRow; 2] = [
-    rule!(FirstByte, "__END__", Extent::ThroughLines(Escape::Never), "\0", &[], Comment, Turn::Stays),
-    rule!(Apart, "", Extent::Word, ":", &[": ", ":\n"], Text, Turn::Stays),
-];
-
-#[rattlefmt::skip]
-static RUBY_0_SIGN: [RuleRow; 25] = [
-    rule!(FirstByte, "=begin", Extent::ThroughLines(Escape::Never), "\n=end", &[], Comment, Turn::Stays),
-    rule!(Anywhere, "#", Extent::Line, "", &[], Comment, Turn::Stays),
-    rule!(Anywhere, "<<", Extent::Labelled(true), "", &[], Text, Turn::Stays),
-    rule!(Anywhere, "\"", Extent::Itself, "", &[], Text, Turn::Enters(1)),
-    rule!(Anywhere, "'", Extent::ThroughLines(Escape::Backslash), "'", &[], Text, Turn::Stays),
-    rule!(Anywhere, "`", Extent::ThroughLines(Escape::Backslash), "`", &[], Text, Turn::Stays),
-    rule!(Anywhere, "{", Extent::Itself, "", &[], Plain, Turn::Enters(2)),
-    rule!(Anywhere, ":\"", Extent::Through(Escape::Backslash), "\"", &[], Text, Turn::Stays),
-    rule!(Anywhere, "::", Extent::Itself, "", &[], Plain, Turn::Stays),
-    rule!(Anywhere, ":", Extent::Word, "", &[], Text, Turn::Stays),
-    rule!(Anywhere, "@@", Extent::Word, "", &[], Key, Turn::Stays),
-    rule!(Anywhere, "@", Extent::Word, "", &[], Key, Turn::Stays),
-    rule!(Anywhere, "$", Extent::Word, "", &[], Key, Turn::Stays),
-    rule!(Anywhere, "%w(", Extent::ThroughLines(Escape::Backslash), ")", &[], Text, Turn::Stays),
-    rule!(Anywhere, "%w[", Extent::ThroughLines(Escape::Backslash), "]", &[], Text, Turn::Stays),
-    rule!(Anywhere, "%i[", Extent::ThroughLines(Escape::Backslash), "]", &[], Text, Turn::Stays),
-    rule!(Anywhere, "%i(", Extent::ThroughLines(Escape::Backslash), ")", &[], Text, Turn::Stays),
-    rule!(Anywhere, "%w{", Extent::ThroughLines(Escape::Backslash), "}", &[], Text, Turn::Stays),
-    rule!(Anywhere, "%q(", Extent::ThroughLines(Escape::Backslash), ")", &[], Text, Turn::Stays),
-    rule!(Anywhere, "%Q(", Extent::ThroughLines(Escape::Backslash), ")", &[], Text, Turn::Stays),
-    rule!(Anywhere, "%r{", Extent::ThroughLines(Escape::Backslash), "}", &[], Text, Turn::Stays),
-    rule!(Anywhere, "%{", Extent::ThroughLines(Escape::Backslash), "}", &[], Text, Turn::Stays),
-    rule!(Anywhere, "%(", Extent::ThroughLines(Escape::Backslash), ")", &[], Text, Turn::Stays),
-    rule!(Apart, "", Extent::Word, ":", &[": ", ":\n"], Text, Turn::Stays),
-    rule!(Value, "/", Extent::Through(Escape::Backslash), "/", &[], Text, Turn::Stays),
-];
-
+#[tactic(auto, unfolding(crate::specs::Heads::by_head))]
 fn ruby_1() -> ModeRow
-    ensures { mode_of result ≡ ruby_1 }
+    ensures words { mode_of result ≡ ruby_1 }
+    ensures rules { heads_in result ≡ by_head ruby_rules_1 }
 {
     ModeRow {
+        places: "0000000000000000000000000000000000230000000000000000000000000000000000000000000000000000000010000000000000000000000000000000000000000000000000000000000000000000000000000000000000000000000000000000000000000000000000000000000000000000000000000000000000000000",
+        rules: &RUBY_1_RULES,
         words: Words::NoWords,
         starts: "",
         more: "",
@@ -3153,35 +3012,28 @@ fn ruby_1() -> ModeRow
     }
 }
 
-fn ruby_rules_1(kind: Kind) -> &'static [RuleRow]
-    ensures { map rule_of result.now ≡ filter (may_begin kind) ruby_rules_1 }
-{
-    match kind {
-        Kind::Blank => &RUBY_1_BLANK,
-        Kind::Letter => &RUBY_1_LETTER,
-        Kind::Sign => &RUBY_1_SIGN,
-    }
-}
-
 #[rattlefmt::skip]
-static RUBY_1_BLANK: [RuleRow; 0] = [
+static RUBY_1_RULES: [&[RuleRow]; 4] = [
+    &[],
+    &[
+        rule!(Anywhere, "\\", Extent::OneMore, "", &[], Text, Turn::Stays),
+    ],
+    &[
+        rule!(Anywhere, "\"", Extent::Itself, "", &[], Text, Turn::Leaves),
+    ],
+    &[
+        rule!(Anywhere, "#{", Extent::Itself, "", &[], Text, Turn::Enters(2)),
+    ],
 ];
 
-#[rattlefmt::skip]
-static RUBY_1_LETTER: [RuleRow; 0] = [
-];
-
-#[rattlefmt::skip]
-static RUBY_1_SIGN: [RuleRow; 3] = [
-    rule!(Anywhere, "\\", Extent::OneMore, "", &[], Text, Turn::Stays),
-    rule!(Anywhere, "\"", Extent::Itself, "", &[], Text, Turn::Leaves),
-    rule!(Anywhere, "#{", Extent::Itself, "", &[], Text, Turn::Enters(2)),
-];
-
+#[tactic(auto, unfolding(crate::specs::Heads::by_head))]
 fn ruby_2() -> ModeRow
-    ensures { mode_of result ≡ ruby_2 }
+    ensures words { mode_of result ≡ ruby_2 }
+    ensures rules { heads_in result ≡ by_head ruby_rules_2 }
 {
     ModeRow {
+        places: "000000000000000000000000000000000064<=070000000>0000000000:05200;00000000000000000000000000000038000000000000000000000000009010000000000000000000000000000000000000000000000000000000000000000000000000000000000000000000000000000000000000000000000000000000000",
+        rules: &RUBY_2_RULES,
         words: Words::RubyWords,
         starts: "",
         more: "!?",
@@ -3193,72 +3045,96 @@ fn ruby_2() -> ModeRow
     }
 }
 
-fn ruby_rules_2(kind: Kind) -> &'static [RuleRow]
-    ensures { map rule_of result.now ≡ filter (may_begin kind) ruby_rules_2 }
-{
-    match kind {
-        Kind::Blank => &RUBY_2_BLANK,
-        Kind::Letter => &RUBY_2_LETTER,
-        Kind::Sign => &RUBY_2_SIGN,
-    }
-}
-
 #[rattlefmt::skip]
-static RUBY_2_BLANK: [RuleRow; 0] = [
+static RUBY_2_RULES: [&[RuleRow]; 15] = [
+    &[
+        rule!(Apart, "", Extent::Word, ":", &[": ", ":\n"], Text, Turn::Stays),
+    ],
+    &[
+        rule!(Anywhere, "}", Extent::Itself, "", &[], Plain, Turn::Leaves),
+        rule!(Apart, "", Extent::Word, ":", &[": ", ":\n"], Text, Turn::Stays),
+    ],
+    &[
+        rule!(FirstByte, "=begin", Extent::ThroughLines(Escape::Never), "\n=end", &[], Comment, Turn::Stays),
+        rule!(Apart, "", Extent::Word, ":", &[": ", ":\n"], Text, Turn::Stays),
+    ],
+    &[
+        rule!(FirstByte, "__END__", Extent::ThroughLines(Escape::Never), "\0", &[], Comment, Turn::Stays),
+        rule!(Apart, "", Extent::Word, ":", &[": ", ":\n"], Text, Turn::Stays),
+    ],
+    &[
+        rule!(Anywhere, "#", Extent::Line, "", &[], Comment, Turn::Stays),
+        rule!(Apart, "", Extent::Word, ":", &[": ", ":\n"], Text, Turn::Stays),
+    ],
+    &[
+        rule!(Anywhere, "<<", Extent::Labelled(true), "", &[], Text, Turn::Stays),
+        rule!(Apart, "", Extent::Word, ":", &[": ", ":\n"], Text, Turn::Stays),
+    ],
+    &[
+        rule!(Anywhere, "\"", Extent::Itself, "", &[], Text, Turn::Enters(1)),
+        rule!(Apart, "", Extent::Word, ":", &[": ", ":\n"], Text, Turn::Stays),
+    ],
+    &[
+        rule!(Anywhere, "'", Extent::ThroughLines(Escape::Backslash), "'", &[], Text, Turn::Stays),
+        rule!(Apart, "", Extent::Word, ":", &[": ", ":\n"], Text, Turn::Stays),
+    ],
+    &[
+        rule!(Anywhere, "`", Extent::ThroughLines(Escape::Backslash), "`", &[], Text, Turn::Stays),
+        rule!(Apart, "", Extent::Word, ":", &[": ", ":\n"], Text, Turn::Stays),
+    ],
+    &[
+        rule!(Anywhere, "{", Extent::Itself, "", &[], Plain, Turn::Enters(2)),
+        rule!(Apart, "", Extent::Word, ":", &[": ", ":\n"], Text, Turn::Stays),
+    ],
+    &[
+        rule!(Anywhere, ":\"", Extent::Through(Escape::Backslash), "\"", &[], Text, Turn::Stays),
+        rule!(Anywhere, "::", Extent::Itself, "", &[], Plain, Turn::Stays),
+        rule!(Anywhere, ":", Extent::Word, "", &[], Text, Turn::Stays),
+        rule!(Apart, "", Extent::Word, ":", &[": ", ":\n"], Text, Turn::Stays),
+    ],
+    &[
+        rule!(Anywhere, "@@", Extent::Word, "", &[], Key, Turn::Stays),
+        rule!(Anywhere, "@", Extent::Word, "", &[], Key, Turn::Stays),
+        rule!(Apart, "", Extent::Word, ":", &[": ", ":\n"], Text, Turn::Stays),
+    ],
+    &[
+        rule!(Anywhere, "$", Extent::Word, "", &[], Key, Turn::Stays),
+        rule!(Apart, "", Extent::Word, ":", &[": ", ":\n"], Text, Turn::Stays),
+    ],
+    &[
+        rule!(Anywhere, "%w(", Extent::ThroughLines(Escape::Backslash), ")", &[], Text, Turn::Stays),
+        rule!(Anywhere, "%w[", Extent::ThroughLines(Escape::Backslash), "]", &[], Text, Turn::Stays),
+        rule!(Anywhere, "%i[", Extent::ThroughLines(Escape::Backslash), "]", &[], Text, Turn::Stays),
+        rule!(Anywhere, "%i(", Extent::ThroughLines(Escape::Backslash), ")", &[], Text, Turn::Stays),
+        rule!(Anywhere, "%w{", Extent::ThroughLines(Escape::Backslash), "}", &[], Text, Turn::Stays),
+        rule!(Anywhere, "%q(", Extent::ThroughLines(Escape::Backslash), ")", &[], Text, Turn::Stays),
+        rule!(Anywhere, "%Q(", Extent::ThroughLines(Escape::Backslash), ")", &[], Text, Turn::Stays),
+        rule!(Anywhere, "%r{", Extent::ThroughLines(Escape::Backslash), "}", &[], Text, Turn::Stays),
+        rule!(Anywhere, "%{", Extent::ThroughLines(Escape::Backslash), "}", &[], Text, Turn::Stays),
+        rule!(Anywhere, "%(", Extent::ThroughLines(Escape::Backslash), ")", &[], Text, Turn::Stays),
+        rule!(Apart, "", Extent::Word, ":", &[": ", ":\n"], Text, Turn::Stays),
+    ],
+    &[
+        rule!(Apart, "", Extent::Word, ":", &[": ", ":\n"], Text, Turn::Stays),
+        rule!(Value, "/", Extent::Through(Escape::Backslash), "/", &[], Text, Turn::Stays),
+    ],
 ];
-
-#[rattlefmt::skip]
-static RUBY_2_LETTER: [RuleRow; 2] = [
-    rule!(FirstByte, "__END__", Extent::ThroughLines(Escape::Never), "\0", &[], Comment, Turn::Stays),
-    rule!(Apart, "", Extent::Word, ":", &[": ", ":\n"], Text, Turn::Stays),
-];
-
-#[rattlefmt::skip]
-static RUBY_2_SIGN: [RuleRow; 26] = [
-    rule!(Anywhere, "}", Extent::Itself, "", &[], Plain, Turn::Leaves),
-    rule!(FirstByte, "=begin", Extent::ThroughLines(Escape::Never), "\n=end", &[], Comment, Turn::Stays),
-    rule!(Anywhere, "#", Extent::Line, "", &[], Comment, Turn::Stays),
-    rule!(Anywhere, "<<", Extent::Labelled(true), "", &[], Text, Turn::Stays),
-    rule!(Anywhere, "\"", Extent::Itself, "", &[], Text, Turn::Enters(1)),
-    rule!(Anywhere, "'", Extent::ThroughLines(Escape::Backslash), "'", &[], Text, Turn::Stays),
-    rule!(Anywhere, "`", Extent::ThroughLines(Escape::Backslash), "`", &[], Text, Turn::Stays),
-    rule!(Anywhere, "{", Extent::Itself, "", &[], Plain, Turn::Enters(2)),
-    rule!(Anywhere, ":\"", Extent::Through(Escape::Backslash), "\"", &[], Text, Turn::Stays),
-    rule!(Anywhere, "::", Extent::Itself, "", &[], Plain, Turn::Stays),
-    rule!(Anywhere, ":", Extent::Word, "", &[], Text, Turn::Stays),
-    rule!(Anywhere, "@@", Extent::Word, "", &[], Key, Turn::Stays),
-    rule!(Anywhere, "@", Extent::Word, "", &[], Key, Turn::Stays),
-    rule!(Anywhere, "$", Extent::Word, "", &[], Key, Turn::Stays),
-    rule!(Anywhere, "%w(", Extent::ThroughLines(Escape::Backslash), ")", &[], Text, Turn::Stays),
-    rule!(Anywhere, "%w[", Extent::ThroughLines(Escape::Backslash), "]", &[], Text, Turn::Stays),
-    rule!(Anywhere, "%i[", Extent::ThroughLines(Escape::Backslash), "]", &[], Text, Turn::Stays),
-    rule!(Anywhere, "%i(", Extent::ThroughLines(Escape::Backslash), ")", &[], Text, Turn::Stays),
-    rule!(Anywhere, "%w{", Extent::ThroughLines(Escape::Backslash), "}", &[], Text, Turn::Stays),
-    rule!(Anywhere, "%q(", Extent::ThroughLines(Escape::Backslash), ")", &[], Text, Turn::Stays),
-    rule!(Anywhere, "%Q(", Extent::ThroughLines(Escape::Backslash), ")", &[], Text, Turn::Stays),
-    rule!(Anywhere, "%r{", Extent::ThroughLines(Escape::Backslash), "}", &[], Text, Turn::Stays),
-    rule!(Anywhere, "%{", Extent::ThroughLines(Escape::Backslash), "}", &[], Text, Turn::Stays),
-    rule!(Anywhere, "%(", Extent::ThroughLines(Escape::Backslash), ")", &[], Text, Turn::Stays),
-    rule!(Apart, "", Extent::Word, ":", &[": ", ":\n"], Text, Turn::Stays),
-    rule!(Value, "/", Extent::Through(Escape::Backslash), "/", &[], Text, Turn::Stays),
-];
-
-fn perl_rules(_n: usize, kind: Kind) -> &'static [RuleRow]
-    ensures { map rule_of result.now ≡ filter (may_begin kind) (perl_rules _n) }
-{
-    perl_rules_0(kind)
-}
 
 fn perl_mode(_n: usize) -> ModeRow
-    ensures { mode_of result ≡ perl_mode _n }
+    ensures words { mode_of result ≡ perl_mode _n }
+    ensures rules { heads_in result ≡ by_head (perl_rules _n) }
 {
     perl_0()
 }
 
+#[tactic(auto, unfolding(crate::specs::Heads::by_head))]
 fn perl_0() -> ModeRow
-    ensures { mode_of result ≡ perl_0 }
+    ensures words { mode_of result ≡ perl_0 }
+    ensures rules { heads_in result ≡ by_head perl_rules_0 }
 {
     ModeRow {
+        places: "000000000000000000000000000000000053?>060000000<0000000000004100=00000000000000000000000000000020000000000000700080;90000:00000000000000000000000000000000000000000000000000000000000000000000000000000000000000000000000000000000000000000000000000000000000000",
+        rules: &PERL_0_RULES,
         words: Words::PerlWords,
         starts: "",
         more: "",
@@ -3270,132 +3146,144 @@ fn perl_0() -> ModeRow
     }
 }
 
-fn perl_rules_0(kind: Kind) -> &'static [RuleRow]
-    ensures { map rule_of result.now ≡ filter (may_begin kind) perl_rules_0 }
-{
-    match kind {
-        Kind::Blank => &PERL_0_BLANK,
-        Kind::Letter => &PERL_0_LETTER,
-        Kind::Sign => &PERL_0_SIGN,
-    }
-}
-
 #[rattlefmt::skip]
-static PERL_0_BLANK: [RuleRow; 0] = [
+static PERL_0_RULES: [&[RuleRow]; 16] = [
+    &[],
+    &[
+        rule!(FirstByte, "=head", Extent::ThroughLines(Escape::Never), "\n=cut", &[], Comment, Turn::Stays),
+        rule!(FirstByte, "=pod", Extent::ThroughLines(Escape::Never), "\n=cut", &[], Comment, Turn::Stays),
+        rule!(FirstByte, "=over", Extent::ThroughLines(Escape::Never), "\n=cut", &[], Comment, Turn::Stays),
+        rule!(FirstByte, "=item", Extent::ThroughLines(Escape::Never), "\n=cut", &[], Comment, Turn::Stays),
+        rule!(FirstByte, "=begin", Extent::ThroughLines(Escape::Never), "\n=cut", &[], Comment, Turn::Stays),
+        rule!(FirstByte, "=for", Extent::ThroughLines(Escape::Never), "\n=cut", &[], Comment, Turn::Stays),
+        rule!(FirstByte, "=encoding", Extent::ThroughLines(Escape::Never), "\n=cut", &[], Comment, Turn::Stays),
+        rule!(FirstByte, "=cut", Extent::ThroughLines(Escape::Never), "\n=cut", &[], Comment, Turn::Stays),
+        rule!(FirstByte, "=back", Extent::ThroughLines(Escape::Never), "\n=cut", &[], Comment, Turn::Stays),
+    ],
+    &[
+        rule!(FirstByte, "__END__", Extent::ThroughLines(Escape::Never), "\0", &[], Comment, Turn::Stays),
+        rule!(FirstByte, "__DATA__", Extent::ThroughLines(Escape::Never), "\0", &[], Comment, Turn::Stays),
+    ],
+    &[
+        rule!(FirstByte, "#!", Extent::Line, "", &[], Comment, Turn::Stays),
+        rule!(Anywhere, "#", Extent::Line, "", &[], Comment, Turn::Stays),
+    ],
+    &[
+        rule!(Anywhere, "<<", Extent::Labelled(true), "", &[], Text, Turn::Stays),
+    ],
+    &[
+        rule!(Anywhere, "\"", Extent::ThroughLines(Escape::Backslash), "\"", &[], Text, Turn::Stays),
+    ],
+    &[
+        rule!(Anywhere, "'", Extent::ThroughLines(Escape::Backslash), "'", &[], Text, Turn::Stays),
+    ],
+    &[
+        rule!(Apart, "m(", Extent::ThroughLines(Escape::Backslash), ")", &[], Text, Turn::Stays),
+        rule!(Apart, "m{", Extent::ThroughLines(Escape::Backslash), "}", &[], Text, Turn::Stays),
+        rule!(Apart, "m[", Extent::ThroughLines(Escape::Backslash), "]", &[], Text, Turn::Stays),
+        rule!(Apart, "m/", Extent::ThroughLines(Escape::Backslash), "/", &[], Text, Turn::Stays),
+        rule!(Apart, "m|", Extent::ThroughLines(Escape::Backslash), "|", &[], Text, Turn::Stays),
+        rule!(Apart, "m!", Extent::ThroughLines(Escape::Backslash), "!", &[], Text, Turn::Stays),
+        rule!(Apart, "m<", Extent::ThroughLines(Escape::Backslash), ">", &[], Text, Turn::Stays),
+    ],
+    &[
+        rule!(Apart, "qw(", Extent::ThroughLines(Escape::Backslash), ")", &[], Text, Turn::Stays),
+        rule!(Apart, "qw{", Extent::ThroughLines(Escape::Backslash), "}", &[], Text, Turn::Stays),
+        rule!(Apart, "qw[", Extent::ThroughLines(Escape::Backslash), "]", &[], Text, Turn::Stays),
+        rule!(Apart, "qw/", Extent::ThroughLines(Escape::Backslash), "/", &[], Text, Turn::Stays),
+        rule!(Apart, "qw|", Extent::ThroughLines(Escape::Backslash), "|", &[], Text, Turn::Stays),
+        rule!(Apart, "qw!", Extent::ThroughLines(Escape::Backslash), "!", &[], Text, Turn::Stays),
+        rule!(Apart, "qw<", Extent::ThroughLines(Escape::Backslash), ">", &[], Text, Turn::Stays),
+        rule!(Apart, "q(", Extent::ThroughLines(Escape::Backslash), ")", &[], Text, Turn::Stays),
+        rule!(Apart, "q{", Extent::ThroughLines(Escape::Backslash), "}", &[], Text, Turn::Stays),
+        rule!(Apart, "q[", Extent::ThroughLines(Escape::Backslash), "]", &[], Text, Turn::Stays),
+        rule!(Apart, "q/", Extent::ThroughLines(Escape::Backslash), "/", &[], Text, Turn::Stays),
+        rule!(Apart, "q|", Extent::ThroughLines(Escape::Backslash), "|", &[], Text, Turn::Stays),
+        rule!(Apart, "q!", Extent::ThroughLines(Escape::Backslash), "!", &[], Text, Turn::Stays),
+        rule!(Apart, "q<", Extent::ThroughLines(Escape::Backslash), ">", &[], Text, Turn::Stays),
+        rule!(Apart, "qq(", Extent::ThroughLines(Escape::Backslash), ")", &[], Text, Turn::Stays),
+        rule!(Apart, "qq{", Extent::ThroughLines(Escape::Backslash), "}", &[], Text, Turn::Stays),
+        rule!(Apart, "qq[", Extent::ThroughLines(Escape::Backslash), "]", &[], Text, Turn::Stays),
+        rule!(Apart, "qq/", Extent::ThroughLines(Escape::Backslash), "/", &[], Text, Turn::Stays),
+        rule!(Apart, "qq|", Extent::ThroughLines(Escape::Backslash), "|", &[], Text, Turn::Stays),
+        rule!(Apart, "qq!", Extent::ThroughLines(Escape::Backslash), "!", &[], Text, Turn::Stays),
+        rule!(Apart, "qq<", Extent::ThroughLines(Escape::Backslash), ">", &[], Text, Turn::Stays),
+        rule!(Apart, "qr(", Extent::ThroughLines(Escape::Backslash), ")", &[], Text, Turn::Stays),
+        rule!(Apart, "qr{", Extent::ThroughLines(Escape::Backslash), "}", &[], Text, Turn::Stays),
+        rule!(Apart, "qr[", Extent::ThroughLines(Escape::Backslash), "]", &[], Text, Turn::Stays),
+        rule!(Apart, "qr/", Extent::ThroughLines(Escape::Backslash), "/", &[], Text, Turn::Stays),
+        rule!(Apart, "qr|", Extent::ThroughLines(Escape::Backslash), "|", &[], Text, Turn::Stays),
+        rule!(Apart, "qr!", Extent::ThroughLines(Escape::Backslash), "!", &[], Text, Turn::Stays),
+        rule!(Apart, "qr<", Extent::ThroughLines(Escape::Backslash), ">", &[], Text, Turn::Stays),
+        rule!(Apart, "qw (", Extent::ThroughLines(Escape::Backslash), ")", &[], Text, Turn::Stays),
+        rule!(Apart, "qw {", Extent::ThroughLines(Escape::Backslash), "}", &[], Text, Turn::Stays),
+        rule!(Apart, "qw [", Extent::ThroughLines(Escape::Backslash), "]", &[], Text, Turn::Stays),
+        rule!(Apart, "qw /", Extent::ThroughLines(Escape::Backslash), "/", &[], Text, Turn::Stays),
+        rule!(Apart, "qw |", Extent::ThroughLines(Escape::Backslash), "|", &[], Text, Turn::Stays),
+        rule!(Apart, "qw !", Extent::ThroughLines(Escape::Backslash), "!", &[], Text, Turn::Stays),
+        rule!(Apart, "qw <", Extent::ThroughLines(Escape::Backslash), ">", &[], Text, Turn::Stays),
+    ],
+    &[
+        rule!(Apart, "tr/", Extent::TwoParts, "/", &[], Text, Turn::Stays),
+        rule!(Apart, "tr|", Extent::TwoParts, "|", &[], Text, Turn::Stays),
+        rule!(Apart, "tr,", Extent::TwoParts, ",", &[], Text, Turn::Stays),
+        rule!(Apart, "tr!", Extent::TwoParts, "!", &[], Text, Turn::Stays),
+        rule!(Apart, "tr#", Extent::TwoParts, "#", &[], Text, Turn::Stays),
+    ],
+    &[
+        rule!(Apart, "y/", Extent::TwoParts, "/", &[], Text, Turn::Stays),
+        rule!(Apart, "y|", Extent::TwoParts, "|", &[], Text, Turn::Stays),
+        rule!(Apart, "y,", Extent::TwoParts, ",", &[], Text, Turn::Stays),
+        rule!(Apart, "y!", Extent::TwoParts, "!", &[], Text, Turn::Stays),
+        rule!(Apart, "y#", Extent::TwoParts, "#", &[], Text, Turn::Stays),
+    ],
+    &[
+        rule!(Apart, "s/", Extent::TwoParts, "/", &[], Text, Turn::Stays),
+        rule!(Apart, "s|", Extent::TwoParts, "|", &[], Text, Turn::Stays),
+        rule!(Apart, "s,", Extent::TwoParts, ",", &[], Text, Turn::Stays),
+        rule!(Apart, "s!", Extent::TwoParts, "!", &[], Text, Turn::Stays),
+        rule!(Apart, "s#", Extent::TwoParts, "#", &[], Text, Turn::Stays),
+        rule!(Apart, "s{", Extent::Through(Escape::Backslash), "}", &[], Text, Turn::Stays),
+    ],
+    &[
+        rule!(Value, "/", Extent::Through(Escape::Backslash), "/", &[], Text, Turn::Stays),
+    ],
+    &[
+        rule!(Anywhere, "@", Extent::Word, "", &[], Key, Turn::Stays),
+    ],
+    &[
+        rule!(Apart, "%", Extent::Word, "", &[], Key, Turn::Stays),
+    ],
+    &[
+        rule!(Anywhere, "$#", Extent::Word, "", &[], Key, Turn::Stays),
+        rule!(Anywhere, "$", Extent::Word, "", &[], Key, Turn::Stays),
+        rule!(Anywhere, "$&", Extent::Itself, "", &[], Key, Turn::Stays),
+        rule!(Anywhere, "$@", Extent::Itself, "", &[], Key, Turn::Stays),
+        rule!(Anywhere, "$!", Extent::Itself, "", &[], Key, Turn::Stays),
+        rule!(Anywhere, "$/", Extent::Itself, "", &[], Key, Turn::Stays),
+        rule!(Anywhere, "$\\", Extent::Itself, "", &[], Key, Turn::Stays),
+        rule!(Anywhere, "$,", Extent::Itself, "", &[], Key, Turn::Stays),
+        rule!(Anywhere, "$;", Extent::Itself, "", &[], Key, Turn::Stays),
+        rule!(Anywhere, "$.", Extent::Itself, "", &[], Key, Turn::Stays),
+        rule!(Anywhere, "$", Extent::Itself, "", &[], Key, Turn::Stays),
+    ],
 ];
-
-#[rattlefmt::skip]
-static PERL_0_LETTER: [RuleRow; 60] = [
-    rule!(FirstByte, "__END__", Extent::ThroughLines(Escape::Never), "\0", &[], Comment, Turn::Stays),
-    rule!(FirstByte, "__DATA__", Extent::ThroughLines(Escape::Never), "\0", &[], Comment, Turn::Stays),
-    rule!(Apart, "qw(", Extent::ThroughLines(Escape::Backslash), ")", &[], Text, Turn::Stays),
-    rule!(Apart, "qw{", Extent::ThroughLines(Escape::Backslash), "}", &[], Text, Turn::Stays),
-    rule!(Apart, "qw[", Extent::ThroughLines(Escape::Backslash), "]", &[], Text, Turn::Stays),
-    rule!(Apart, "qw/", Extent::ThroughLines(Escape::Backslash), "/", &[], Text, Turn::Stays),
-    rule!(Apart, "qw|", Extent::ThroughLines(Escape::Backslash), "|", &[], Text, Turn::Stays),
-    rule!(Apart, "qw!", Extent::ThroughLines(Escape::Backslash), "!", &[], Text, Turn::Stays),
-    rule!(Apart, "qw<", Extent::ThroughLines(Escape::Backslash), ">", &[], Text, Turn::Stays),
-    rule!(Apart, "q(", Extent::ThroughLines(Escape::Backslash), ")", &[], Text, Turn::Stays),
-    rule!(Apart, "q{", Extent::ThroughLines(Escape::Backslash), "}", &[], Text, Turn::Stays),
-    rule!(Apart, "q[", Extent::ThroughLines(Escape::Backslash), "]", &[], Text, Turn::Stays),
-    rule!(Apart, "q/", Extent::ThroughLines(Escape::Backslash), "/", &[], Text, Turn::Stays),
-    rule!(Apart, "q|", Extent::ThroughLines(Escape::Backslash), "|", &[], Text, Turn::Stays),
-    rule!(Apart, "q!", Extent::ThroughLines(Escape::Backslash), "!", &[], Text, Turn::Stays),
-    rule!(Apart, "q<", Extent::ThroughLines(Escape::Backslash), ">", &[], Text, Turn::Stays),
-    rule!(Apart, "qq(", Extent::ThroughLines(Escape::Backslash), ")", &[], Text, Turn::Stays),
-    rule!(Apart, "qq{", Extent::ThroughLines(Escape::Backslash), "}", &[], Text, Turn::Stays),
-    rule!(Apart, "qq[", Extent::ThroughLines(Escape::Backslash), "]", &[], Text, Turn::Stays),
-    rule!(Apart, "qq/", Extent::ThroughLines(Escape::Backslash), "/", &[], Text, Turn::Stays),
-    rule!(Apart, "qq|", Extent::ThroughLines(Escape::Backslash), "|", &[], Text, Turn::Stays),
-    rule!(Apart, "qq!", Extent::ThroughLines(Escape::Backslash), "!", &[], Text, Turn::Stays),
-    rule!(Apart, "qq<", Extent::ThroughLines(Escape::Backslash), ">", &[], Text, Turn::Stays),
-    rule!(Apart, "qr(", Extent::ThroughLines(Escape::Backslash), ")", &[], Text, Turn::Stays),
-    rule!(Apart, "qr{", Extent::ThroughLines(Escape::Backslash), "}", &[], Text, Turn::Stays),
-    rule!(Apart, "qr[", Extent::ThroughLines(Escape::Backslash), "]", &[], Text, Turn::Stays),
-    rule!(Apart, "qr/", Extent::ThroughLines(Escape::Backslash), "/", &[], Text, Turn::Stays),
-    rule!(Apart, "qr|", Extent::ThroughLines(Escape::Backslash), "|", &[], Text, Turn::Stays),
-    rule!(Apart, "qr!", Extent::ThroughLines(Escape::Backslash), "!", &[], Text, Turn::Stays),
-    rule!(Apart, "qr<", Extent::ThroughLines(Escape::Backslash), ">", &[], Text, Turn::Stays),
-    rule!(Apart, "m(", Extent::ThroughLines(Escape::Backslash), ")", &[], Text, Turn::Stays),
-    rule!(Apart, "m{", Extent::ThroughLines(Escape::Backslash), "}", &[], Text, Turn::Stays),
-    rule!(Apart, "m[", Extent::ThroughLines(Escape::Backslash), "]", &[], Text, Turn::Stays),
-    rule!(Apart, "m/", Extent::ThroughLines(Escape::Backslash), "/", &[], Text, Turn::Stays),
-    rule!(Apart, "m|", Extent::ThroughLines(Escape::Backslash), "|", &[], Text, Turn::Stays),
-    rule!(Apart, "m!", Extent::ThroughLines(Escape::Backslash), "!", &[], Text, Turn::Stays),
-    rule!(Apart, "m<", Extent::ThroughLines(Escape::Backslash), ">", &[], Text, Turn::Stays),
-    rule!(Apart, "qw (", Extent::ThroughLines(Escape::Backslash), ")", &[], Text, Turn::Stays),
-    rule!(Apart, "qw {", Extent::ThroughLines(Escape::Backslash), "}", &[], Text, Turn::Stays),
-    rule!(Apart, "qw [", Extent::ThroughLines(Escape::Backslash), "]", &[], Text, Turn::Stays),
-    rule!(Apart, "qw /", Extent::ThroughLines(Escape::Backslash), "/", &[], Text, Turn::Stays),
-    rule!(Apart, "qw |", Extent::ThroughLines(Escape::Backslash), "|", &[], Text, Turn::Stays),
-    rule!(Apart, "qw !", Extent::ThroughLines(Escape::Backslash), "!", &[], Text, Turn::Stays),
-    rule!(Apart, "qw <", Extent::ThroughLines(Escape::Backslash), ">", &[], Text, Turn::Stays),
-    rule!(Apart, "s/", Extent::TwoParts, "/", &[], Text, Turn::Stays),
-    rule!(Apart, "s|", Extent::TwoParts, "|", &[], Text, Turn::Stays),
-    rule!(Apart, "s,", Extent::TwoParts, ",", &[], Text, Turn::Stays),
-    rule!(Apart, "s!", Extent::TwoParts, "!", &[], Text, Turn::Stays),
-    rule!(Apart, "s#", Extent::TwoParts, "#", &[], Text, Turn::Stays),
-    rule!(Apart, "tr/", Extent::TwoParts, "/", &[], Text, Turn::Stays),
-    rule!(Apart, "tr|", Extent::TwoParts, "|", &[], Text, Turn::Stays),
-    rule!(Apart, "tr,", Extent::TwoParts, ",", &[], Text, Turn::Stays),
-    rule!(Apart, "tr!", Extent::TwoParts, "!", &[], Text, Turn::Stays),
-    rule!(Apart, "tr#", Extent::TwoParts, "#", &[], Text, Turn::Stays),
-    rule!(Apart, "y/", Extent::TwoParts, "/", &[], Text, Turn::Stays),
-    rule!(Apart, "y|", Extent::TwoParts, "|", &[], Text, Turn::Stays),
-    rule!(Apart, "y,", Extent::TwoParts, ",", &[], Text, Turn::Stays),
-    rule!(Apart, "y!", Extent::TwoParts, "!", &[], Text, Turn::Stays),
-    rule!(Apart, "y#", Extent::TwoParts, "#", &[], Text, Turn::Stays),
-    rule!(Apart, "s{", Extent::Through(Escape::Backslash), "}", &[], Text, Turn::Stays),
-];
-
-#[rattlefmt::skip]
-static PERL_0_SIGN: [RuleRow; 28] = [
-    rule!(FirstByte, "#!", Extent::Line, "", &[], Comment, Turn::Stays),
-    rule!(FirstByte, "=head", Extent::ThroughLines(Escape::Never), "\n=cut", &[], Comment, Turn::Stays),
-    rule!(FirstByte, "=pod", Extent::ThroughLines(Escape::Never), "\n=cut", &[], Comment, Turn::Stays),
-    rule!(FirstByte, "=over", Extent::ThroughLines(Escape::Never), "\n=cut", &[], Comment, Turn::Stays),
-    rule!(FirstByte, "=item", Extent::ThroughLines(Escape::Never), "\n=cut", &[], Comment, Turn::Stays),
-    rule!(FirstByte, "=begin", Extent::ThroughLines(Escape::Never), "\n=cut", &[], Comment, Turn::Stays),
-    rule!(FirstByte, "=for", Extent::ThroughLines(Escape::Never), "\n=cut", &[], Comment, Turn::Stays),
-    rule!(FirstByte, "=encoding", Extent::ThroughLines(Escape::Never), "\n=cut", &[], Comment, Turn::Stays),
-    rule!(FirstByte, "=cut", Extent::ThroughLines(Escape::Never), "\n=cut", &[], Comment, Turn::Stays),
-    rule!(FirstByte, "=back", Extent::ThroughLines(Escape::Never), "\n=cut", &[], Comment, Turn::Stays),
-    rule!(Anywhere, "$#", Extent::Word, "", &[], Key, Turn::Stays),
-    rule!(Anywhere, "#", Extent::Line, "", &[], Comment, Turn::Stays),
-    rule!(Anywhere, "<<", Extent::Labelled(true), "", &[], Text, Turn::Stays),
-    rule!(Anywhere, "\"", Extent::ThroughLines(Escape::Backslash), "\"", &[], Text, Turn::Stays),
-    rule!(Anywhere, "'", Extent::ThroughLines(Escape::Backslash), "'", &[], Text, Turn::Stays),
-    rule!(Value, "/", Extent::Through(Escape::Backslash), "/", &[], Text, Turn::Stays),
-    rule!(Anywhere, "$", Extent::Word, "", &[], Key, Turn::Stays),
-    rule!(Anywhere, "@", Extent::Word, "", &[], Key, Turn::Stays),
-    rule!(Apart, "%", Extent::Word, "", &[], Key, Turn::Stays),
-    rule!(Anywhere, "$&", Extent::Itself, "", &[], Key, Turn::Stays),
-    rule!(Anywhere, "$@", Extent::Itself, "", &[], Key, Turn::Stays),
-    rule!(Anywhere, "$!", Extent::Itself, "", &[], Key, Turn::Stays),
-    rule!(Anywhere, "$/", Extent::Itself, "", &[], Key, Turn::Stays),
-    rule!(Anywhere, "$\\", Extent::Itself, "", &[], Key, Turn::Stays),
-    rule!(Anywhere, "$,", Extent::Itself, "", &[], Key, Turn::Stays),
-    rule!(Anywhere, "$;", Extent::Itself, "", &[], Key, Turn::Stays),
-    rule!(Anywhere, "$.", Extent::Itself, "", &[], Key, Turn::Stays),
-    rule!(Anywhere, "$", Extent::Itself, "", &[], Key, Turn::Stays),
-];
-
-fn lua_rules(_n: usize, kind: Kind) -> &'static [RuleRow]
-    ensures { map rule_of result.now ≡ filter (may_begin kind) (lua_rules _n) }
-{
-    lua_rules_0(kind)
-}
 
 fn lua_mode(_n: usize) -> ModeRow
-    ensures { mode_of result ≡ lua_mode _n }
+    ensures words { mode_of result ≡ lua_mode _n }
+    ensures rules { heads_in result ≡ by_head (lua_rules _n) }
 {
     lua_0()
 }
 
+#[tactic(auto, unfolding(crate::specs::Heads::by_head))]
 fn lua_0() -> ModeRow
-    ensures { mode_of result ≡ lua_0 }
+    ensures words { mode_of result ≡ lua_0 }
+    ensures rules { heads_in result ≡ by_head lua_rules_0 }
 {
     ModeRow {
+        places: "0000000000000000000000000000000000300004000001000000000000000000000000000000000000000000000200000000000000000000000000000000000000000000000000000000000000000000000000000000000000000000000000000000000000000000000000000000000000000000000000000000000000000000",
+        rules: &LUA_0_RULES,
         words: Words::LuaWords,
         starts: "",
         more: "",
@@ -3407,53 +3295,43 @@ fn lua_0() -> ModeRow
     }
 }
 
-fn lua_rules_0(kind: Kind) -> &'static [RuleRow]
-    ensures { map rule_of result.now ≡ filter (may_begin kind) lua_rules_0 }
-{
-    match kind {
-        Kind::Blank => &LUA_0_BLANK,
-        Kind::Letter => &LUA_0_LETTER,
-        Kind::Sign => &LUA_0_SIGN,
-    }
-}
-
 #[rattlefmt::skip]
-static LUA_0_BLANK: [RuleRow; 0] = [
+static LUA_0_RULES: [&[RuleRow]; 5] = [
+    &[],
+    &[
+        rule!(Anywhere, "--[[", Extent::ThroughLines(Escape::Never), "]]", &[], Comment, Turn::Stays),
+        rule!(Anywhere, "--[=[", Extent::ThroughLines(Escape::Never), "]=]", &[], Comment, Turn::Stays),
+        rule!(Anywhere, "--[==[", Extent::ThroughLines(Escape::Never), "]==]", &[], Comment, Turn::Stays),
+        rule!(Anywhere, "--", Extent::Line, "", &[], Comment, Turn::Stays),
+    ],
+    &[
+        rule!(Anywhere, "[[", Extent::ThroughLines(Escape::Never), "]]", &[], Text, Turn::Stays),
+        rule!(Anywhere, "[=[", Extent::ThroughLines(Escape::Never), "]=]", &[], Text, Turn::Stays),
+        rule!(Anywhere, "[==[", Extent::ThroughLines(Escape::Never), "]==]", &[], Text, Turn::Stays),
+    ],
+    &[
+        rule!(Anywhere, "\"", Extent::Through(Escape::Backslash), "\"", &[], Text, Turn::Stays),
+    ],
+    &[
+        rule!(Anywhere, "'", Extent::Through(Escape::Backslash), "'", &[], Text, Turn::Stays),
+    ],
 ];
-
-#[rattlefmt::skip]
-static LUA_0_LETTER: [RuleRow; 0] = [
-];
-
-#[rattlefmt::skip]
-static LUA_0_SIGN: [RuleRow; 9] = [
-    rule!(Anywhere, "--[[", Extent::ThroughLines(Escape::Never), "]]", &[], Comment, Turn::Stays),
-    rule!(Anywhere, "--[=[", Extent::ThroughLines(Escape::Never), "]=]", &[], Comment, Turn::Stays),
-    rule!(Anywhere, "--[==[", Extent::ThroughLines(Escape::Never), "]==]", &[], Comment, Turn::Stays),
-    rule!(Anywhere, "--", Extent::Line, "", &[], Comment, Turn::Stays),
-    rule!(Anywhere, "[[", Extent::ThroughLines(Escape::Never), "]]", &[], Text, Turn::Stays),
-    rule!(Anywhere, "[=[", Extent::ThroughLines(Escape::Never), "]=]", &[], Text, Turn::Stays),
-    rule!(Anywhere, "[==[", Extent::ThroughLines(Escape::Never), "]==]", &[], Text, Turn::Stays),
-    rule!(Anywhere, "\"", Extent::Through(Escape::Backslash), "\"", &[], Text, Turn::Stays),
-    rule!(Anywhere, "'", Extent::Through(Escape::Backslash), "'", &[], Text, Turn::Stays),
-];
-
-fn sql_rules(_n: usize, kind: Kind) -> &'static [RuleRow]
-    ensures { map rule_of result.now ≡ filter (may_begin kind) (sql_rules _n) }
-{
-    sql_rules_0(kind)
-}
 
 fn sql_mode(_n: usize) -> ModeRow
-    ensures { mode_of result ≡ sql_mode _n }
+    ensures words { mode_of result ≡ sql_mode _n }
+    ensures rules { heads_in result ≡ by_head (sql_rules _n) }
 {
     sql_0()
 }
 
+#[tactic(auto, unfolding(crate::specs::Heads::by_head))]
 fn sql_0() -> ModeRow
-    ensures { mode_of result ≡ sql_0 }
+    ensures words { mode_of result ≡ sql_0 }
+    ensures rules { heads_in result ≡ by_head sql_rules_0 }
 {
     ModeRow {
+        places: "0000000000000000000000000000000000450003000001020000000000000000000000000000000000000000000000000000000000000000000000000000000000000000000000000000000000000000000000000000000000000000000000000000000000000000000000000000000000000000000000000000000000000000",
+        rules: &SQL_0_RULES,
         words: Words::SqlWords,
         starts: "",
         more: "",
@@ -3465,46 +3343,29 @@ fn sql_0() -> ModeRow
     }
 }
 
-fn sql_rules_0(kind: Kind) -> &'static [RuleRow]
-    ensures { map rule_of result.now ≡ filter (may_begin kind) sql_rules_0 }
-{
-    match kind {
-        Kind::Blank => &SQL_0_BLANK,
-        Kind::Letter => &SQL_0_LETTER,
-        Kind::Sign => &SQL_0_SIGN,
-    }
-}
-
 #[rattlefmt::skip]
-static SQL_0_BLANK: [RuleRow; 0] = [
+static SQL_0_RULES: [&[RuleRow]; 6] = [
+    &[],
+    &[
+        rule!(Anywhere, "--", Extent::Line, "", &[], Comment, Turn::Stays),
+    ],
+    &[
+        rule!(Anywhere, "/*", Extent::ThroughLines(Escape::Never), "*/", &[], Comment, Turn::Stays),
+    ],
+    &[
+        rule!(Anywhere, "'", Extent::ThroughLines(Escape::Doubled), "'", &[], Text, Turn::Stays),
+    ],
+    &[
+        rule!(Anywhere, "\"", Extent::ThroughLines(Escape::Doubled), "\"", &[], Text, Turn::Stays),
+    ],
+    &[
+        rule!(FirstWord, "#", Extent::Line, "", &[], Comment, Turn::Stays),
+    ],
 ];
-
-#[rattlefmt::skip]
-static SQL_0_LETTER: [RuleRow; 0] = [
-];
-
-#[rattlefmt::skip]
-static SQL_0_SIGN: [RuleRow; 5] = [
-    rule!(Anywhere, "--", Extent::Line, "", &[], Comment, Turn::Stays),
-    rule!(Anywhere, "/*", Extent::ThroughLines(Escape::Never), "*/", &[], Comment, Turn::Stays),
-    rule!(Anywhere, "'", Extent::ThroughLines(Escape::Doubled), "'", &[], Text, Turn::Stays),
-    rule!(Anywhere, "\"", Extent::ThroughLines(Escape::Doubled), "\"", &[], Text, Turn::Stays),
-    rule!(FirstWord, "#", Extent::Line, "", &[], Comment, Turn::Stays),
-];
-
-fn make_rules(n: usize, kind: Kind) -> &'static [RuleRow]
-    ensures { map rule_of result.now ≡ filter (may_begin kind) (make_rules n) }
-{
-    match n {
-        1 => make_rules_1(kind),
-        2 => make_rules_2(kind),
-        3 => make_rules_3(kind),
-        _ => make_rules_0(kind),
-    }
-}
 
 fn make_mode(n: usize) -> ModeRow
-    ensures { mode_of result ≡ make_mode n }
+    ensures words { mode_of result ≡ make_mode n }
+    ensures rules { heads_in result ≡ by_head (make_rules n) }
 {
     match n {
         1 => make_1(),
@@ -3514,10 +3375,14 @@ fn make_mode(n: usize) -> ModeRow
     }
 }
 
+#[tactic(auto, unfolding(crate::specs::Heads::by_head))]
 fn make_0() -> ModeRow
-    ensures { mode_of result ≡ make_0 }
+    ensures words { mode_of result ≡ make_0 }
+    ensures rules { heads_in result ≡ by_head make_rules_0 }
 {
     ModeRow {
+        places: "0000000002000000000000000000000000817009000005000000000000000000000000000000000000000000000000000000030004000000000600000000000000000000000000000000000000000000000000000000000000000000000000000000000000000000000000000000000000000000000000000000000000000000",
+        rules: &MAKE_0_RULES,
         words: Words::MakeWords,
         starts: "",
         more: "-",
@@ -3529,67 +3394,81 @@ fn make_0() -> ModeRow
     }
 }
 
-fn make_rules_0(kind: Kind) -> &'static [RuleRow]
-    ensures { map rule_of result.now ≡ filter (may_begin kind) make_rules_0 }
-{
-    match kind {
-        Kind::Blank => &MAKE_0_BLANK,
-        Kind::Letter => &MAKE_0_LETTER,
-        Kind::Sign => &MAKE_0_SIGN,
-    }
-}
-
 #[rattlefmt::skip]
-static MAKE_0_BLANK: [RuleRow; 1] = [
-    rule!(FirstByte, "\t", Extent::Itself, "", &[], Plain, Turn::Enters(1)),
+static MAKE_0_RULES: [&[RuleRow]; 10] = [
+    &[
+        rule!(FirstByte, "", Extent::UpTo, ":=#$\t ?+\"'", &["=", ":=", "?=", "+=", "::="], Key, Turn::Stays),
+    ],
+    &[
+        rule!(Anywhere, "#", Extent::Line, "", &[], Comment, Turn::Stays),
+        rule!(FirstByte, "", Extent::UpTo, ":=#$\t ?+\"'", &["=", ":=", "?=", "+=", "::="], Key, Turn::Stays),
+    ],
+    &[
+        rule!(FirstByte, "\t", Extent::Itself, "", &[], Plain, Turn::Enters(1)),
+        rule!(FirstByte, "", Extent::UpTo, ":=#$\t ?+\"'", &["=", ":=", "?=", "+=", "::="], Key, Turn::Stays),
+    ],
+    &[
+        rule!(FirstWord, "else ", Extent::Line, "", &[], Keyword, Turn::Stays),
+        rule!(FirstWord, "endif ", Extent::Line, "", &[], Keyword, Turn::Stays),
+        rule!(FirstByte, "", Extent::UpTo, ":=#$\t ?+\"'", &["=", ":=", "?=", "+=", "::="], Key, Turn::Stays),
+    ],
+    &[
+        rule!(FirstWord, "ifeq ", Extent::Line, "", &[], Keyword, Turn::Stays),
+        rule!(FirstWord, "ifneq ", Extent::Line, "", &[], Keyword, Turn::Stays),
+        rule!(FirstWord, "ifdef ", Extent::Line, "", &[], Keyword, Turn::Stays),
+        rule!(FirstWord, "ifndef ", Extent::Line, "", &[], Keyword, Turn::Stays),
+        rule!(FirstWord, "include ", Extent::Line, "", &[], Keyword, Turn::Stays),
+        rule!(FirstByte, "", Extent::UpTo, ":=#$\t ?+\"'", &["=", ":=", "?=", "+=", "::="], Key, Turn::Stays),
+    ],
+    &[
+        rule!(FirstWord, "-include ", Extent::Line, "", &[], Keyword, Turn::Stays),
+        rule!(FirstByte, "", Extent::UpTo, ":=#$\t ?+\"'", &["=", ":=", "?=", "+=", "::="], Key, Turn::Stays),
+    ],
+    &[
+        rule!(FirstWord, "sinclude ", Extent::Line, "", &[], Keyword, Turn::Stays),
+        rule!(FirstByte, "", Extent::UpTo, ":=#$\t ?+\"'", &["=", ":=", "?=", "+=", "::="], Key, Turn::Stays),
+    ],
+    &[
+        rule!(FirstByte, "", Extent::UpTo, ":=#$\t ?+\"'", &["=", ":=", "?=", "+=", "::="], Key, Turn::Stays),
+        rule!(Anywhere, "$(", Extent::Itself, "", &[], Key, Turn::Enters(2)),
+        rule!(Anywhere, "${", Extent::Through(Escape::Never), "}", &[], Key, Turn::Stays),
+        rule!(Anywhere, "$@", Extent::Itself, "", &[], Key, Turn::Stays),
+        rule!(Anywhere, "$<", Extent::Itself, "", &[], Key, Turn::Stays),
+        rule!(Anywhere, "$^", Extent::Itself, "", &[], Key, Turn::Stays),
+        rule!(Anywhere, "$*", Extent::Itself, "", &[], Key, Turn::Stays),
+        rule!(Anywhere, "$+", Extent::Itself, "", &[], Key, Turn::Stays),
+        rule!(Anywhere, "$?", Extent::Itself, "", &[], Key, Turn::Stays),
+        rule!(Anywhere, "$%", Extent::Itself, "", &[], Key, Turn::Stays),
+        rule!(Anywhere, "$$", Extent::Itself, "", &[], Key, Turn::Stays),
+        rule!(Anywhere, "$1", Extent::Itself, "", &[], Key, Turn::Stays),
+        rule!(Anywhere, "$2", Extent::Itself, "", &[], Key, Turn::Stays),
+        rule!(Anywhere, "$3", Extent::Itself, "", &[], Key, Turn::Stays),
+        rule!(Anywhere, "$4", Extent::Itself, "", &[], Key, Turn::Stays),
+        rule!(Anywhere, "$5", Extent::Itself, "", &[], Key, Turn::Stays),
+        rule!(Anywhere, "$6", Extent::Itself, "", &[], Key, Turn::Stays),
+        rule!(Anywhere, "$7", Extent::Itself, "", &[], Key, Turn::Stays),
+        rule!(Anywhere, "$8", Extent::Itself, "", &[], Key, Turn::Stays),
+        rule!(Anywhere, "$9", Extent::Itself, "", &[], Key, Turn::Stays),
+        rule!(Anywhere, "$0", Extent::Itself, "", &[], Key, Turn::Stays),
+    ],
+    &[
+        rule!(FirstByte, "", Extent::UpTo, ":=#$\t ?+\"'", &["=", ":=", "?=", "+=", "::="], Key, Turn::Stays),
+        rule!(Anywhere, "\"", Extent::Through(Escape::Backslash), "\"", &[], Text, Turn::Stays),
+    ],
+    &[
+        rule!(FirstByte, "", Extent::UpTo, ":=#$\t ?+\"'", &["=", ":=", "?=", "+=", "::="], Key, Turn::Stays),
+        rule!(Anywhere, "'", Extent::Through(Escape::Backslash), "'", &[], Text, Turn::Stays),
+    ],
 ];
 
-#[rattlefmt::skip]
-static MAKE_0_LETTER: [RuleRow; 9] = [
-    rule!(FirstWord, "ifeq ", Extent::Line, "", &[], Keyword, Turn::Stays),
-    rule!(FirstWord, "ifneq ", Extent::Line, "", &[], Keyword, Turn::Stays),
-    rule!(FirstWord, "ifdef ", Extent::Line, "", &[], Keyword, Turn::Stays),
-    rule!(FirstWord, "ifndef ", Extent::Line, "", &[], Keyword, Turn::Stays),
-    rule!(FirstWord, "else ", Extent::Line, "", &[], Keyword, Turn::Stays),
-    rule!(FirstWord, "endif ", Extent::Line, "", &[], Keyword, Turn::Stays),
-    rule!(FirstWord, "include ", Extent::Line, "", &[], Keyword, Turn::Stays),
-    rule!(FirstWord, "sinclude ", Extent::Line, "", &[], Keyword, Turn::Stays),
-    rule!(FirstByte, "", Extent::UpTo, ":=#$\t ?+\"'", &["=", ":=", "?=", "+=", "::="], Key, Turn::Stays),
-];
-
-#[rattlefmt::skip]
-static MAKE_0_SIGN: [RuleRow; 25] = [
-    rule!(Anywhere, "#", Extent::Line, "", &[], Comment, Turn::Stays),
-    rule!(FirstWord, "-include ", Extent::Line, "", &[], Keyword, Turn::Stays),
-    rule!(FirstByte, "", Extent::UpTo, ":=#$\t ?+\"'", &["=", ":=", "?=", "+=", "::="], Key, Turn::Stays),
-    rule!(Anywhere, "$(", Extent::Itself, "", &[], Key, Turn::Enters(2)),
-    rule!(Anywhere, "${", Extent::Through(Escape::Never), "}", &[], Key, Turn::Stays),
-    rule!(Anywhere, "$@", Extent::Itself, "", &[], Key, Turn::Stays),
-    rule!(Anywhere, "$<", Extent::Itself, "", &[], Key, Turn::Stays),
-    rule!(Anywhere, "$^", Extent::Itself, "", &[], Key, Turn::Stays),
-    rule!(Anywhere, "$*", Extent::Itself, "", &[], Key, Turn::Stays),
-    rule!(Anywhere, "$+", Extent::Itself, "", &[], Key, Turn::Stays),
-    rule!(Anywhere, "$?", Extent::Itself, "", &[], Key, Turn::Stays),
-    rule!(Anywhere, "$%", Extent::Itself, "", &[], Key, Turn::Stays),
-    rule!(Anywhere, "$$", Extent::Itself, "", &[], Key, Turn::Stays),
-    rule!(Anywhere, "$1", Extent::Itself, "", &[], Key, Turn::Stays),
-    rule!(Anywhere, "$2", Extent::Itself, "", &[], Key, Turn::Stays),
-    rule!(Anywhere, "$3", Extent::Itself, "", &[], Key, Turn::Stays),
-    rule!(Anywhere, "$4", Extent::Itself, "", &[], Key, Turn::Stays),
-    rule!(Anywhere, "$5", Extent::Itself, "", &[], Key, Turn::Stays),
-    rule!(Anywhere, "$6", Extent::Itself, "", &[], Key, Turn::Stays),
-    rule!(Anywhere, "$7", Extent::Itself, "", &[], Key, Turn::Stays),
-    rule!(Anywhere, "$8", Extent::Itself, "", &[], Key, Turn::Stays),
-    rule!(Anywhere, "$9", Extent::Itself, "", &[], Key, Turn::Stays),
-    rule!(Anywhere, "$0", Extent::Itself, "", &[], Key, Turn::Stays),
-    rule!(Anywhere, "\"", Extent::Through(Escape::Backslash), "\"", &[], Text, Turn::Stays),
-    rule!(Anywhere, "'", Extent::Through(Escape::Backslash), "'", &[], Text, Turn::Stays),
-];
-
+#[tactic(auto, unfolding(crate::specs::Heads::by_head))]
 fn make_1() -> ModeRow
-    ensures { mode_of result ≡ make_1 }
+    ensures words { mode_of result ≡ make_1 }
+    ensures rules { heads_in result ≡ by_head make_rules_1 }
 {
     ModeRow {
+        places: "0000000000100000000000000000000000432005000000000000000000000000000000000000000000000000000060000000000000000000000000000000000000000000000000000000000000000000000000000000000000000000000000000000000000000000000000000000000000000000000000000000000000000000",
+        rules: &MAKE_1_RULES,
         words: Words::ShWords,
         starts: "",
         more: "",
@@ -3601,58 +3480,57 @@ fn make_1() -> ModeRow
     }
 }
 
-fn make_rules_1(kind: Kind) -> &'static [RuleRow]
-    ensures { map rule_of result.now ≡ filter (may_begin kind) make_rules_1 }
-{
-    match kind {
-        Kind::Blank => &MAKE_1_BLANK,
-        Kind::Letter => &MAKE_1_LETTER,
-        Kind::Sign => &MAKE_1_SIGN,
-    }
-}
-
 #[rattlefmt::skip]
-static MAKE_1_BLANK: [RuleRow; 1] = [
-    rule!(Anywhere, "\n", Extent::Itself, "", &[], Plain, Turn::Leaves),
+static MAKE_1_RULES: [&[RuleRow]; 7] = [
+    &[],
+    &[
+        rule!(Anywhere, "\n", Extent::Itself, "", &[], Plain, Turn::Leaves),
+    ],
+    &[
+        rule!(Anywhere, "$(", Extent::Itself, "", &[], Key, Turn::Enters(2)),
+        rule!(Anywhere, "${", Extent::Through(Escape::Never), "}", &[], Key, Turn::Stays),
+        rule!(Anywhere, "$@", Extent::Itself, "", &[], Key, Turn::Stays),
+        rule!(Anywhere, "$<", Extent::Itself, "", &[], Key, Turn::Stays),
+        rule!(Anywhere, "$^", Extent::Itself, "", &[], Key, Turn::Stays),
+        rule!(Anywhere, "$*", Extent::Itself, "", &[], Key, Turn::Stays),
+        rule!(Anywhere, "$+", Extent::Itself, "", &[], Key, Turn::Stays),
+        rule!(Anywhere, "$?", Extent::Itself, "", &[], Key, Turn::Stays),
+        rule!(Anywhere, "$%", Extent::Itself, "", &[], Key, Turn::Stays),
+        rule!(Anywhere, "$$", Extent::Itself, "", &[], Key, Turn::Stays),
+        rule!(Anywhere, "$1", Extent::Itself, "", &[], Key, Turn::Stays),
+        rule!(Anywhere, "$2", Extent::Itself, "", &[], Key, Turn::Stays),
+        rule!(Anywhere, "$3", Extent::Itself, "", &[], Key, Turn::Stays),
+        rule!(Anywhere, "$4", Extent::Itself, "", &[], Key, Turn::Stays),
+        rule!(Anywhere, "$5", Extent::Itself, "", &[], Key, Turn::Stays),
+        rule!(Anywhere, "$6", Extent::Itself, "", &[], Key, Turn::Stays),
+        rule!(Anywhere, "$7", Extent::Itself, "", &[], Key, Turn::Stays),
+        rule!(Anywhere, "$8", Extent::Itself, "", &[], Key, Turn::Stays),
+        rule!(Anywhere, "$9", Extent::Itself, "", &[], Key, Turn::Stays),
+        rule!(Anywhere, "$0", Extent::Itself, "", &[], Key, Turn::Stays),
+    ],
+    &[
+        rule!(Apart, "#", Extent::Line, "", &[], Comment, Turn::Stays),
+    ],
+    &[
+        rule!(Anywhere, "\"", Extent::Through(Escape::Backslash), "\"", &[], Text, Turn::Stays),
+    ],
+    &[
+        rule!(Anywhere, "'", Extent::Through(Escape::Backslash), "'", &[], Text, Turn::Stays),
+    ],
+    &[
+        rule!(Anywhere, "\\\n", Extent::Itself, "", &[], Text, Turn::Stays),
+        rule!(Anywhere, "\\", Extent::OneMore, "", &[], Text, Turn::Stays),
+    ],
 ];
 
-#[rattlefmt::skip]
-static MAKE_1_LETTER: [RuleRow; 0] = [
-];
-
-#[rattlefmt::skip]
-static MAKE_1_SIGN: [RuleRow; 25] = [
-    rule!(Anywhere, "\\\n", Extent::Itself, "", &[], Text, Turn::Stays),
-    rule!(Anywhere, "$(", Extent::Itself, "", &[], Key, Turn::Enters(2)),
-    rule!(Anywhere, "${", Extent::Through(Escape::Never), "}", &[], Key, Turn::Stays),
-    rule!(Anywhere, "$@", Extent::Itself, "", &[], Key, Turn::Stays),
-    rule!(Anywhere, "$<", Extent::Itself, "", &[], Key, Turn::Stays),
-    rule!(Anywhere, "$^", Extent::Itself, "", &[], Key, Turn::Stays),
-    rule!(Anywhere, "$*", Extent::Itself, "", &[], Key, Turn::Stays),
-    rule!(Anywhere, "$+", Extent::Itself, "", &[], Key, Turn::Stays),
-    rule!(Anywhere, "$?", Extent::Itself, "", &[], Key, Turn::Stays),
-    rule!(Anywhere, "$%", Extent::Itself, "", &[], Key, Turn::Stays),
-    rule!(Anywhere, "$$", Extent::Itself, "", &[], Key, Turn::Stays),
-    rule!(Anywhere, "$1", Extent::Itself, "", &[], Key, Turn::Stays),
-    rule!(Anywhere, "$2", Extent::Itself, "", &[], Key, Turn::Stays),
-    rule!(Anywhere, "$3", Extent::Itself, "", &[], Key, Turn::Stays),
-    rule!(Anywhere, "$4", Extent::Itself, "", &[], Key, Turn::Stays),
-    rule!(Anywhere, "$5", Extent::Itself, "", &[], Key, Turn::Stays),
-    rule!(Anywhere, "$6", Extent::Itself, "", &[], Key, Turn::Stays),
-    rule!(Anywhere, "$7", Extent::Itself, "", &[], Key, Turn::Stays),
-    rule!(Anywhere, "$8", Extent::Itself, "", &[], Key, Turn::Stays),
-    rule!(Anywhere, "$9", Extent::Itself, "", &[], Key, Turn::Stays),
-    rule!(Anywhere, "$0", Extent::Itself, "", &[], Key, Turn::Stays),
-    rule!(Apart, "#", Extent::Line, "", &[], Comment, Turn::Stays),
-    rule!(Anywhere, "\"", Extent::Through(Escape::Backslash), "\"", &[], Text, Turn::Stays),
-    rule!(Anywhere, "'", Extent::Through(Escape::Backslash), "'", &[], Text, Turn::Stays),
-    rule!(Anywhere, "\\", Extent::OneMore, "", &[], Text, Turn::Stays),
-];
-
+#[tactic(auto, unfolding(crate::specs::Heads::by_head))]
 fn make_2() -> ModeRow
-    ensures { mode_of result ≡ make_2 }
+    ensures words { mode_of result ≡ make_2 }
+    ensures rules { heads_in result ≡ by_head make_rules_2 }
 {
     ModeRow {
+        places: "0000000000000000000000000000000000003004210000000000000000000000000000000000000000000000000000000000000000000000000000000000000000000000000000000000000000000000000000000000000000000000000000000000000000000000000000000000000000000000000000000000000000000000",
+        rules: &MAKE_2_RULES,
         words: Words::MakeWords21,
         starts: "",
         more: "-",
@@ -3664,57 +3542,56 @@ fn make_2() -> ModeRow
     }
 }
 
-fn make_rules_2(kind: Kind) -> &'static [RuleRow]
-    ensures { map rule_of result.now ≡ filter (may_begin kind) make_rules_2 }
-{
-    match kind {
-        Kind::Blank => &MAKE_2_BLANK,
-        Kind::Letter => &MAKE_2_LETTER,
-        Kind::Sign => &MAKE_2_SIGN,
-    }
-}
-
 #[rattlefmt::skip]
-static MAKE_2_BLANK: [RuleRow; 0] = [
+static MAKE_2_RULES: [&[RuleRow]; 5] = [
+    &[
+        rule!(Anywhere, "", Extent::Word, "", &[")", ":"], Key, Turn::Stays),
+    ],
+    &[
+        rule!(Anywhere, ")", Extent::Itself, "", &[], Key, Turn::Leaves),
+        rule!(Anywhere, "", Extent::Word, "", &[")", ":"], Key, Turn::Stays),
+    ],
+    &[
+        rule!(Anywhere, "(", Extent::Itself, "", &[], Plain, Turn::Enters(3)),
+        rule!(Anywhere, "", Extent::Word, "", &[")", ":"], Key, Turn::Stays),
+    ],
+    &[
+        rule!(Anywhere, "$(", Extent::Itself, "", &[], Key, Turn::Enters(2)),
+        rule!(Anywhere, "${", Extent::Through(Escape::Never), "}", &[], Key, Turn::Stays),
+        rule!(Anywhere, "$@", Extent::Itself, "", &[], Key, Turn::Stays),
+        rule!(Anywhere, "$<", Extent::Itself, "", &[], Key, Turn::Stays),
+        rule!(Anywhere, "$^", Extent::Itself, "", &[], Key, Turn::Stays),
+        rule!(Anywhere, "$*", Extent::Itself, "", &[], Key, Turn::Stays),
+        rule!(Anywhere, "$+", Extent::Itself, "", &[], Key, Turn::Stays),
+        rule!(Anywhere, "$?", Extent::Itself, "", &[], Key, Turn::Stays),
+        rule!(Anywhere, "$%", Extent::Itself, "", &[], Key, Turn::Stays),
+        rule!(Anywhere, "$$", Extent::Itself, "", &[], Key, Turn::Stays),
+        rule!(Anywhere, "$1", Extent::Itself, "", &[], Key, Turn::Stays),
+        rule!(Anywhere, "$2", Extent::Itself, "", &[], Key, Turn::Stays),
+        rule!(Anywhere, "$3", Extent::Itself, "", &[], Key, Turn::Stays),
+        rule!(Anywhere, "$4", Extent::Itself, "", &[], Key, Turn::Stays),
+        rule!(Anywhere, "$5", Extent::Itself, "", &[], Key, Turn::Stays),
+        rule!(Anywhere, "$6", Extent::Itself, "", &[], Key, Turn::Stays),
+        rule!(Anywhere, "$7", Extent::Itself, "", &[], Key, Turn::Stays),
+        rule!(Anywhere, "$8", Extent::Itself, "", &[], Key, Turn::Stays),
+        rule!(Anywhere, "$9", Extent::Itself, "", &[], Key, Turn::Stays),
+        rule!(Anywhere, "$0", Extent::Itself, "", &[], Key, Turn::Stays),
+        rule!(Anywhere, "", Extent::Word, "", &[")", ":"], Key, Turn::Stays),
+    ],
+    &[
+        rule!(Anywhere, "", Extent::Word, "", &[")", ":"], Key, Turn::Stays),
+        rule!(Anywhere, "'", Extent::Through(Escape::Backslash), "'", &[], Text, Turn::Stays),
+    ],
 ];
 
-#[rattlefmt::skip]
-static MAKE_2_LETTER: [RuleRow; 1] = [
-    rule!(Anywhere, "", Extent::Word, "", &[")", ":"], Key, Turn::Stays),
-];
-
-#[rattlefmt::skip]
-static MAKE_2_SIGN: [RuleRow; 24] = [
-    rule!(Anywhere, ")", Extent::Itself, "", &[], Key, Turn::Leaves),
-    rule!(Anywhere, "(", Extent::Itself, "", &[], Plain, Turn::Enters(3)),
-    rule!(Anywhere, "$(", Extent::Itself, "", &[], Key, Turn::Enters(2)),
-    rule!(Anywhere, "${", Extent::Through(Escape::Never), "}", &[], Key, Turn::Stays),
-    rule!(Anywhere, "$@", Extent::Itself, "", &[], Key, Turn::Stays),
-    rule!(Anywhere, "$<", Extent::Itself, "", &[], Key, Turn::Stays),
-    rule!(Anywhere, "$^", Extent::Itself, "", &[], Key, Turn::Stays),
-    rule!(Anywhere, "$*", Extent::Itself, "", &[], Key, Turn::Stays),
-    rule!(Anywhere, "$+", Extent::Itself, "", &[], Key, Turn::Stays),
-    rule!(Anywhere, "$?", Extent::Itself, "", &[], Key, Turn::Stays),
-    rule!(Anywhere, "$%", Extent::Itself, "", &[], Key, Turn::Stays),
-    rule!(Anywhere, "$$", Extent::Itself, "", &[], Key, Turn::Stays),
-    rule!(Anywhere, "$1", Extent::Itself, "", &[], Key, Turn::Stays),
-    rule!(Anywhere, "$2", Extent::Itself, "", &[], Key, Turn::Stays),
-    rule!(Anywhere, "$3", Extent::Itself, "", &[], Key, Turn::Stays),
-    rule!(Anywhere, "$4", Extent::Itself, "", &[], Key, Turn::Stays),
-    rule!(Anywhere, "$5", Extent::Itself, "", &[], Key, Turn::Stays),
-    rule!(Anywhere, "$6", Extent::Itself, "", &[], Key, Turn::Stays),
-    rule!(Anywhere, "$7", Extent::Itself, "", &[], Key, Turn::Stays),
-    rule!(Anywhere, "$8", Extent::Itself, "", &[], Key, Turn::Stays),
-    rule!(Anywhere, "$9", Extent::Itself, "", &[], Key, Turn::Stays),
-    rule!(Anywhere, "$0", Extent::Itself, "", &[], Key, Turn::Stays),
-    rule!(Anywhere, "", Extent::Word, "", &[")", ":"], Key, Turn::Stays),
-    rule!(Anywhere, "'", Extent::Through(Escape::Backslash), "'", &[], Text, Turn::Stays),
-];
-
+#[tactic(auto, unfolding(crate::specs::Heads::by_head))]
 fn make_3() -> ModeRow
-    ensures { mode_of result ≡ make_3 }
+    ensures words { mode_of result ≡ make_3 }
+    ensures rules { heads_in result ≡ by_head make_rules_3 }
 {
     ModeRow {
+        places: "0000000000000000000000000000000000003000210000000000000000000000000000000000000000000000000000000000000000000000000000000000000000000000000000000000000000000000000000000000000000000000000000000000000000000000000000000000000000000000000000000000000000000000",
+        rules: &MAKE_3_RULES,
         words: Words::NoWords,
         starts: "",
         more: "-",
@@ -3726,63 +3603,42 @@ fn make_3() -> ModeRow
     }
 }
 
-fn make_rules_3(kind: Kind) -> &'static [RuleRow]
-    ensures { map rule_of result.now ≡ filter (may_begin kind) make_rules_3 }
-{
-    match kind {
-        Kind::Blank => &MAKE_3_BLANK,
-        Kind::Letter => &MAKE_3_LETTER,
-        Kind::Sign => &MAKE_3_SIGN,
-    }
-}
-
 #[rattlefmt::skip]
-static MAKE_3_BLANK: [RuleRow; 0] = [
+static MAKE_3_RULES: [&[RuleRow]; 4] = [
+    &[],
+    &[
+        rule!(Anywhere, ")", Extent::Itself, "", &[], Plain, Turn::Leaves),
+    ],
+    &[
+        rule!(Anywhere, "(", Extent::Itself, "", &[], Plain, Turn::Enters(3)),
+    ],
+    &[
+        rule!(Anywhere, "$(", Extent::Itself, "", &[], Key, Turn::Enters(2)),
+        rule!(Anywhere, "${", Extent::Through(Escape::Never), "}", &[], Key, Turn::Stays),
+        rule!(Anywhere, "$@", Extent::Itself, "", &[], Key, Turn::Stays),
+        rule!(Anywhere, "$<", Extent::Itself, "", &[], Key, Turn::Stays),
+        rule!(Anywhere, "$^", Extent::Itself, "", &[], Key, Turn::Stays),
+        rule!(Anywhere, "$*", Extent::Itself, "", &[], Key, Turn::Stays),
+        rule!(Anywhere, "$+", Extent::Itself, "", &[], Key, Turn::Stays),
+        rule!(Anywhere, "$?", Extent::Itself, "", &[], Key, Turn::Stays),
+        rule!(Anywhere, "$%", Extent::Itself, "", &[], Key, Turn::Stays),
+        rule!(Anywhere, "$$", Extent::Itself, "", &[], Key, Turn::Stays),
+        rule!(Anywhere, "$1", Extent::Itself, "", &[], Key, Turn::Stays),
+        rule!(Anywhere, "$2", Extent::Itself, "", &[], Key, Turn::Stays),
+        rule!(Anywhere, "$3", Extent::Itself, "", &[], Key, Turn::Stays),
+        rule!(Anywhere, "$4", Extent::Itself, "", &[], Key, Turn::Stays),
+        rule!(Anywhere, "$5", Extent::Itself, "", &[], Key, Turn::Stays),
+        rule!(Anywhere, "$6", Extent::Itself, "", &[], Key, Turn::Stays),
+        rule!(Anywhere, "$7", Extent::Itself, "", &[], Key, Turn::Stays),
+        rule!(Anywhere, "$8", Extent::Itself, "", &[], Key, Turn::Stays),
+        rule!(Anywhere, "$9", Extent::Itself, "", &[], Key, Turn::Stays),
+        rule!(Anywhere, "$0", Extent::Itself, "", &[], Key, Turn::Stays),
+    ],
 ];
-
-#[rattlefmt::skip]
-static MAKE_3_LETTER: [RuleRow; 0] = [
-];
-
-#[rattlefmt::skip]
-static MAKE_3_SIGN: [RuleRow; 22] = [
-    rule!(Anywhere, ")", Extent::Itself, "", &[], Plain, Turn::Leaves),
-    rule!(Anywhere, "(", Extent::Itself, "", &[], Plain, Turn::Enters(3)),
-    rule!(Anywhere, "$(", Extent::Itself, "", &[], Key, Turn::Enters(2)),
-    rule!(Anywhere, "${", Extent::Through(Escape::Never), "}", &[], Key, Turn::Stays),
-    rule!(Anywhere, "$@", Extent::Itself, "", &[], Key, Turn::Stays),
-    rule!(Anywhere, "$<", Extent::Itself, "", &[], Key, Turn::Stays),
-    rule!(Anywhere, "$^", Extent::Itself, "", &[], Key, Turn::Stays),
-    rule!(Anywhere, "$*", Extent::Itself, "", &[], Key, Turn::Stays),
-    rule!(Anywhere, "$+", Extent::Itself, "", &[], Key, Turn::Stays),
-    rule!(Anywhere, "$?", Extent::Itself, "", &[], Key, Turn::Stays),
-    rule!(Anywhere, "$%", Extent::Itself, "", &[], Key, Turn::Stays),
-    rule!(Anywhere, "$$", Extent::Itself, "", &[], Key, Turn::Stays),
-    rule!(Anywhere, "$1", Extent::Itself, "", &[], Key, Turn::Stays),
-    rule!(Anywhere, "$2", Extent::Itself, "", &[], Key, Turn::Stays),
-    rule!(Anywhere, "$3", Extent::Itself, "", &[], Key, Turn::Stays),
-    rule!(Anywhere, "$4", Extent::Itself, "", &[], Key, Turn::Stays),
-    rule!(Anywhere, "$5", Extent::Itself, "", &[], Key, Turn::Stays),
-    rule!(Anywhere, "$6", Extent::Itself, "", &[], Key, Turn::Stays),
-    rule!(Anywhere, "$7", Extent::Itself, "", &[], Key, Turn::Stays),
-    rule!(Anywhere, "$8", Extent::Itself, "", &[], Key, Turn::Stays),
-    rule!(Anywhere, "$9", Extent::Itself, "", &[], Key, Turn::Stays),
-    rule!(Anywhere, "$0", Extent::Itself, "", &[], Key, Turn::Stays),
-];
-
-fn dockerfile_rules(n: usize, kind: Kind) -> &'static [RuleRow]
-    ensures { map rule_of result.now ≡ filter (may_begin kind) (dockerfile_rules n) }
-{
-    match n {
-        1 => dockerfile_rules_1(kind),
-        2 => dockerfile_rules_2(kind),
-        3 => dockerfile_rules_3(kind),
-        _ => dockerfile_rules_0(kind),
-    }
-}
 
 fn dockerfile_mode(n: usize) -> ModeRow
-    ensures { mode_of result ≡ dockerfile_mode n }
+    ensures words { mode_of result ≡ dockerfile_mode n }
+    ensures rules { heads_in result ≡ by_head (dockerfile_rules n) }
 {
     match n {
         1 => dockerfile_1(),
@@ -3792,10 +3648,14 @@ fn dockerfile_mode(n: usize) -> ModeRow
     }
 }
 
+#[tactic(auto, unfolding(crate::specs::Heads::by_head))]
 fn dockerfile_0() -> ModeRow
-    ensures { mode_of result ≡ dockerfile_0 }
+    ensures words { mode_of result ≡ dockerfile_0 }
+    ensures rules { heads_in result ≡ by_head dockerfile_rules_0 }
 {
     ModeRow {
+        places: "0000000000000000000000000000000000MKP00NQ0000000000000000000L0000D0:0<20H000680F004J0@>B0000O000RC090;10G000570E003I0?=A0000000000000000000000000000000000000000000000000000000000000000000000000000000000000000000000000000000000000000000000000000000000000000",
+        rules: &DOCKERFILE_0_RULES,
         words: Words::ShWords,
         starts: "",
         more: "",
@@ -3807,92 +3667,214 @@ fn dockerfile_0() -> ModeRow
     }
 }
 
-fn dockerfile_rules_0(kind: Kind) -> &'static [RuleRow]
-    ensures { map rule_of result.now ≡ filter (may_begin kind) dockerfile_rules_0 }
-{
-    match kind {
-        Kind::Blank => &DOCKERFILE_0_BLANK,
-        Kind::Letter => &DOCKERFILE_0_LETTER,
-        Kind::Sign => &DOCKERFILE_0_SIGN,
-    }
-}
-
 #[rattlefmt::skip]
-static DOCKERFILE_0_BLANK: [RuleRow; 0] = [
+static DOCKERFILE_0_RULES: [&[RuleRow]; 35] = [
+    &[
+        rule!(Apart, "", Extent::Word, "", &["=", "+="], Key, Turn::Stays),
+        rule!(Apart, "", Extent::Digits, "", &[], Number, Turn::Stays),
+    ],
+    &[
+        rule!(FirstWord, "from ", Extent::Itself, "", &[], Keyword, Turn::Stays),
+        rule!(Apart, "", Extent::Word, "", &["=", "+="], Key, Turn::Stays),
+        rule!(Apart, "", Extent::Digits, "", &[], Number, Turn::Stays),
+    ],
+    &[
+        rule!(FirstWord, "FROM ", Extent::Itself, "", &[], Keyword, Turn::Stays),
+        rule!(Apart, "", Extent::Word, "", &["=", "+="], Key, Turn::Stays),
+        rule!(Apart, "", Extent::Digits, "", &[], Number, Turn::Stays),
+    ],
+    &[
+        rule!(FirstWord, "run ", Extent::Itself, "", &[], Keyword, Turn::Stays),
+        rule!(Apart, "", Extent::Word, "", &["=", "+="], Key, Turn::Stays),
+        rule!(Apart, "", Extent::Digits, "", &[], Number, Turn::Stays),
+    ],
+    &[
+        rule!(FirstWord, "RUN ", Extent::Itself, "", &[], Keyword, Turn::Stays),
+        rule!(Apart, "", Extent::Word, "", &["=", "+="], Key, Turn::Stays),
+        rule!(Apart, "", Extent::Digits, "", &[], Number, Turn::Stays),
+    ],
+    &[
+        rule!(FirstWord, "label ", Extent::Itself, "", &[], Keyword, Turn::Stays),
+        rule!(Apart, "", Extent::Word, "", &["=", "+="], Key, Turn::Stays),
+        rule!(Apart, "", Extent::Digits, "", &[], Number, Turn::Stays),
+    ],
+    &[
+        rule!(FirstWord, "LABEL ", Extent::Itself, "", &[], Keyword, Turn::Stays),
+        rule!(Apart, "", Extent::Word, "", &["=", "+="], Key, Turn::Stays),
+        rule!(Apart, "", Extent::Digits, "", &[], Number, Turn::Stays),
+    ],
+    &[
+        rule!(FirstWord, "maintainer ", Extent::Itself, "", &[], Keyword, Turn::Stays),
+        rule!(Apart, "", Extent::Word, "", &["=", "+="], Key, Turn::Stays),
+        rule!(Apart, "", Extent::Digits, "", &[], Number, Turn::Stays),
+    ],
+    &[
+        rule!(FirstWord, "MAINTAINER ", Extent::Itself, "", &[], Keyword, Turn::Stays),
+        rule!(Apart, "", Extent::Word, "", &["=", "+="], Key, Turn::Stays),
+        rule!(Apart, "", Extent::Digits, "", &[], Number, Turn::Stays),
+    ],
+    &[
+        rule!(FirstWord, "cmd ", Extent::Itself, "", &[], Keyword, Turn::Stays),
+        rule!(FirstWord, "copy ", Extent::Itself, "", &[], Keyword, Turn::Stays),
+        rule!(Apart, "", Extent::Word, "", &["=", "+="], Key, Turn::Stays),
+        rule!(Apart, "", Extent::Digits, "", &[], Number, Turn::Stays),
+    ],
+    &[
+        rule!(FirstWord, "CMD ", Extent::Itself, "", &[], Keyword, Turn::Stays),
+        rule!(FirstWord, "COPY ", Extent::Itself, "", &[], Keyword, Turn::Stays),
+        rule!(Apart, "", Extent::Word, "", &["=", "+="], Key, Turn::Stays),
+        rule!(Apart, "", Extent::Digits, "", &[], Number, Turn::Stays),
+    ],
+    &[
+        rule!(FirstWord, "expose ", Extent::Itself, "", &[], Keyword, Turn::Stays),
+        rule!(FirstWord, "env ", Extent::Itself, "", &[], Keyword, Turn::Stays),
+        rule!(FirstWord, "entrypoint ", Extent::Itself, "", &[], Keyword, Turn::Stays),
+        rule!(Apart, "", Extent::Word, "", &["=", "+="], Key, Turn::Stays),
+        rule!(Apart, "", Extent::Digits, "", &[], Number, Turn::Stays),
+    ],
+    &[
+        rule!(FirstWord, "EXPOSE ", Extent::Itself, "", &[], Keyword, Turn::Stays),
+        rule!(FirstWord, "ENV ", Extent::Itself, "", &[], Keyword, Turn::Stays),
+        rule!(FirstWord, "ENTRYPOINT ", Extent::Itself, "", &[], Keyword, Turn::Stays),
+        rule!(Apart, "", Extent::Word, "", &["=", "+="], Key, Turn::Stays),
+        rule!(Apart, "", Extent::Digits, "", &[], Number, Turn::Stays),
+    ],
+    &[
+        rule!(FirstWord, "volume ", Extent::Itself, "", &[], Keyword, Turn::Stays),
+        rule!(Apart, "", Extent::Word, "", &["=", "+="], Key, Turn::Stays),
+        rule!(Apart, "", Extent::Digits, "", &[], Number, Turn::Stays),
+    ],
+    &[
+        rule!(FirstWord, "VOLUME ", Extent::Itself, "", &[], Keyword, Turn::Stays),
+        rule!(Apart, "", Extent::Word, "", &["=", "+="], Key, Turn::Stays),
+        rule!(Apart, "", Extent::Digits, "", &[], Number, Turn::Stays),
+    ],
+    &[
+        rule!(FirstWord, "user ", Extent::Itself, "", &[], Keyword, Turn::Stays),
+        rule!(Apart, "", Extent::Word, "", &["=", "+="], Key, Turn::Stays),
+        rule!(Apart, "", Extent::Digits, "", &[], Number, Turn::Stays),
+    ],
+    &[
+        rule!(FirstWord, "USER ", Extent::Itself, "", &[], Keyword, Turn::Stays),
+        rule!(Apart, "", Extent::Word, "", &["=", "+="], Key, Turn::Stays),
+        rule!(Apart, "", Extent::Digits, "", &[], Number, Turn::Stays),
+    ],
+    &[
+        rule!(FirstWord, "workdir ", Extent::Itself, "", &[], Keyword, Turn::Stays),
+        rule!(Apart, "", Extent::Word, "", &["=", "+="], Key, Turn::Stays),
+        rule!(Apart, "", Extent::Digits, "", &[], Number, Turn::Stays),
+    ],
+    &[
+        rule!(FirstWord, "WORKDIR ", Extent::Itself, "", &[], Keyword, Turn::Stays),
+        rule!(Apart, "", Extent::Word, "", &["=", "+="], Key, Turn::Stays),
+        rule!(Apart, "", Extent::Digits, "", &[], Number, Turn::Stays),
+    ],
+    &[
+        rule!(FirstWord, "add ", Extent::Itself, "", &[], Keyword, Turn::Stays),
+        rule!(FirstWord, "arg ", Extent::Itself, "", &[], Keyword, Turn::Stays),
+        rule!(Apart, "", Extent::Word, "", &["=", "+="], Key, Turn::Stays),
+        rule!(Apart, "", Extent::Digits, "", &[], Number, Turn::Stays),
+    ],
+    &[
+        rule!(FirstWord, "ADD ", Extent::Itself, "", &[], Keyword, Turn::Stays),
+        rule!(FirstWord, "ARG ", Extent::Itself, "", &[], Keyword, Turn::Stays),
+        rule!(Apart, "", Extent::Word, "", &["=", "+="], Key, Turn::Stays),
+        rule!(Apart, "", Extent::Digits, "", &[], Number, Turn::Stays),
+    ],
+    &[
+        rule!(FirstWord, "onbuild ", Extent::Itself, "", &[], Keyword, Turn::Stays),
+        rule!(Apart, "", Extent::Word, "", &["=", "+="], Key, Turn::Stays),
+        rule!(Apart, "", Extent::Digits, "", &[], Number, Turn::Stays),
+    ],
+    &[
+        rule!(FirstWord, "ONBUILD ", Extent::Itself, "", &[], Keyword, Turn::Stays),
+        rule!(Apart, "", Extent::Word, "", &["=", "+="], Key, Turn::Stays),
+        rule!(Apart, "", Extent::Digits, "", &[], Number, Turn::Stays),
+    ],
+    &[
+        rule!(FirstWord, "healthcheck ", Extent::Itself, "", &[], Keyword, Turn::Stays),
+        rule!(Apart, "", Extent::Word, "", &["=", "+="], Key, Turn::Stays),
+        rule!(Apart, "", Extent::Digits, "", &[], Number, Turn::Stays),
+    ],
+    &[
+        rule!(FirstWord, "HEALTHCHECK ", Extent::Itself, "", &[], Keyword, Turn::Stays),
+        rule!(Apart, "", Extent::Word, "", &["=", "+="], Key, Turn::Stays),
+        rule!(Apart, "", Extent::Digits, "", &[], Number, Turn::Stays),
+    ],
+    &[
+        rule!(FirstWord, "stopsignal ", Extent::Itself, "", &[], Keyword, Turn::Stays),
+        rule!(FirstWord, "shell ", Extent::Itself, "", &[], Keyword, Turn::Stays),
+        rule!(Apart, "", Extent::Word, "", &["=", "+="], Key, Turn::Stays),
+        rule!(Apart, "", Extent::Digits, "", &[], Number, Turn::Stays),
+    ],
+    &[
+        rule!(FirstWord, "STOPSIGNAL ", Extent::Itself, "", &[], Keyword, Turn::Stays),
+        rule!(FirstWord, "SHELL ", Extent::Itself, "", &[], Keyword, Turn::Stays),
+        rule!(Apart, "", Extent::Word, "", &["=", "+="], Key, Turn::Stays),
+        rule!(Apart, "", Extent::Digits, "", &[], Number, Turn::Stays),
+    ],
+    &[
+        rule!(FirstWord, "#", Extent::Line, "", &[], Comment, Turn::Stays),
+        rule!(Apart, "#", Extent::Line, "", &[], Comment, Turn::Stays),
+        rule!(Apart, "", Extent::Word, "", &["=", "+="], Key, Turn::Stays),
+        rule!(Apart, "", Extent::Digits, "", &[], Number, Turn::Stays),
+    ],
+    &[
+        rule!(Anywhere, "<<<", Extent::Itself, "", &[], Plain, Turn::Stays),
+        rule!(Anywhere, "<<", Extent::Labelled(false), "", &[], Text, Turn::Stays),
+        rule!(Apart, "", Extent::Word, "", &["=", "+="], Key, Turn::Stays),
+        rule!(Apart, "", Extent::Digits, "", &[], Number, Turn::Stays),
+    ],
+    &[
+        rule!(Anywhere, "\"", Extent::Itself, "", &[], Text, Turn::Enters(1)),
+        rule!(Apart, "", Extent::Word, "", &["=", "+="], Key, Turn::Stays),
+        rule!(Apart, "", Extent::Digits, "", &[], Number, Turn::Stays),
+    ],
+    &[
+        rule!(Anywhere, "'", Extent::ThroughLines(Escape::Never), "'", &[], Text, Turn::Stays),
+        rule!(Apart, "", Extent::Word, "", &["=", "+="], Key, Turn::Stays),
+        rule!(Apart, "", Extent::Digits, "", &[], Number, Turn::Stays),
+    ],
+    &[
+        rule!(Anywhere, "\\", Extent::OneMore, "", &[], Text, Turn::Stays),
+        rule!(Apart, "", Extent::Word, "", &["=", "+="], Key, Turn::Stays),
+        rule!(Apart, "", Extent::Digits, "", &[], Number, Turn::Stays),
+    ],
+    &[
+        rule!(Anywhere, "$'", Extent::ThroughLines(Escape::Backslash), "'", &[], Text, Turn::Stays),
+        rule!(Apart, "", Extent::Word, "", &["=", "+="], Key, Turn::Stays),
+        rule!(Apart, "", Extent::Digits, "", &[], Number, Turn::Stays),
+        rule!(Anywhere, "${", Extent::Itself, "", &[], Key, Turn::Enters(3)),
+        rule!(Anywhere, "$(", Extent::Itself, "", &[], Plain, Turn::Enters(2)),
+        rule!(Anywhere, "$", Extent::Word, "", &[], Key, Turn::Stays),
+        rule!(Anywhere, "$#", Extent::Itself, "", &[], Key, Turn::Stays),
+        rule!(Anywhere, "$@", Extent::Itself, "", &[], Key, Turn::Stays),
+        rule!(Anywhere, "$*", Extent::Itself, "", &[], Key, Turn::Stays),
+        rule!(Anywhere, "$?", Extent::Itself, "", &[], Key, Turn::Stays),
+        rule!(Anywhere, "$!", Extent::Itself, "", &[], Key, Turn::Stays),
+        rule!(Anywhere, "$$", Extent::Itself, "", &[], Key, Turn::Stays),
+        rule!(Anywhere, "$-", Extent::Itself, "", &[], Key, Turn::Stays),
+    ],
+    &[
+        rule!(Apart, "", Extent::Word, "", &["=", "+="], Key, Turn::Stays),
+        rule!(Apart, "", Extent::Digits, "", &[], Number, Turn::Stays),
+        rule!(Anywhere, "(", Extent::Itself, "", &[], Plain, Turn::Enters(2)),
+    ],
+    &[
+        rule!(Apart, "", Extent::Word, "", &["=", "+="], Key, Turn::Stays),
+        rule!(Apart, "", Extent::Digits, "", &[], Number, Turn::Stays),
+        rule!(Anywhere, "`", Extent::Itself, "", &[], Text, Turn::Stays),
+    ],
 ];
 
-#[rattlefmt::skip]
-static DOCKERFILE_0_LETTER: [RuleRow; 38] = [
-    rule!(FirstWord, "from ", Extent::Itself, "", &[], Keyword, Turn::Stays),
-    rule!(FirstWord, "FROM ", Extent::Itself, "", &[], Keyword, Turn::Stays),
-    rule!(FirstWord, "run ", Extent::Itself, "", &[], Keyword, Turn::Stays),
-    rule!(FirstWord, "RUN ", Extent::Itself, "", &[], Keyword, Turn::Stays),
-    rule!(FirstWord, "cmd ", Extent::Itself, "", &[], Keyword, Turn::Stays),
-    rule!(FirstWord, "CMD ", Extent::Itself, "", &[], Keyword, Turn::Stays),
-    rule!(FirstWord, "label ", Extent::Itself, "", &[], Keyword, Turn::Stays),
-    rule!(FirstWord, "LABEL ", Extent::Itself, "", &[], Keyword, Turn::Stays),
-    rule!(FirstWord, "maintainer ", Extent::Itself, "", &[], Keyword, Turn::Stays),
-    rule!(FirstWord, "MAINTAINER ", Extent::Itself, "", &[], Keyword, Turn::Stays),
-    rule!(FirstWord, "expose ", Extent::Itself, "", &[], Keyword, Turn::Stays),
-    rule!(FirstWord, "EXPOSE ", Extent::Itself, "", &[], Keyword, Turn::Stays),
-    rule!(FirstWord, "env ", Extent::Itself, "", &[], Keyword, Turn::Stays),
-    rule!(FirstWord, "ENV ", Extent::Itself, "", &[], Keyword, Turn::Stays),
-    rule!(FirstWord, "add ", Extent::Itself, "", &[], Keyword, Turn::Stays),
-    rule!(FirstWord, "ADD ", Extent::Itself, "", &[], Keyword, Turn::Stays),
-    rule!(FirstWord, "copy ", Extent::Itself, "", &[], Keyword, Turn::Stays),
-    rule!(FirstWord, "COPY ", Extent::Itself, "", &[], Keyword, Turn::Stays),
-    rule!(FirstWord, "entrypoint ", Extent::Itself, "", &[], Keyword, Turn::Stays),
-    rule!(FirstWord, "ENTRYPOINT ", Extent::Itself, "", &[], Keyword, Turn::Stays),
-    rule!(FirstWord, "volume ", Extent::Itself, "", &[], Keyword, Turn::Stays),
-    rule!(FirstWord, "VOLUME ", Extent::Itself, "", &[], Keyword, Turn::Stays),
-    rule!(FirstWord, "user ", Extent::Itself, "", &[], Keyword, Turn::Stays),
-    rule!(FirstWord, "USER ", Extent::Itself, "", &[], Keyword, Turn::Stays),
-    rule!(FirstWord, "workdir ", Extent::Itself, "", &[], Keyword, Turn::Stays),
-    rule!(FirstWord, "WORKDIR ", Extent::Itself, "", &[], Keyword, Turn::Stays),
-    rule!(FirstWord, "arg ", Extent::Itself, "", &[], Keyword, Turn::Stays),
-    rule!(FirstWord, "ARG ", Extent::Itself, "", &[], Keyword, Turn::Stays),
-    rule!(FirstWord, "onbuild ", Extent::Itself, "", &[], Keyword, Turn::Stays),
-    rule!(FirstWord, "ONBUILD ", Extent::Itself, "", &[], Keyword, Turn::Stays),
-    rule!(FirstWord, "stopsignal ", Extent::Itself, "", &[], Keyword, Turn::Stays),
-    rule!(FirstWord, "STOPSIGNAL ", Extent::Itself, "", &[], Keyword, Turn::Stays),
-    rule!(FirstWord, "healthcheck ", Extent::Itself, "", &[], Keyword, Turn::Stays),
-    rule!(FirstWord, "HEALTHCHECK ", Extent::Itself, "", &[], Keyword, Turn::Stays),
-    rule!(FirstWord, "shell ", Extent::Itself, "", &[], Keyword, Turn::Stays),
-    rule!(FirstWord, "SHELL ", Extent::Itself, "", &[], Keyword, Turn::Stays),
-    rule!(Apart, "", Extent::Word, "", &["=", "+="], Key, Turn::Stays),
-    rule!(Apart, "", Extent::Digits, "", &[], Number, Turn::Stays),
-];
-
-#[rattlefmt::skip]
-static DOCKERFILE_0_SIGN: [RuleRow; 22] = [
-    rule!(FirstWord, "#", Extent::Line, "", &[], Comment, Turn::Stays),
-    rule!(Apart, "#", Extent::Line, "", &[], Comment, Turn::Stays),
-    rule!(Anywhere, "<<<", Extent::Itself, "", &[], Plain, Turn::Stays),
-    rule!(Anywhere, "<<", Extent::Labelled(false), "", &[], Text, Turn::Stays),
-    rule!(Anywhere, "$'", Extent::ThroughLines(Escape::Backslash), "'", &[], Text, Turn::Stays),
-    rule!(Anywhere, "\"", Extent::Itself, "", &[], Text, Turn::Enters(1)),
-    rule!(Anywhere, "'", Extent::ThroughLines(Escape::Never), "'", &[], Text, Turn::Stays),
-    rule!(Anywhere, "\\", Extent::OneMore, "", &[], Text, Turn::Stays),
-    rule!(Apart, "", Extent::Word, "", &["=", "+="], Key, Turn::Stays),
-    rule!(Apart, "", Extent::Digits, "", &[], Number, Turn::Stays),
-    rule!(Anywhere, "${", Extent::Itself, "", &[], Key, Turn::Enters(3)),
-    rule!(Anywhere, "$(", Extent::Itself, "", &[], Plain, Turn::Enters(2)),
-    rule!(Anywhere, "$", Extent::Word, "", &[], Key, Turn::Stays),
-    rule!(Anywhere, "$#", Extent::Itself, "", &[], Key, Turn::Stays),
-    rule!(Anywhere, "$@", Extent::Itself, "", &[], Key, Turn::Stays),
-    rule!(Anywhere, "$*", Extent::Itself, "", &[], Key, Turn::Stays),
-    rule!(Anywhere, "$?", Extent::Itself, "", &[], Key, Turn::Stays),
-    rule!(Anywhere, "$!", Extent::Itself, "", &[], Key, Turn::Stays),
-    rule!(Anywhere, "$$", Extent::Itself, "", &[], Key, Turn::Stays),
-    rule!(Anywhere, "$-", Extent::Itself, "", &[], Key, Turn::Stays),
-    rule!(Anywhere, "(", Extent::Itself, "", &[], Plain, Turn::Enters(2)),
-    rule!(Anywhere, "`", Extent::Itself, "", &[], Text, Turn::Stays),
-];
-
+#[tactic(auto, unfolding(crate::specs::Heads::by_head))]
 fn dockerfile_1() -> ModeRow
-    ensures { mode_of result ≡ dockerfile_1 }
+    ensures words { mode_of result ≡ dockerfile_1 }
+    ensures rules { heads_in result ≡ by_head dockerfile_rules_1 }
 {
     ModeRow {
+        places: "0000000000000000000000000000000000203000000000000000000000000000000000000000000000000000000010000000000000000000000000000000000000000000000000000000000000000000000000000000000000000000000000000000000000000000000000000000000000000000000000000000000000000000",
+        rules: &DOCKERFILE_1_RULES,
         words: Words::NoWords,
         starts: "",
         more: "",
@@ -3904,44 +3886,37 @@ fn dockerfile_1() -> ModeRow
     }
 }
 
-fn dockerfile_rules_1(kind: Kind) -> &'static [RuleRow]
-    ensures { map rule_of result.now ≡ filter (may_begin kind) dockerfile_rules_1 }
-{
-    match kind {
-        Kind::Blank => &DOCKERFILE_1_BLANK,
-        Kind::Letter => &DOCKERFILE_1_LETTER,
-        Kind::Sign => &DOCKERFILE_1_SIGN,
-    }
-}
-
 #[rattlefmt::skip]
-static DOCKERFILE_1_BLANK: [RuleRow; 0] = [
+static DOCKERFILE_1_RULES: [&[RuleRow]; 4] = [
+    &[],
+    &[
+        rule!(Anywhere, "\\", Extent::OneMore, "", &[], Text, Turn::Stays),
+    ],
+    &[
+        rule!(Anywhere, "\"", Extent::Itself, "", &[], Text, Turn::Leaves),
+    ],
+    &[
+        rule!(Anywhere, "${", Extent::Itself, "", &[], Key, Turn::Enters(3)),
+        rule!(Anywhere, "$(", Extent::Itself, "", &[], Plain, Turn::Enters(2)),
+        rule!(Anywhere, "$", Extent::Word, "", &[], Key, Turn::Stays),
+        rule!(Anywhere, "$#", Extent::Itself, "", &[], Key, Turn::Stays),
+        rule!(Anywhere, "$@", Extent::Itself, "", &[], Key, Turn::Stays),
+        rule!(Anywhere, "$*", Extent::Itself, "", &[], Key, Turn::Stays),
+        rule!(Anywhere, "$?", Extent::Itself, "", &[], Key, Turn::Stays),
+        rule!(Anywhere, "$!", Extent::Itself, "", &[], Key, Turn::Stays),
+        rule!(Anywhere, "$$", Extent::Itself, "", &[], Key, Turn::Stays),
+        rule!(Anywhere, "$-", Extent::Itself, "", &[], Key, Turn::Stays),
+    ],
 ];
 
-#[rattlefmt::skip]
-static DOCKERFILE_1_LETTER: [RuleRow; 0] = [
-];
-
-#[rattlefmt::skip]
-static DOCKERFILE_1_SIGN: [RuleRow; 12] = [
-    rule!(Anywhere, "\\", Extent::OneMore, "", &[], Text, Turn::Stays),
-    rule!(Anywhere, "\"", Extent::Itself, "", &[], Text, Turn::Leaves),
-    rule!(Anywhere, "${", Extent::Itself, "", &[], Key, Turn::Enters(3)),
-    rule!(Anywhere, "$(", Extent::Itself, "", &[], Plain, Turn::Enters(2)),
-    rule!(Anywhere, "$", Extent::Word, "", &[], Key, Turn::Stays),
-    rule!(Anywhere, "$#", Extent::Itself, "", &[], Key, Turn::Stays),
-    rule!(Anywhere, "$@", Extent::Itself, "", &[], Key, Turn::Stays),
-    rule!(Anywhere, "$*", Extent::Itself, "", &[], Key, Turn::Stays),
-    rule!(Anywhere, "$?", Extent::Itself, "", &[], Key, Turn::Stays),
-    rule!(Anywhere, "$!", Extent::Itself, "", &[], Key, Turn::Stays),
-    rule!(Anywhere, "$$", Extent::Itself, "", &[], Key, Turn::Stays),
-    rule!(Anywhere, "$-", Extent::Itself, "", &[], Key, Turn::Stays),
-];
-
+#[tactic(auto, unfolding(crate::specs::Heads::by_head))]
 fn dockerfile_2() -> ModeRow
-    ensures { mode_of result ≡ dockerfile_2 }
+    ensures words { mode_of result ≡ dockerfile_2 }
+    ensures rules { heads_in result ≡ by_head dockerfile_rules_2 }
 {
     ModeRow {
+        places: "0000000000000000000000000000000000427005810000000000000000003000000000000000000000000000000060009000000000000000000000000000000000000000000000000000000000000000000000000000000000000000000000000000000000000000000000000000000000000000000000000000000000000000",
+        rules: &DOCKERFILE_2_RULES,
         words: Words::ShWords,
         starts: "",
         more: "",
@@ -3953,56 +3928,78 @@ fn dockerfile_2() -> ModeRow
     }
 }
 
-fn dockerfile_rules_2(kind: Kind) -> &'static [RuleRow]
-    ensures { map rule_of result.now ≡ filter (may_begin kind) dockerfile_rules_2 }
-{
-    match kind {
-        Kind::Blank => &DOCKERFILE_2_BLANK,
-        Kind::Letter => &DOCKERFILE_2_LETTER,
-        Kind::Sign => &DOCKERFILE_2_SIGN,
-    }
-}
-
 #[rattlefmt::skip]
-static DOCKERFILE_2_BLANK: [RuleRow; 0] = [
+static DOCKERFILE_2_RULES: [&[RuleRow]; 10] = [
+    &[
+        rule!(Apart, "", Extent::Word, "", &["=", "+="], Key, Turn::Stays),
+        rule!(Apart, "", Extent::Digits, "", &[], Number, Turn::Stays),
+    ],
+    &[
+        rule!(Anywhere, ")", Extent::Itself, "", &[], Plain, Turn::Leaves),
+        rule!(Apart, "", Extent::Word, "", &["=", "+="], Key, Turn::Stays),
+        rule!(Apart, "", Extent::Digits, "", &[], Number, Turn::Stays),
+    ],
+    &[
+        rule!(Apart, "#", Extent::Line, "", &[], Comment, Turn::Stays),
+        rule!(Apart, "", Extent::Word, "", &["=", "+="], Key, Turn::Stays),
+        rule!(Apart, "", Extent::Digits, "", &[], Number, Turn::Stays),
+    ],
+    &[
+        rule!(Anywhere, "<<<", Extent::Itself, "", &[], Plain, Turn::Stays),
+        rule!(Anywhere, "<<", Extent::Labelled(false), "", &[], Text, Turn::Stays),
+        rule!(Apart, "", Extent::Word, "", &["=", "+="], Key, Turn::Stays),
+        rule!(Apart, "", Extent::Digits, "", &[], Number, Turn::Stays),
+    ],
+    &[
+        rule!(Anywhere, "\"", Extent::Itself, "", &[], Text, Turn::Enters(1)),
+        rule!(Apart, "", Extent::Word, "", &["=", "+="], Key, Turn::Stays),
+        rule!(Apart, "", Extent::Digits, "", &[], Number, Turn::Stays),
+    ],
+    &[
+        rule!(Anywhere, "'", Extent::ThroughLines(Escape::Never), "'", &[], Text, Turn::Stays),
+        rule!(Apart, "", Extent::Word, "", &["=", "+="], Key, Turn::Stays),
+        rule!(Apart, "", Extent::Digits, "", &[], Number, Turn::Stays),
+    ],
+    &[
+        rule!(Anywhere, "\\", Extent::OneMore, "", &[], Text, Turn::Stays),
+        rule!(Apart, "", Extent::Word, "", &["=", "+="], Key, Turn::Stays),
+        rule!(Apart, "", Extent::Digits, "", &[], Number, Turn::Stays),
+    ],
+    &[
+        rule!(Anywhere, "$'", Extent::ThroughLines(Escape::Backslash), "'", &[], Text, Turn::Stays),
+        rule!(Apart, "", Extent::Word, "", &["=", "+="], Key, Turn::Stays),
+        rule!(Apart, "", Extent::Digits, "", &[], Number, Turn::Stays),
+        rule!(Anywhere, "${", Extent::Itself, "", &[], Key, Turn::Enters(3)),
+        rule!(Anywhere, "$(", Extent::Itself, "", &[], Plain, Turn::Enters(2)),
+        rule!(Anywhere, "$", Extent::Word, "", &[], Key, Turn::Stays),
+        rule!(Anywhere, "$#", Extent::Itself, "", &[], Key, Turn::Stays),
+        rule!(Anywhere, "$@", Extent::Itself, "", &[], Key, Turn::Stays),
+        rule!(Anywhere, "$*", Extent::Itself, "", &[], Key, Turn::Stays),
+        rule!(Anywhere, "$?", Extent::Itself, "", &[], Key, Turn::Stays),
+        rule!(Anywhere, "$!", Extent::Itself, "", &[], Key, Turn::Stays),
+        rule!(Anywhere, "$$", Extent::Itself, "", &[], Key, Turn::Stays),
+        rule!(Anywhere, "$-", Extent::Itself, "", &[], Key, Turn::Stays),
+    ],
+    &[
+        rule!(Apart, "", Extent::Word, "", &["=", "+="], Key, Turn::Stays),
+        rule!(Apart, "", Extent::Digits, "", &[], Number, Turn::Stays),
+        rule!(Anywhere, "(", Extent::Itself, "", &[], Plain, Turn::Enters(2)),
+    ],
+    &[
+        rule!(Apart, "", Extent::Word, "", &["=", "+="], Key, Turn::Stays),
+        rule!(Apart, "", Extent::Digits, "", &[], Number, Turn::Stays),
+        rule!(Anywhere, "`", Extent::Itself, "", &[], Text, Turn::Stays),
+    ],
 ];
 
-#[rattlefmt::skip]
-static DOCKERFILE_2_LETTER: [RuleRow; 2] = [
-    rule!(Apart, "", Extent::Word, "", &["=", "+="], Key, Turn::Stays),
-    rule!(Apart, "", Extent::Digits, "", &[], Number, Turn::Stays),
-];
-
-#[rattlefmt::skip]
-static DOCKERFILE_2_SIGN: [RuleRow; 22] = [
-    rule!(Anywhere, ")", Extent::Itself, "", &[], Plain, Turn::Leaves),
-    rule!(Apart, "#", Extent::Line, "", &[], Comment, Turn::Stays),
-    rule!(Anywhere, "<<<", Extent::Itself, "", &[], Plain, Turn::Stays),
-    rule!(Anywhere, "<<", Extent::Labelled(false), "", &[], Text, Turn::Stays),
-    rule!(Anywhere, "$'", Extent::ThroughLines(Escape::Backslash), "'", &[], Text, Turn::Stays),
-    rule!(Anywhere, "\"", Extent::Itself, "", &[], Text, Turn::Enters(1)),
-    rule!(Anywhere, "'", Extent::ThroughLines(Escape::Never), "'", &[], Text, Turn::Stays),
-    rule!(Anywhere, "\\", Extent::OneMore, "", &[], Text, Turn::Stays),
-    rule!(Apart, "", Extent::Word, "", &["=", "+="], Key, Turn::Stays),
-    rule!(Apart, "", Extent::Digits, "", &[], Number, Turn::Stays),
-    rule!(Anywhere, "${", Extent::Itself, "", &[], Key, Turn::Enters(3)),
-    rule!(Anywhere, "$(", Extent::Itself, "", &[], Plain, Turn::Enters(2)),
-    rule!(Anywhere, "$", Extent::Word, "", &[], Key, Turn::Stays),
-    rule!(Anywhere, "$#", Extent::Itself, "", &[], Key, Turn::Stays),
-    rule!(Anywhere, "$@", Extent::Itself, "", &[], Key, Turn::Stays),
-    rule!(Anywhere, "$*", Extent::Itself, "", &[], Key, Turn::Stays),
-    rule!(Anywhere, "$?", Extent::Itself, "", &[], Key, Turn::Stays),
-    rule!(Anywhere, "$!", Extent::Itself, "", &[], Key, Turn::Stays),
-    rule!(Anywhere, "$$", Extent::Itself, "", &[], Key, Turn::Stays),
-    rule!(Anywhere, "$-", Extent::Itself, "", &[], Key, Turn::Stays),
-    rule!(Anywhere, "(", Extent::Itself, "", &[], Plain, Turn::Enters(2)),
-    rule!(Anywhere, "`", Extent::Itself, "", &[], Text, Turn::Stays),
-];
-
+#[tactic(auto, unfolding(crate::specs::Heads::by_head))]
 fn dockerfile_3() -> ModeRow
-    ensures { mode_of result ≡ dockerfile_3 }
+    ensures words { mode_of result ≡ dockerfile_3 }
+    ensures rules { heads_in result ≡ by_head dockerfile_rules_3 }
 {
     ModeRow {
+        places: "0000000000000000000000000000000000204000000000000000000000000000000000000000000000000000000030000000000000000000000000000000010000000000000000000000000000000000000000000000000000000000000000000000000000000000000000000000000000000000000000000000000000000000",
+        rules: &DOCKERFILE_3_RULES,
         words: Words::NoWords,
         starts: "",
         more: "",
@@ -4014,57 +4011,47 @@ fn dockerfile_3() -> ModeRow
     }
 }
 
-fn dockerfile_rules_3(kind: Kind) -> &'static [RuleRow]
-    ensures { map rule_of result.now ≡ filter (may_begin kind) dockerfile_rules_3 }
-{
-    match kind {
-        Kind::Blank => &DOCKERFILE_3_BLANK,
-        Kind::Letter => &DOCKERFILE_3_LETTER,
-        Kind::Sign => &DOCKERFILE_3_SIGN,
-    }
-}
-
 #[rattlefmt::skip]
-static DOCKERFILE_3_BLANK: [RuleRow; 0] = [
+static DOCKERFILE_3_RULES: [&[RuleRow]; 5] = [
+    &[],
+    &[
+        rule!(Anywhere, "}", Extent::Itself, "", &[], Key, Turn::Leaves),
+    ],
+    &[
+        rule!(Anywhere, "\"", Extent::Itself, "", &[], Text, Turn::Enters(1)),
+    ],
+    &[
+        rule!(Anywhere, "\\", Extent::OneMore, "", &[], Text, Turn::Stays),
+    ],
+    &[
+        rule!(Anywhere, "${", Extent::Itself, "", &[], Key, Turn::Enters(3)),
+        rule!(Anywhere, "$(", Extent::Itself, "", &[], Plain, Turn::Enters(2)),
+        rule!(Anywhere, "$", Extent::Word, "", &[], Key, Turn::Stays),
+        rule!(Anywhere, "$#", Extent::Itself, "", &[], Key, Turn::Stays),
+        rule!(Anywhere, "$@", Extent::Itself, "", &[], Key, Turn::Stays),
+        rule!(Anywhere, "$*", Extent::Itself, "", &[], Key, Turn::Stays),
+        rule!(Anywhere, "$?", Extent::Itself, "", &[], Key, Turn::Stays),
+        rule!(Anywhere, "$!", Extent::Itself, "", &[], Key, Turn::Stays),
+        rule!(Anywhere, "$$", Extent::Itself, "", &[], Key, Turn::Stays),
+        rule!(Anywhere, "$-", Extent::Itself, "", &[], Key, Turn::Stays),
+    ],
 ];
-
-#[rattlefmt::skip]
-static DOCKERFILE_3_LETTER: [RuleRow; 0] = [
-];
-
-#[rattlefmt::skip]
-static DOCKERFILE_3_SIGN: [RuleRow; 13] = [
-    rule!(Anywhere, "}", Extent::Itself, "", &[], Key, Turn::Leaves),
-    rule!(Anywhere, "\"", Extent::Itself, "", &[], Text, Turn::Enters(1)),
-    rule!(Anywhere, "\\", Extent::OneMore, "", &[], Text, Turn::Stays),
-    rule!(Anywhere, "${", Extent::Itself, "", &[], Key, Turn::Enters(3)),
-    rule!(Anywhere, "$(", Extent::Itself, "", &[], Plain, Turn::Enters(2)),
-    rule!(Anywhere, "$", Extent::Word, "", &[], Key, Turn::Stays),
-    rule!(Anywhere, "$#", Extent::Itself, "", &[], Key, Turn::Stays),
-    rule!(Anywhere, "$@", Extent::Itself, "", &[], Key, Turn::Stays),
-    rule!(Anywhere, "$*", Extent::Itself, "", &[], Key, Turn::Stays),
-    rule!(Anywhere, "$?", Extent::Itself, "", &[], Key, Turn::Stays),
-    rule!(Anywhere, "$!", Extent::Itself, "", &[], Key, Turn::Stays),
-    rule!(Anywhere, "$$", Extent::Itself, "", &[], Key, Turn::Stays),
-    rule!(Anywhere, "$-", Extent::Itself, "", &[], Key, Turn::Stays),
-];
-
-fn cmake_rules(_n: usize, kind: Kind) -> &'static [RuleRow]
-    ensures { map rule_of result.now ≡ filter (may_begin kind) (cmake_rules _n) }
-{
-    cmake_rules_0(kind)
-}
 
 fn cmake_mode(_n: usize) -> ModeRow
-    ensures { mode_of result ≡ cmake_mode _n }
+    ensures words { mode_of result ≡ cmake_mode _n }
+    ensures rules { heads_in result ≡ by_head (cmake_rules _n) }
 {
     cmake_0()
 }
 
+#[tactic(auto, unfolding(crate::specs::Heads::by_head))]
 fn cmake_0() -> ModeRow
-    ensures { mode_of result ≡ cmake_0 }
+    ensures words { mode_of result ≡ cmake_0 }
+    ensures rules { heads_in result ≡ by_head cmake_rules_0 }
 {
     ModeRow {
+        places: "0000000000000000000000000000000000213000000000000000000000000000000000000000000000000000000000000000000000000000000000000000000000000000000000000000000000000000000000000000000000000000000000000000000000000000000000000000000000000000000000000000000000000000",
+        rules: &CMAKE_0_RULES,
         words: Words::CmakeWords,
         starts: "",
         more: "",
@@ -4076,50 +4063,41 @@ fn cmake_0() -> ModeRow
     }
 }
 
-fn cmake_rules_0(kind: Kind) -> &'static [RuleRow]
-    ensures { map rule_of result.now ≡ filter (may_begin kind) cmake_rules_0 }
-{
-    match kind {
-        Kind::Blank => &CMAKE_0_BLANK,
-        Kind::Letter => &CMAKE_0_LETTER,
-        Kind::Sign => &CMAKE_0_SIGN,
-    }
-}
-
 #[rattlefmt::skip]
-static CMAKE_0_BLANK: [RuleRow; 0] = [
+static CMAKE_0_RULES: [&[RuleRow]; 4] = [
+    &[
+        rule!(FirstWord, "", Extent::Word, "", &["("], Name, Turn::Stays),
+    ],
+    &[
+        rule!(Anywhere, "#[[", Extent::ThroughLines(Escape::Never), "]]", &[], Comment, Turn::Stays),
+        rule!(Anywhere, "#", Extent::Line, "", &[], Comment, Turn::Stays),
+        rule!(FirstWord, "", Extent::Word, "", &["("], Name, Turn::Stays),
+    ],
+    &[
+        rule!(Anywhere, "\"", Extent::ThroughLines(Escape::Backslash), "\"", &[], Text, Turn::Stays),
+        rule!(FirstWord, "", Extent::Word, "", &["("], Name, Turn::Stays),
+    ],
+    &[
+        rule!(Anywhere, "${", Extent::Through(Escape::Never), "}", &[], Key, Turn::Stays),
+        rule!(FirstWord, "", Extent::Word, "", &["("], Name, Turn::Stays),
+    ],
 ];
-
-#[rattlefmt::skip]
-static CMAKE_0_LETTER: [RuleRow; 1] = [
-    rule!(FirstWord, "", Extent::Word, "", &["("], Name, Turn::Stays),
-];
-
-#[rattlefmt::skip]
-static CMAKE_0_SIGN: [RuleRow; 5] = [
-    rule!(Anywhere, "#[[", Extent::ThroughLines(Escape::Never), "]]", &[], Comment, Turn::Stays),
-    rule!(Anywhere, "#", Extent::Line, "", &[], Comment, Turn::Stays),
-    rule!(Anywhere, "\"", Extent::ThroughLines(Escape::Backslash), "\"", &[], Text, Turn::Stays),
-    rule!(Anywhere, "${", Extent::Through(Escape::Never), "}", &[], Key, Turn::Stays),
-    rule!(FirstWord, "", Extent::Word, "", &["("], Name, Turn::Stays),
-];
-
-fn lisp_rules(_n: usize, kind: Kind) -> &'static [RuleRow]
-    ensures { map rule_of result.now ≡ filter (may_begin kind) (lisp_rules _n) }
-{
-    lisp_rules_0(kind)
-}
 
 fn lisp_mode(_n: usize) -> ModeRow
-    ensures { mode_of result ≡ lisp_mode _n }
+    ensures words { mode_of result ≡ lisp_mode _n }
+    ensures rules { heads_in result ≡ by_head (lisp_rules _n) }
 {
     lisp_0()
 }
 
+#[tactic(auto, unfolding(crate::specs::Heads::by_head))]
 fn lisp_0() -> ModeRow
-    ensures { mode_of result ≡ lisp_0 }
+    ensures words { mode_of result ≡ lisp_0 }
+    ensures rules { heads_in result ≡ by_head lisp_rules_0 }
 {
     ModeRow {
+        places: "0000000000000000000000000000000000270056000000000000000000410003000000000000000000000000000000000000000000000000000000000000000000000000000000000000000000000000000000000000000000000000000000000000000000000000000000000000000000000000000000000000000000000000",
+        rules: &LISP_0_RULES,
         words: Words::LispWords,
         starts: "*+-/<>=&%",
         more: "!$%&*+-./:<=>?",
@@ -4131,52 +4109,48 @@ fn lisp_0() -> ModeRow
     }
 }
 
-fn lisp_rules_0(kind: Kind) -> &'static [RuleRow]
-    ensures { map rule_of result.now ≡ filter (may_begin kind) lisp_rules_0 }
-{
-    match kind {
-        Kind::Blank => &LISP_0_BLANK,
-        Kind::Letter => &LISP_0_LETTER,
-        Kind::Sign => &LISP_0_SIGN,
-    }
-}
-
 #[rattlefmt::skip]
-static LISP_0_BLANK: [RuleRow; 0] = [
+static LISP_0_RULES: [&[RuleRow]; 8] = [
+    &[],
+    &[
+        rule!(Anywhere, ";", Extent::Line, "", &[], Comment, Turn::Stays),
+    ],
+    &[
+        rule!(Anywhere, "\"", Extent::ThroughLines(Escape::Backslash), "\"", &[], Text, Turn::Stays),
+    ],
+    &[
+        rule!(Anywhere, "?\\", Extent::OneMore, "", &[], Text, Turn::Stays),
+    ],
+    &[
+        rule!(Apart, ":", Extent::Word, "", &[], Name, Turn::Stays),
+    ],
+    &[
+        rule!(Apart, "&", Extent::Word, "", &[], Name, Turn::Stays),
+    ],
+    &[
+        rule!(Anywhere, "'", Extent::Word, "", &[], Text, Turn::Stays),
+    ],
+    &[
+        rule!(Anywhere, "#|", Extent::Nested, "|#", &[], Comment, Turn::Stays),
+        rule!(Anywhere, "#'", Extent::Itself, "", &[], Plain, Turn::Stays),
+    ],
 ];
-
-#[rattlefmt::skip]
-static LISP_0_LETTER: [RuleRow; 0] = [
-];
-
-#[rattlefmt::skip]
-static LISP_0_SIGN: [RuleRow; 8] = [
-    rule!(Anywhere, ";", Extent::Line, "", &[], Comment, Turn::Stays),
-    rule!(Anywhere, "#|", Extent::Nested, "|#", &[], Comment, Turn::Stays),
-    rule!(Anywhere, "\"", Extent::ThroughLines(Escape::Backslash), "\"", &[], Text, Turn::Stays),
-    rule!(Anywhere, "?\\", Extent::OneMore, "", &[], Text, Turn::Stays),
-    rule!(Apart, ":", Extent::Word, "", &[], Name, Turn::Stays),
-    rule!(Apart, "&", Extent::Word, "", &[], Name, Turn::Stays),
-    rule!(Anywhere, "'", Extent::Word, "", &[], Text, Turn::Stays),
-    rule!(Anywhere, "#'", Extent::Itself, "", &[], Plain, Turn::Stays),
-];
-
-fn haskell_rules(_n: usize, kind: Kind) -> &'static [RuleRow]
-    ensures { map rule_of result.now ≡ filter (may_begin kind) (haskell_rules _n) }
-{
-    haskell_rules_0(kind)
-}
 
 fn haskell_mode(_n: usize) -> ModeRow
-    ensures { mode_of result ≡ haskell_mode _n }
+    ensures words { mode_of result ≡ haskell_mode _n }
+    ensures rules { heads_in result ≡ by_head (haskell_rules _n) }
 {
     haskell_0()
 }
 
+#[tactic(auto, unfolding(crate::specs::Heads::by_head))]
 fn haskell_0() -> ModeRow
-    ensures { mode_of result ≡ haskell_0 }
+    ensures words { mode_of result ≡ haskell_0 }
+    ensures rules { heads_in result ≡ by_head haskell_rules_0 }
 {
     ModeRow {
+        places: "0000000000000000000000000000000000300004000001000000000000000000000000000000000000000000000000000000000000000000000000000002000000000000000000000000000000000000000000000000000000000000000000000000000000000000000000000000000000000000000000000000000000000000",
+        rules: &HASKELL_0_RULES,
         words: Words::HaskellWords,
         starts: "",
         more: "'",
@@ -4188,31 +4162,22 @@ fn haskell_0() -> ModeRow
     }
 }
 
-fn haskell_rules_0(kind: Kind) -> &'static [RuleRow]
-    ensures { map rule_of result.now ≡ filter (may_begin kind) haskell_rules_0 }
-{
-    match kind {
-        Kind::Blank => &HASKELL_0_BLANK,
-        Kind::Letter => &HASKELL_0_LETTER,
-        Kind::Sign => &HASKELL_0_SIGN,
-    }
-}
-
 #[rattlefmt::skip]
-static HASKELL_0_BLANK: [RuleRow; 0] = [
-];
-
-#[rattlefmt::skip]
-static HASKELL_0_LETTER: [RuleRow; 0] = [
-];
-
-#[rattlefmt::skip]
-static HASKELL_0_SIGN: [RuleRow; 5] = [
-    rule!(Anywhere, "--", Extent::Line, "", &[], Comment, Turn::Stays),
-    rule!(Anywhere, "{-", Extent::Nested, "-}", &[], Comment, Turn::Stays),
-    rule!(Anywhere, "\"", Extent::Through(Escape::Backslash), "\"", &[], Text, Turn::Stays),
-    rule!(Anywhere, "'", Extent::QuotedChar, "", &[], Text, Turn::Stays),
-    rule!(Anywhere, "'", Extent::Word, "", &[], Name, Turn::Stays),
+static HASKELL_0_RULES: [&[RuleRow]; 5] = [
+    &[],
+    &[
+        rule!(Anywhere, "--", Extent::Line, "", &[], Comment, Turn::Stays),
+    ],
+    &[
+        rule!(Anywhere, "{-", Extent::Nested, "-}", &[], Comment, Turn::Stays),
+    ],
+    &[
+        rule!(Anywhere, "\"", Extent::Through(Escape::Backslash), "\"", &[], Text, Turn::Stays),
+    ],
+    &[
+        rule!(Anywhere, "'", Extent::QuotedChar, "", &[], Text, Turn::Stays),
+        rule!(Anywhere, "'", Extent::Word, "", &[], Name, Turn::Stays),
+    ],
 ];
 
 fn sh_words(len: usize) -> &'static [(&'static str, Class)]

@@ -5,12 +5,13 @@ use markdown_writing::{PageBlock, PagePhrase, markdown_of};
 use std::alloc::{AllocError, Global};
 use std::io::{self, Write};
 
-// A page of a heading, two paragraphs, code, a break and a third paragraph.
+// A page of a heading, three paragraphs, code, a break and a last paragraph.
 fn page_text<'p>(
     alloc: Global,
     title: &'p [PagePhrase<'p>],
     marks: &'p [PagePhrase<'p>],
     spans: &'p [PagePhrase<'p>],
+    stressed: &'p [PagePhrase<'p>],
     lines: &'p [&'p str],
     item: &'p [PagePhrase<'p>],
 ) -> Result<Vec<u8>, AllocError> {
@@ -18,6 +19,7 @@ fn page_text<'p>(
         PageBlock::Heading(1, title),
         PageBlock::Paragraph(marks),
         PageBlock::Paragraph(spans),
+        PageBlock::Paragraph(stressed),
         PageBlock::Code("rust", lines),
         PageBlock::Break,
         PageBlock::Paragraph(item),
@@ -38,9 +40,15 @@ fn main(rt: HostRuntime) -> Result<(), anyhow::Error> {
         PagePhrase::Words(" for "),
         PagePhrase::Code("`"),
     ];
+    let stressed = [
+        PagePhrase::Strong("No"),
+        PagePhrase::Words(" mark is "),
+        PagePhrase::Emphasis("a*b"),
+        PagePhrase::Words(", nor *this*."),
+    ];
     let lines = ["fn main() {}", "```", "    ````"];
     let item = [PagePhrase::Words("- no item")];
-    let text = page_text(rt.alloc(), &title, &marks, &spans, &lines, &item)?;
+    let text = page_text(rt.alloc(), &title, &marks, &spans, &stressed, &lines, &item)?;
     io::writer(&rt).write_all(text.as_slice())?;
     Ok(())
 }

@@ -3,6 +3,7 @@ pub mod FrontHitLemmas
 pub mod HitLemmas
 pub mod LineLemmas
 pub mod MatchLemmas
+pub mod OwnRowLemmas
 pub mod PaneLemmas
 pub mod PartLemmas
 pub mod RowHitLemmas

@@ -16,8 +16,8 @@ use Rattle.mad_rows.specs.RowStyles.{compound_style, line_style}
 use Rattle.mad_rows.specs.Rows.{inner_columns}
 use Rattle.mad_rows.specs.declared.row_skin.RowSkin.{RowSkin}
 use Rattle.mad_hits.specs.Matches.{AreStarts, compared_char}
-use Rattle.mad_hits.specs.Styled.{styled_compound, styled_text}
-use Rattle.mad_hits.specs.Hits.{Adds, AreTextHits, AreTextsHits, Marked, PlacedText, marked_at, marked_of, placed_cells, text_column}
+use Rattle.mad_hits.specs.Styled.{styled_compound}
+use Rattle.mad_hits.specs.Hits.{Adds, AreHitsAt, AreTextHits, AreTextsHits, Marked, PlacedText, marked_at, marked_of, placed_cells, text_column}
 use Rattle.mad_hits.specs.declared.hits.Hit.{Hit}
 
 -- a compound more is put after a text, of those that are left
@@ -31,20 +31,19 @@ styled_put skin l xs i d whole text new style inside is h put =
     ap (λ (t : List StyledChar). t ++ flat_map f (drop (i + 1) xs)) e
     ∙ (append_assoc text (f x) (flat_map f (drop (i + 1) xs)) ∙ (ap (λ (t : List StyledChar). text ++ t) (sym (flat_map-cons f x (drop (i + 1) xs)) ∙ ap (flat_map f) (sym (drop_more xs i d inside))) ∙ h))
 
--- the hits of a text
-pub text_hits : (skin : RowSkin) (sought : List ℕ) (l : FmtComposite) (n : ℕ) (text : List StyledChar) (letters starts : List ℕ) (exact : Bool) (old new : List Hit)
-    → text ≡ styled_text skin l → letters ≡ chars sought → exact ≡ has_capital sought → AreStarts letters (map (compared_char exact) (map char_alone text)) 0 starts
-    → map marked_of new ≡ map marked_of old ++ map (marked_at n text (length letters)) starts → Adds (AreTextHits skin sought (record { column = n; text = l })) old new
-text_hits skin sought l n text letters starts exact old new said spelt cased begin e = (
+-- the hits in characters
+pub hits_put : (sought : List ℕ) (n : ℕ) (text : List StyledChar) (letters starts : List ℕ) (exact : Bool) (old new : List Hit)
+    → letters ≡ chars sought → exact ≡ has_capital sought → AreStarts letters (map (compared_char exact) (map char_alone text)) 0 starts
+    → map marked_of new ≡ map marked_of old ++ map (marked_at n text (length letters)) starts → Adds (AreHitsAt sought n text) old new
+hits_put sought n text letters starts exact old new spelt cased begin e = (
   map (marked_at n text (length letters)) starts,
   e,
   record {
     starts = starts;
     begin =
-        subst (λ (b : Bool). AreStarts (chars sought) (map (compared_char b) (map char_alone (styled_text skin l))) 0 starts) cased
-        (subst (λ (s : List ℕ). AreStarts s (map (compared_char exact) (map char_alone (styled_text skin l))) 0 starts) spelt
-        (subst (λ (t : List StyledChar). AreStarts letters (map (compared_char exact) (map char_alone t)) 0 starts) said begin));
-    are = ap (λ (t : List StyledChar). map (marked_at n t (length letters)) starts) said ∙ ap (λ (s : List ℕ). map (marked_at n (styled_text skin l) (length s)) starts) spelt;
+        subst (λ (b : Bool). AreStarts (chars sought) (map (compared_char b) (map char_alone text)) 0 starts) cased
+        (subst (λ (s : List ℕ). AreStarts s (map (compared_char exact) (map char_alone text)) 0 starts) spelt begin);
+    are = ap (λ (s : List ℕ). map (marked_at n text (length s)) starts) spelt;
   },
 )
 

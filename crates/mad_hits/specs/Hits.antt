@@ -71,11 +71,15 @@ marked_at column text count start = record {
   chars = take (span count (map char_alone (drop start text))) (drop start text);
 }
 
--- the hits of a composite: one for each place where what is sought begins
-pub record AreTextHits (skin : RowSkin) (sought : List ℕ) (placed : PlacedText) (hits : List Marked) : Type 0 where
+-- the hits in characters that begin in that column: one for each place where what is sought begins
+pub record AreHitsAt (sought : List ℕ) (column : ℕ) (text : List StyledChar) (hits : List Marked) : Type 0 where
   pub starts : List ℕ
-  pub begin : AreStarts (chars sought) (compared_chars sought (map char_alone (styled_text skin placed.text))) 0 starts
-  pub are : hits ≡ map (marked_at placed.column (styled_text skin placed.text) (length (chars sought))) starts
+  pub begin : AreStarts (chars sought) (compared_chars sought (map char_alone text)) 0 starts
+  pub are : hits ≡ map (marked_at column text (length (chars sought))) starts
+
+-- the hits of a composite
+abbrev pub AreTextHits : RowSkin → List ℕ → PlacedText → List Marked → Type 0
+AreTextHits skin sought placed hits = AreHitsAt sought placed.column (styled_text skin placed.text) hits
 
 -- those of several, in order
 abbrev pub AreTextsHits : RowSkin → List ℕ → List PlacedText → List Marked → Type 0

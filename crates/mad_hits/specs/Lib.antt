@@ -5,6 +5,7 @@ pub mod HitLaws
 pub mod Hits
 pub mod Matches
 pub mod Overs
+pub mod OwnRows
 pub mod Panes
 pub mod Parts
 pub mod Rooms

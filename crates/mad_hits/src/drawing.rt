@@ -109,8 +109,8 @@ fn columns_before(skin: &RowSkin, room: RowRoom, gutters: &[Gutter]) -> usize
     columns_in_front(skin, gutters).saturating_add(usize::from(room.left))
 }
 
-// Draws hits in their style, each where it is within the columns, behind so many.
-fn draw_each<O: Out>(
+/// Draws hits in their style, each where it is within the columns, behind so many.
+pub(crate) fn draw_each<O: Out>(
     alloc: Global,
     out: &mut O,
     hits: &[Hit],
@@ -148,8 +148,8 @@ fn draw_hit<O: Out>(
     draw_chars(alloc, out, chars.as_slice(), column, width, y)
 }
 
-// Draws characters from a column on, where they are within the columns.
-fn draw_chars<O: Out>(
+/// Draws characters from a column on, where they are within the columns.
+pub(crate) fn draw_chars<O: Out>(
     alloc: Global,
     out: &mut O,
     chars: &[StyledChar],

@@ -5,7 +5,7 @@ ghost use Rattle.mad_wrap.specs.WrapLines.{capped};
 ghost use Rattle.mad_measure.specs.TextColumns.{columns};
 ghost use Rattle.mad_format.specs.declared.line.FmtLine.TheVariants.{Normal};
 ghost use Rattle.mad_style.specs.StyledChars.{char_alone};
-ghost use Rattle.mad_hits.specs.Hits.{marked_at, marked_of, placed_cells, placed_row, placed_texts, span, widthless, Adds, AreHits, AreTextHits, AreTextsHits};
+ghost use Rattle.mad_hits.specs.Hits.{marked_at, marked_of, placed_cells, placed_row, placed_texts, span, widthless, Adds, AreHits, AreHitsAt, AreTextHits, AreTextsHits};
 
 use crate::matches::{letters_of, starts};
 use crate::places::{column_in_cell, column_in_row, table_column};
@@ -113,17 +113,43 @@ fn push_hits(
     ensures { OnOk result ((n : ℕ) → column ≡ capped n → Adds (AreTextHits skin.now sought.now (record { column = n; text = composite.now })) hits.old.items hits.new.items) }
 {
     let text = styled_text(alloc, skin, composite)?;
+    push_hits_at(alloc, hits, text.as_slice(), column, sought)?;
+    Ok(())
+}
+
+/// The hits in characters that begin in the first column.
+///
+/// # Errors
+///
+/// Out of memory is the only error.
+pub(crate) fn hits_at_start(
+    alloc: Global,
+    text: &[StyledChar],
+    sought: &str,
+) -> Result<Vec<Hit>, AllocError>
+    ensures { IfOk result (λ hits. AreHitsAt sought.now 0 text.now (map marked_of hits.items)) }
+{
+    let mut hits = Vec::new(alloc);
+    push_hits_at(alloc, &mut hits, text, 0, sought)?;
+    Ok(hits)
+}
+
+// Puts the hits in characters after others, which begin in that column.
+fn push_hits_at(
+    alloc: Global,
+    hits: &mut Vec<Hit>,
+    text: &[StyledChar],
+    column: usize,
+    sought: &str,
+) -> Result<(), AllocError>
+    ensures { OnOk result ((n : ℕ) → column ≡ capped n → Adds (AreHitsAt sought.now n text.now) hits.old.items hits.new.items) }
+{
     let letters = letters_of(alloc, sought)?;
-    let starts = starts(
-        alloc,
-        text.as_slice(),
-        letters.as_slice(),
-        has_capital(sought),
-    )?;
+    let starts = starts(alloc, text, letters.as_slice(), has_capital(sought))?;
     push_marked(
         alloc,
         hits,
-        text.as_slice(),
+        text,
         column,
         starts.as_slice(),
         letters.as_slice().len(),

@@ -7,7 +7,8 @@
 //! 4. [`places`]: where the texts of a row begin; [`hits`]: what is drawn of a line.
 //! 5. [`overs`]: where it goes over the break between two rows; [`parts`]: what is drawn of a row.
 //! 6. [`drawing`]: all of it, over rows that were drawn, behind the fronts.
-//! 7. [`laws`]: what hits change.
+//! 7. [`own_rows`]: rows whose characters have styles of their own, and their hits.
+//! 8. [`laws`]: what hits change.
 #![tactic(auto)]
 
 mod columns;
@@ -16,6 +17,7 @@ mod hits;
 pub mod laws;
 mod matches;
 mod overs;
+mod own_rows;
 mod panes;
 mod parts;
 mod places;
@@ -26,6 +28,7 @@ mod styled;
 pub use columns::columns_in_front;
 pub use drawing::draw_row_hits;
 pub use hits::{Hit, hits_in};
+pub use own_rows::draw_own_rows;
 pub use panes::{draw_page_rows, left_columns};
 pub use parts::row_hits;
 pub use rooms::RowRoom;

@@ -7,10 +7,13 @@ use Rattle.mad_md.specs.Reading.{unread_text}
 use Rattle.mad_md.specs.Scan.{lines_of}
 use Rattle.mad_md.specs.declared.composite.CompositeStyle.{CompositeStyle}
 use Rattle.mad_md.specs.declared.composite.CompositeStyle.TheVariants.{Paragraph, Header, ListItem, ListItemFollowUp, OrderedListItem}
-use Rattle.mad_search.specs.PagedTexts.{grouped, paged_groups, paged_sections, plain_sections}
+use Rattle.mad_plain.specs.Runs.{StyledChar}
+use Rattle.mad_plain_page.specs.PlainTexts.{lines_kept, painted_rows}
+use Rattle.mad_style.specs.declared.styled_chars.StyledChar.{StyledChar as PaintedChar}
+use Rattle.mad_search.specs.PagedTexts.{grouped, paged_groups, paged_sections, plain_sections, row_sections}
 use Rattle.mad_sections.specs.Sections.{SectionContent}
 use Rattle.mad_search.specs.declared.paged.PagedText.{PagedText}
-use Rattle.mad_search.specs.declared.paged.PagedText.TheVariants.{Lines, Markdown}
+use Rattle.mad_search.specs.declared.paged.PagedText.TheVariants.{Lines, Markdown, Plain}
 use Rattle.markdown_reader.specs.MarkdownSays.{LinkSaid, links_said}
 use Rattle.mad_outline.specs.declared.sources.Source.{Source}
 use Rattle.mad_outline.specs.declared.sources.Source.TheVariants.{Text, Links, Contents}
@@ -110,23 +113,35 @@ headers_listed page chosen = or_said (codes "There are no headers.") (items_by (
 abbrev pub alone_each : List SectionContent → List (List SectionContent)
 alone_each page = grouped [] page
 
--- what a text says: its sections, those that are shown in groups, as one with the rule below it, and its links, if it can have some
+-- the sections that are shown at each width, in groups, as one with the rule below it
+abbrev pub PageAt : Type 0
+PageAt = ℕ → List (List SectionContent)
+
+-- What a text says: its sections, those that are shown at a width, and its links, if it can have some. If it has rows in styles of their own, those at a
+-- width.
 pub record TextSaid : Type 0 where
   pub page : List SectionContent
-  pub shown : List (List SectionContent)
+  pub shown : PageAt
+  pub drawn : Option (ℕ → List (List PaintedChar))
   pub links : Option (List LinkSaid)
 
 -- what a text says whose lines stand for themselves
 abbrev pub plain_said : List ℕ → TextSaid
 plain_said text =
     let page = plain_sections (lines_of (unread_text false text)) in
-    record { page = page; shown = alone_each page; links = None }
+    record { page = page; shown = λ width. alone_each page; drawn = None; links = None }
+
+-- what a text says that isn't Markdown, whose lines show this: no sections but its rows, which have styles of their own, shown or not
+abbrev pub rows_said : Bool → List (List StyledChar) → TextSaid
+rows_said is_styled lines =
+    record { page = []; shown = λ width. alone_each (row_sections width lines); drawn = Some (λ width. painted_rows is_styled width lines); links = None }
 
 -- what a text says that is paged
 abbrev pub text_said : PagedText → TextSaid
 text_said (Lines source) = plain_said source.now
 text_said (Markdown markdown dressings) =
-    record { page = paged_sections (Markdown markdown dressings); shown = paged_groups (Markdown markdown dressings); links = Some (links_said markdown.now) }
+    record { page = paged_sections (Markdown markdown dressings); shown = paged_groups (Markdown markdown dressings); drawn = None; links = Some (links_said markdown.now) }
+text_said (Plain text) = rows_said text.now.is_styled (lines_kept text.now)
 
 -- a text, the addresses of links, or the headers of a page, one of which is chosen, by its index
 pub data Content : Type 0 where
@@ -134,11 +149,11 @@ pub data Content : Type 0 where
   addresses : LinksIn → Content
   headers : List SectionContent → ℕ → Content
 
--- the sections of what is shown, in groups
-abbrev pub content_page : Content → List (List SectionContent)
+-- the sections of what is shown at a width, in groups
+abbrev pub content_page : Content → PageAt
 content_page (a_text text) = text.shown
-content_page (addresses links) = alone_each (plain_sections (links_listed links))
-content_page (headers page chosen) = alone_each (plain_sections (headers_listed page chosen))
+content_page (addresses links) = λ width. alone_each (plain_sections (links_listed links))
+content_page (headers page chosen) = λ width. alone_each (plain_sections (headers_listed page chosen))
 
 -- what a session shows, whatever its address
 abbrev pub content_of : Source → Content
@@ -146,9 +161,14 @@ content_of (Text text) = a_text (text_said text)
 content_of (Links markdown from to) = addresses (record { links = links_said markdown.now; from = from; to = to })
 content_of (Contents text chosen) = headers (paged_sections text) chosen
 
--- the sections of what a session shows, in groups
-abbrev pub source_page : Source → List (List SectionContent)
+-- the sections of what a session shows at a width, in groups
+abbrev pub source_page : Source → PageAt
 source_page source = content_page (content_of source)
+
+-- the rows that are shown in styles of their own at a width, if some are
+abbrev pub content_drawn : Content → Option (ℕ → List (List PaintedChar))
+content_drawn (a_text text) = text.drawn
+content_drawn content = None
 
 -- the text that is shown; where none is, an empty one
 abbrev pub said_of : Content → TextSaid

@@ -16,8 +16,8 @@ pub const LINKS_NAME: &str = "links";
 /// What it says where there is none.
 pub const NO_LINKS: &str = "No link is on the screen.";
 
-/// What it says of a text whose lines stand for themselves.
-pub const NEVER_LINKS: &str = "With --lines there are no links.";
+/// What it says of a text that can't have some.
+pub const NEVER_LINKS: &str = "No links are read of this text.";
 
 /// The addresses of the links that sections from one index on up to another have, as a text: an item for each, with its number.
 ///

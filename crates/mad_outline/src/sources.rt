@@ -30,13 +30,13 @@ pub enum Source<'s> {
 }
 
 impl<'s> Source<'s> {
-    // The sections of what is shown, each with what is put into the page with it.
-    fn dressed(self, alloc: Global) -> Result<Vec<Dressed<'s>>, AllocError>
-        ensures { IfOk result (λ dressed. map sections_dressed dressed.items ≡ source_page self.entry) }
+    // The sections of what is shown at a width, each with what is put into the page with it.
+    fn dressed(self, alloc: Global, width: usize) -> Result<Vec<Dressed<'s>>, AllocError>
+        ensures { IfOk result (λ dressed. map sections_dressed dressed.items ≡ source_page self.entry width) }
     {
         match self {
             Source::Text(text) => {
-                let dressed = text.dressed(alloc)?;
+                let dressed = text.dressed(alloc, width)?;
                 Ok(dressed)
             }
             Source::Links(markdown, from, to) => {
@@ -64,9 +64,9 @@ impl<'s> Source<'s> {
         width: usize,
         ascii: bool,
     ) -> Result<PagedPage<'s>, AllocError>
-        ensures { IfOk result (λ laid. IsPagedAt (S.rules skin.now) ascii (Some width) (source_page self.entry) laid) }
+        ensures { IfOk result (λ laid. IsPagedAt (S.rules skin.now) ascii (Some width) (source_page self.entry width) laid) }
     {
-        let page = self.dressed(alloc)?;
+        let page = self.dressed(alloc, width)?;
         let laid = lay_beside(alloc, skin, page, Some(width), ascii)?;
         Ok(laid)
     }

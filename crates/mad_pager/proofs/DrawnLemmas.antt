@@ -40,10 +40,11 @@ use Rattle.mad_hits.specs.FrontHits.{AreRowsMarked}
 use Rattle.mad_hits.specs.Panes.{ArePageRowsDrawn}
 use Rattle.mad_hits.specs.declared.rooms.RowRoom.{RowRoom}
 use Rattle.mad_pages.specs.declared.fronts.Front.{Front}
+use Rattle.mad_outline.specs.Sources.{Content}
 use Rattle.mad_pager.proofs.PageFills.{text_fills}
 use Rattle.std.proofs.lemmas.Bool.{ltb-false}
 use Rattle.std.proofs.lemmas.Bool.Decides.{nat_tests}
-use Rattle.mad_pager.specs.Screens.{status_skin, is_small, area_of, bar_of, text_pane, field_pane, prompt_pane, prompt_row, status_pane, status_words, AreHitsDrawn, ArePanesDrawn, IsFieldShown, IsLineIn, IsStatusLine, AreLinesShown, IsFieldRow, IsLastRow, IsStatus, IsDrawing, IsPicture, IsTypingShown, IsStatusShown, IsFieldInRow, IsShowing, IsShown, IsUnshown, WritesStatus, question, room_of}
+use Rattle.mad_pager.specs.Screens.{status_skin, is_small, area_of, bar_of, text_pane, field_pane, prompt_pane, prompt_row, status_pane, status_words, AreDrawnOver, ArePanesDrawn, IsFieldShown, IsLineIn, IsStatusLine, AreLinesShown, IsFieldRow, IsLastRow, IsStatus, IsDrawing, IsPicture, IsTypingShown, IsStatusShown, IsFieldInRow, IsShowing, IsShown, IsUnshown, WritesStatus, own_rows, question, room_of}
 use Rattle.mad_pager.specs.Sessions.{State, paged_skin, field_row, last_row, prompt_cell, text_area}
 
 -- ---- what is shown
@@ -150,9 +151,9 @@ screen_shown skin name s large a b lines row =
       status = λ is. status_shown skin name s a b lines (row.status is);
     }
 
--- and then the hits
-pub marks_shown : (skin : PageSkin) (name : List ℕ) (s : State) (a b : List ℕ) → ArePanesDrawn skin name s a → AreHitsDrawn skin s b → IsDrawing skin name s (a ++ b)
-marks_shown skin name s a b panes hits = record { panes = a; hits = b; are = refl; drawn = panes; marked = hits }
+-- and then what is drawn over them
+pub over_shown : (skin : PageSkin) (name : List ℕ) (content : Content) (s : State) (a b : List ℕ) → ArePanesDrawn skin name s a → AreDrawnOver skin (own_rows skin content s) s b → IsDrawing skin name content s (a ++ b)
+over_shown skin name content s a b panes over = record { panes = a; hits = b; are = refl; drawn = panes; marked = over }
 
 -- a line that was drawn in an area of one row
 pub line_drawn : (dress : MadSkin) (line : FmtLine) (items : List FmtLine) (area : Area) (bytes : List ℕ) (old new : Trace)
@@ -203,39 +204,39 @@ status_kept {T} (Err e) skin name words s dress line area old new dressed said i
 -- ---- what goes out
 
 -- the question and the picture
-showing : (skin : PageSkin) (name : List ℕ) (asks : Bool) (s : State) (bytes : List ℕ) → IsPicture skin name s bytes → IsShowing skin name asks s (question asks ++ bytes)
-showing skin name asks s bytes h = record { picture = bytes; is = refl; shows = h }
+showing : (skin : PageSkin) (name : List ℕ) (content : Content) (asks : Bool) (s : State) (bytes : List ℕ) → IsPicture skin name content s bytes → IsShowing skin name content asks s (question asks ++ bytes)
+showing skin name content asks s bytes h = record { picture = bytes; is = refl; shows = h }
 
 -- the question and the picture went out and were flushed
-pub shown_whole : (skin : PageSkin) (name : List ℕ) (asks : Bool) (s : State) (bytes : List ℕ) (old mid new done : Trace)
-    → IsPicture skin name s bytes → mid ≡ after old (question asks) → new ≡ after mid bytes → done ≡ flushed new → IsShown skin name asks s old done
-shown_whole skin name asks s bytes old mid new done h a b c =
-    (question asks ++ bytes, showing skin name asks s bytes h, c ∙ ap flushed (took_both old mid new (question asks) bytes a b))
+pub shown_whole : (skin : PageSkin) (name : List ℕ) (content : Content) (asks : Bool) (s : State) (bytes : List ℕ) (old mid new done : Trace)
+    → IsPicture skin name content s bytes → mid ≡ after old (question asks) → new ≡ after mid bytes → done ≡ flushed new → IsShown skin name content asks s old done
+shown_whole skin name content asks s bytes old mid new done h a b c =
+    (question asks ++ bytes, showing skin name content asks s bytes h, c ∙ ap flushed (took_both old mid new (question asks) bytes a b))
 
 -- a fault in the question
-pub unshown_in_question : (skin : PageSkin) (name : List ℕ) (asks : Bool) (s : State) (bytes : List ℕ) (old new : Trace) (e : io.Error)
-    → IsPicture skin name s bytes → CutShort old (question asks) new → IsUnshown skin name asks s old (IO e) new
-unshown_in_question skin name asks s bytes old new e h cut =
-    (question asks ++ bytes, showing skin name asks s bytes h, cut_in_first old new (question asks) bytes cut)
+pub unshown_in_question : (skin : PageSkin) (name : List ℕ) (content : Content) (asks : Bool) (s : State) (bytes : List ℕ) (old new : Trace) (e : io.Error)
+    → IsPicture skin name content s bytes → CutShort old (question asks) new → IsUnshown skin name content asks s old (IO e) new
+unshown_in_question skin name content asks s bytes old new e h cut =
+    (question asks ++ bytes, showing skin name content asks s bytes h, cut_in_first old new (question asks) bytes cut)
 
 -- or in the picture
-pub unshown_in_picture : (skin : PageSkin) (name : List ℕ) (asks : Bool) (s : State) (bytes : List ℕ) (old mid new : Trace) (e : io.Error)
-    → IsPicture skin name s bytes → mid ≡ after old (question asks) → CutShort mid bytes new → IsUnshown skin name asks s old (IO e) new
-unshown_in_picture skin name asks s bytes old mid new e h a cut =
-    (question asks ++ bytes, showing skin name asks s bytes h, cut_in_second old mid new (question asks) bytes a cut)
+pub unshown_in_picture : (skin : PageSkin) (name : List ℕ) (content : Content) (asks : Bool) (s : State) (bytes : List ℕ) (old mid new : Trace) (e : io.Error)
+    → IsPicture skin name content s bytes → mid ≡ after old (question asks) → CutShort mid bytes new → IsUnshown skin name content asks s old (IO e) new
+unshown_in_picture skin name content asks s bytes old mid new e h a cut =
+    (question asks ++ bytes, showing skin name content asks s bytes h, cut_in_second old mid new (question asks) bytes a cut)
 
 -- or at the flush
-pub unshown_at_flush : (skin : PageSkin) (name : List ℕ) (asks : Bool) (s : State) (bytes : List ℕ) (old mid written new : Trace) (e : io.Error)
-    → IsPicture skin name s bytes → mid ≡ after old (question asks) → written ≡ after mid bytes → new ≡ failed written → IsUnshown skin name asks s old (IO e) new
-unshown_at_flush skin name asks s bytes old mid written new e h a b fault =
-    (question asks ++ bytes, showing skin name asks s bytes h, flush_failed old written new (question asks ++ bytes) (took_both old mid written (question asks) bytes a b) fault)
+pub unshown_at_flush : (skin : PageSkin) (name : List ℕ) (content : Content) (asks : Bool) (s : State) (bytes : List ℕ) (old mid written new : Trace) (e : io.Error)
+    → IsPicture skin name content s bytes → mid ≡ after old (question asks) → written ≡ after mid bytes → new ≡ failed written → IsUnshown skin name content asks s old (IO e) new
+unshown_at_flush skin name content asks s bytes old mid written new e h a b fault =
+    (question asks ++ bytes, showing skin name content asks s bytes h, flush_failed old written new (question asks ++ bytes) (took_both old mid written (question asks) bytes a b) fault)
 
 -- what a `?` hands on that made this error
-pub unshown_exit : (skin : PageSkin) (name : List ℕ) (asks : Bool) (s : State) (old new : Trace) (r : Result Unit Error) (e : Error)
-    → IsErrAnd r (λ d. d ≡ e) → IsUnshown skin name asks s old e new → MatchResult r (λ _. IsShown skin name asks s old new) (λ d. IsUnshown skin name asks s old d new)
-unshown_exit skin name asks s old new r e is h =
+pub unshown_exit : (skin : PageSkin) (name : List ℕ) (content : Content) (asks : Bool) (s : State) (old new : Trace) (r : Result Unit Error) (e : Error)
+    → IsErrAnd r (λ d. d ≡ e) → IsUnshown skin name content asks s old e new → MatchResult r (λ _. IsShown skin name content asks s old new) (λ d. IsUnshown skin name content asks s old d new)
+unshown_exit skin name content asks s old new r e is h =
     let p = err_from_is_err_and r is in
-    subst (λ (t : Result Unit Error). MatchResult t (λ _. IsShown skin name asks s old new) (λ d. IsUnshown skin name asks s old d new)) (sym (p.1 ∙ ap Err p.2)) h
+    subst (λ (t : Result Unit Error). MatchResult t (λ _. IsShown skin name content asks s old new) (λ d. IsUnshown skin name content asks s old d new)) (sym (p.1 ∙ ap Err p.2)) h
 
 -- the hits of the rows on the screen, along what is equal
 pub hits_along : (skin dress : RowSkin) (style : CompoundStyle) (given_room room : RowRoom) (height rows top : ℕ) (text sought : List ℕ) (shown lines : List FmtLine) (front fronts : List Front) (given starts : List ℕ) (old new : Trace) → dress ≡ skin → given_room ≡ room → height ≡ rows → text ≡ sought

@@ -1,5 +1,6 @@
 pub mod DrawnLemmas
 pub mod OrderLemmas
+pub mod OwnRowLemmas
 pub mod PageFills
 pub mod PagerOrder
 pub mod PagerSteps

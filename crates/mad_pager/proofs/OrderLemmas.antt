@@ -4,7 +4,7 @@ use Rattle.std.specs.Str.{chars}
 use Rattle.std.proofs.lemmas.List.{take-append-drop}
 use Rattle.std.proofs.lemmas.Bool.{cases_eq}
 use Rattle.std.proofs.lemmas.Bool.Decides.{nat_tests}
-use Rattle.mad_sections.specs.Sections.{SectionContent}
+use Rattle.mad_outline.specs.Sources.{PageAt}
 use Rattle.mad_characters.specs.Columns.{char_columns}
 use Rattle.mad_term.specs.declared.events.Event.{Event}
 use Rattle.mad_term.specs.declared.events.Event.TheVariants.{Key, Mouse, Resize, FocusGained, FocusLost}
@@ -166,7 +166,7 @@ mouse_place _ x y p = record { columns = refl; rows = refl }
 
 -- ---- sessions
 
-kept_order : (skin : PageSkin) (text : List (List SectionContent)) (s new : State) → new.laid ≡ s.laid → IsSamePlace s.page new.page → IsKept s.field new.field → IsOrderly skin text s → IsOrderly skin text new
+kept_order : (skin : PageSkin) (text : PageAt) (s new : State) → new.laid ≡ s.laid → IsSamePlace s.page new.page → IsKept s.field new.field → IsOrderly skin text s → IsOrderly skin text new
 kept_order skin text s new same place kept h = record {
   laid = subst (λ (n : ℕ). IsLaidFor skin text n new.laid) (sym place.columns) (subst (λ (l : PagedPage). IsLaidFor skin text s.page.columns l) (sym same) h.laid);
   field = record {
@@ -176,33 +176,33 @@ kept_order skin text s new same place kept h = record {
 }
 
 -- another page, or another thing that is sought
-same_order : (skin : PageSkin) (text : List (List SectionContent)) (s mid new : State) → new ≡ mid → mid.laid ≡ s.laid → IsSamePlace s.page mid.page → IsKept s.field mid.field → IsOrderly skin text s → IsOrderly skin text new
+same_order : (skin : PageSkin) (text : PageAt) (s mid new : State) → new ≡ mid → mid.laid ≡ s.laid → IsSamePlace s.page mid.page → IsKept s.field mid.field → IsOrderly skin text s → IsOrderly skin text new
 same_order skin text s mid new e same place kept h = subst (λ (x : State). IsOrderly skin text x) (sym e) (kept_order skin text s mid same place kept h)
 
 still : (p : Page) → IsSamePlace p p
 still p = record { columns = refl; rows = refl }
 
 -- a search leaves it orderly
-found_order : (skin : PageSkin) (text : List (List SectionContent)) (row : Option ℕ) (s new : State) → new ≡ at_found row s → IsOrderly skin text s → IsOrderly skin text new
+found_order : (skin : PageSkin) (text : PageAt) (row : Option ℕ) (s new : State) → new ≡ at_found row s → IsOrderly skin text s → IsOrderly skin text new
 found_order skin text None s new e h = same_order skin text s _ new e refl (still s.page) (stays s.field h.field.typed) h
 found_order skin text (Some row) s new e h =
     same_order skin text s _ new e refl (either_place (shows_row s.page row) s.page _ _ (still s.page) (record { columns = refl; rows = refl })) (stays s.field h.field.typed) h
 
 -- nor does a header that is put on top
-pub header_order : (skin : PageSkin) (text : List (List SectionContent)) (row : Option ℕ) (s new : State) → new ≡ at_header row s → IsOrderly skin text s → IsOrderly skin text new
+pub header_order : (skin : PageSkin) (text : PageAt) (row : Option ℕ) (s new : State) → new ≡ at_header row s → IsOrderly skin text s → IsOrderly skin text new
 header_order skin text None s new e h = same_order skin text s _ new e refl (still s.page) (stays s.field h.field.typed) h
 header_order skin text (Some row) s new e h = same_order skin text s _ new e refl (record { columns = refl; rows = refl }) (stays s.field h.field.typed) h
 
 -- on whatever way
-found_way : (skin : PageSkin) (text : List (List SectionContent)) (backward : Bool) (s new : State) → IsFound backward s new → IsOrderly skin text s → IsOrderly skin text new
+found_way : (skin : PageSkin) (text : PageAt) (backward : Bool) (s new : State) → IsFound backward s new → IsOrderly skin text s → IsOrderly skin text new
 found_way skin text false s new (row, next, e) h = found_order skin text row s new e h
 found_way skin text true s new (row, previous, e) h = found_order skin text row s new e h
 
 -- nor does an empty field
-begun_order : (skin : PageSkin) (text : List (List SectionContent)) (backward : Bool) (s new : State) → new ≡ begun_search backward s → IsOrderly skin text s → IsOrderly skin text new
+begun_order : (skin : PageSkin) (text : PageAt) (backward : Bool) (s new : State) → new ≡ begun_search backward s → IsOrderly skin text s → IsOrderly skin text new
 begun_order skin text backward s new e h = subst (λ (x : State). IsOrderly skin text x) (sym e) (record { laid = h.laid; field = record { area = refl; typed = tt } })
 
-asked_order : (skin : PageSkin) (text : List (List SectionContent)) (ask : Ask) (s new : State) → IsAsked ask s new → IsOrderly skin text s → IsOrderly skin text new
+asked_order : (skin : PageSkin) (text : PageAt) (ask : Ask) (s new : State) → IsAsked ask s new → IsOrderly skin text s → IsOrderly skin text new
 asked_order skin text Search s new e h = begun_order skin text false s new e h
 asked_order skin text SearchBack s new e h = begun_order skin text true s new e h
 asked_order skin text Next s new step h = found_way skin text s.is_backward s new step h
@@ -212,13 +212,13 @@ asked_order skin text PreviousHeader s new e h = header_order skin text (previou
 asked_order skin text Forget s new e h = same_order skin text s _ new e refl (still s.page) (stays s.field h.field.typed) h
 asked_order skin text _ s new e h = same_order skin text s s new e refl (still s.page) (stays s.field h.field.typed) h
 
-key_order : (skin : PageSkin) (text : List (List SectionContent)) (key : KeyEvent) (s new : State) → IsKeyStep key s new → IsOrderly skin text s → IsOrderly skin text new
+key_order : (skin : PageSkin) (text : PageAt) (key : KeyEvent) (s new : State) → IsKeyStep key s new → IsOrderly skin text s → IsOrderly skin text new
 key_order skin text key s new step h =
     asked_order skin text (after_key key s.page).ask (record s { page = (after_key key s.page).page }) new step
     (kept_order skin text s (record s { page = (after_key key s.page).page }) refl (key_place key s.page) (stays s.field h.field.typed) h)
 
 -- a key that is no character
-other_order : (skin : PageSkin) (text : List (List SectionContent)) (code : KeyCode) (key : KeyEvent) (s new : State) → ((c : ℕ) → code ≡ Char c → ⊥) → key.code ≡ code → new ≡ record s { field = typed key s.field } → IsOrderly skin text s
+other_order : (skin : PageSkin) (text : PageAt) (code : KeyCode) (key : KeyEvent) (s new : State) → ((c : ℕ) → code ≡ Char c → ⊥) → key.code ≡ code → new ≡ record s { field = typed key s.field } → IsOrderly skin text s
     → IsOrderly skin text new
 other_order skin text code key s new other is e h =
     same_order skin text s (record s { field = typed key s.field }) new e refl (still s.page) (typed_kept key s.field (λ c at. absurd (other c (sym is ∙ at))) h.field.typed) h
@@ -231,20 +231,20 @@ takes_some : (c : ℕ) → (char_columns c == 0) ≡ false → 0 < char_columns 
 takes_some c e = grind (arith, nat_tests)
 
 -- a character that is typed
-char_order : (skin : PageSkin) (text : List (List SectionContent)) (c : ℕ) (key : KeyEvent) (s : State) → key.code ≡ Char c → IsOrderly skin text s → IsOrderly skin text (char_typed c key s)
+char_order : (skin : PageSkin) (text : PageAt) (c : ℕ) (key : KeyEvent) (s : State) → key.code ≡ Char c → IsOrderly skin text s → IsOrderly skin text (char_typed c key s)
 char_order skin text c key s is h = kept_order skin text s (char_typed c key s) refl (still s.page) (char_field c key s.field (char_columns c == 0) is (takes_some c) h.field.typed) h
 
 -- and so all of a text
-text_order : (skin : PageSkin) (text : List (List SectionContent)) (cs : List ℕ) (s : State) → IsOrderly skin text s → IsOrderly skin text (text_typed cs s)
+text_order : (skin : PageSkin) (text : PageAt) (cs : List ℕ) (s : State) → IsOrderly skin text s → IsOrderly skin text (text_typed cs s)
 text_order skin text [] s h = h
 text_order skin text (c ∷ cs) s h = text_order skin text cs (char_typed c (char_key c) s) (char_order skin text c (char_key c) s refl h)
 
 -- an earlier text in an empty field
-recalled_order : (skin : PageSkin) (text : List (List SectionContent)) (back : ℕ) (s new : State) → new ≡ recalled back s → IsOrderly skin text s → IsOrderly skin text new
+recalled_order : (skin : PageSkin) (text : PageAt) (back : ℕ) (s new : State) → new ≡ recalled back s → IsOrderly skin text s → IsOrderly skin text new
 recalled_order skin text back s new e h =
     subst (λ (x : State). IsOrderly skin text x) (sym e) (text_order skin text (chars (earlier s.past back)) (begun_recall back s) (record { laid = h.laid; field = record { area = refl; typed = tt } }))
 
-type_order : (skin : PageSkin) (text : List (List SectionContent)) (code : KeyCode) (key : KeyEvent) (s new : State) → key.code ≡ code → IsTypeStep code key s new → IsOrderly skin text s → IsOrderly skin text new
+type_order : (skin : PageSkin) (text : PageAt) (code : KeyCode) (key : KeyEvent) (s new : State) → key.code ≡ code → IsTypeStep code key s new → IsOrderly skin text s → IsOrderly skin text new
 type_order skin text Enter key s new is step h =
     found_way skin text s.types_back (seeking (wanted s) s) new step (record { laid = h.laid; field = record { area = h.field.area; typed = h.field.typed } })
 type_order skin text Esc key s new is e h = same_order skin text s _ new e refl (still s.page) (stays s.field h.field.typed) h
@@ -266,20 +266,20 @@ type_order skin text (F n) key s new is e h = other_order skin text (F n) key s 
 type_order skin text Null key s new is e h = other_order skin text Null key s new (λ c at. cc) is e h
 
 -- so does a key of a pasted text
-pasted_key_order : (skin : PageSkin) (text : List (List SectionContent)) (code : KeyCode) (key : KeyEvent) (s : State) → key.code ≡ code → IsOrderly skin text s → IsOrderly skin text (pasted_code code key s)
+pasted_key_order : (skin : PageSkin) (text : PageAt) (code : KeyCode) (key : KeyEvent) (s : State) → key.code ≡ code → IsOrderly skin text s → IsOrderly skin text (pasted_code code key s)
 pasted_key_order skin text (Char c) key s is h = type_order skin text (Char c) key s _ is refl h
 pasted_key_order skin text _ key s is h = h
 
-pasted_typing : (skin : PageSkin) (text : List (List SectionContent)) (key : KeyEvent) (s : State) (b : Bool) → IsOrderly skin text s → IsOrderly skin text (if b then pasted_code key.code key s else s)
+pasted_typing : (skin : PageSkin) (text : PageAt) (key : KeyEvent) (s : State) (b : Bool) → IsOrderly skin text s → IsOrderly skin text (if b then pasted_code key.code key s else s)
 pasted_typing skin text key s true h = pasted_key_order skin text key.code key s refl h
 pasted_typing skin text key s false h = h
 
 -- and an event of one
-pub pasted_order : (skin : PageSkin) (text : List (List SectionContent)) (event : Event) (s : State) → IsOrderly skin text s → IsOrderly skin text (pasted event s)
+pub pasted_order : (skin : PageSkin) (text : PageAt) (event : Event) (s : State) → IsOrderly skin text s → IsOrderly skin text (pasted event s)
 pasted_order skin text (Key key) s h = pasted_typing skin text key s s.is_typing h
 pasted_order skin text _ s h = h
 
-any_key_order : (skin : PageSkin) (text : List (List SectionContent)) (key : KeyEvent) (s new : State) (b : Bool) → s.is_typing ≡ b → IsAnyKeyStep key s new → IsOrderly skin text s → IsOrderly skin text new
+any_key_order : (skin : PageSkin) (text : PageAt) (key : KeyEvent) (s new : State) (b : Bool) → s.is_typing ≡ b → IsAnyKeyStep key s new → IsOrderly skin text s → IsOrderly skin text new
 any_key_order skin text key s new true is step h = type_order skin text key.code key s new refl (step.typing is) h
 any_key_order skin text key s new false is step h = key_order skin text key s new (step.other is) h
 
@@ -298,7 +298,7 @@ moved_area columns rows s new at h =
     ]
 
 -- it is so on a screen of another size, whatever was laid out before
-pub resized_order : (skin : PageSkin) (text : List (List SectionContent)) (columns rows : ℕ) (s new : State) → IsResized skin text columns rows s new → IsFieldInRow s → IsOrderly skin text new
+pub resized_order : (skin : PageSkin) (text : PageAt) (columns rows : ℕ) (s new : State) → IsResized skin text columns rows s new → IsFieldInRow s → IsOrderly skin text new
 resized_order skin text columns rows s new step h =
     let moved = moved_area columns rows s new.field h.area step.field in
     let wide : new.page.columns ≡ columns = ap (λ (p : Page). p.columns) step.page in
@@ -311,26 +311,26 @@ resized_order skin text columns rows s new step h =
       };
     }
 
-heard_order : (skin : PageSkin) (text : List (List SectionContent)) (b : Bool) (columns rows : ℕ) (s new : State)
+heard_order : (skin : PageSkin) (text : PageAt) (b : Bool) (columns rows : ℕ) (s new : State)
     → new ≡ (if b then s else record s { told = Some (record { columns = columns; rows = rows }) }) → IsOrderly skin text s → IsOrderly skin text new
 heard_order skin text true columns rows s new e h = same_order skin text s _ new e refl (still s.page) (stays s.field h.field.typed) h
 heard_order skin text false columns rows s new e h = same_order skin text s _ new e refl (still s.page) (stays s.field h.field.typed) h
 
-settled_at : (skin : PageSkin) (text : List (List SectionContent)) (told : Option ScreenSize) (s new : State) → IsLaidAnew told skin text s new → IsOrderly skin text s → IsOrderly skin text new
+settled_at : (skin : PageSkin) (text : PageAt) (told : Option ScreenSize) (s new : State) → IsLaidAnew told skin text s new → IsOrderly skin text s → IsOrderly skin text new
 settled_at skin text None s new e h = subst (λ (x : State). IsOrderly skin text x) (sym e) h
 settled_at skin text (Some size) s new step h = resized_order skin text size.columns size.rows s new step h.field
 
 -- so does a row that is brought on the screen
-pub sight_order : (skin : PageSkin) (text : List (List SectionContent)) (row : ℕ) (s : State) → IsOrderly skin text s → IsOrderly skin text (record s { page = in_sight s.page row })
+pub sight_order : (skin : PageSkin) (text : PageAt) (row : ℕ) (s : State) → IsOrderly skin text s → IsOrderly skin text (record s { page = in_sight s.page row })
 sight_order skin text row s h =
     kept_order skin text s (record s { page = in_sight s.page row }) refl (either_place (shows_row s.page row) s.page _ _ (still s.page) (record { columns = refl; rows = refl })) (stays s.field h.field.typed) h
 
 -- a text that is laid out anew leaves a session orderly
-pub settled_order : (skin : PageSkin) (text : List (List SectionContent)) (s new : State) → IsSettled skin text s new → IsOrderly skin text s → IsOrderly skin text new
+pub settled_order : (skin : PageSkin) (text : PageAt) (s new : State) → IsSettled skin text s new → IsOrderly skin text s → IsOrderly skin text new
 settled_order skin text s new step h = settled_at skin text s.told s new step h
 
 -- and so does an event
-pub event_order : (skin : PageSkin) (text : List (List SectionContent)) (event : Event) (s new : State) → IsEventStep skin text event s new → IsOrderly skin text s → IsOrderly skin text new
+pub event_order : (skin : PageSkin) (text : PageAt) (event : Event) (s new : State) → IsEventStep skin text event s new → IsOrderly skin text s → IsOrderly skin text new
 event_order skin text (Key key) s new step h = any_key_order skin text key s new s.is_typing refl step h
 event_order skin text (Mouse m) s new e h = same_order skin text s _ new e refl (mouse_place m.kind m.column m.row s.page) (stays s.field h.field.typed) h
 event_order skin text (Resize columns rows) s new e h = heard_order skin text (nat_lt 1000000 (columns * rows)) columns rows s new e h
@@ -338,11 +338,11 @@ event_order skin text FocusGained s new e h = same_order skin text s s new e ref
 event_order skin text FocusLost s new e h = same_order skin text s s new e refl (still s.page) (stays s.field h.field.typed) h
 
 -- so does a row that is put on top
-pub row_order : (skin : PageSkin) (text : List (List SectionContent)) (number : ℕ) (s : State) → IsOrderly skin text s → IsOrderly skin text (record s { page = begun_at number s.page })
+pub row_order : (skin : PageSkin) (text : PageAt) (number : ℕ) (s : State) → IsOrderly skin text s → IsOrderly skin text (record s { page = begun_at number s.page })
 row_order skin text number s h = kept_order skin text s (record s { page = begun_at number s.page }) refl (record { columns = refl; rows = refl }) (stays s.field h.field.typed) h
 
 -- a session is so from its start on
-pub start_order : (skin : PageSkin) (text : List (List SectionContent)) (columns rows : ℕ) (files : Files) (s : State) → IsStart skin text columns rows files s → IsOrderly skin text s
+pub start_order : (skin : PageSkin) (text : PageAt) (columns rows : ℕ) (files : Files) (s : State) → IsStart skin text columns rows files s → IsOrderly skin text s
 start_order skin text columns rows files s h =
     let wide : s.page.columns ≡ columns = ap (λ (p : Page). p.columns) h.page in
     let high : s.page.rows ≡ rows = ap (λ (p : Page). p.rows) h.page in

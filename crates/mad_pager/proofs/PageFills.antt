@@ -168,9 +168,9 @@ drawable_on_screen skin s y line wide narrow keeps inside is =
     let end : ℕ = s.page.top + (area_of s).height in
     let row : ℕ = s.page.top + y in
     let groups = keeps.laid.groups_begin in
-    begun_drawable dress width (text_columns skin s) end 0 keeps.page keeps.laid.rows groups.0 (three_wide skin.room s.page.columns wide) (wide_enough skin s) (let short = narrow_enough skin s narrow in omega (arith, short)) keeps.faces groups.2
-    (subst (λ (l : List ℕ). AllByRecursion (KeepsRoom dress width) (sections_at dress width (sections_in (take (count_by (λ start. nat_lt start end) l) keeps.page)))) groups.1 keeps.keeps) row
-    (row_behind (front_at s.laid.fronts.items row) line) (rows_are (line_rules dress) (has_ascii_boxes dress) (Some width) keeps.page s.laid keeps.laid row line is) (omega (arith, inside))
+    begun_drawable dress width (text_columns skin s) end 0 (keeps.page width) keeps.laid.rows groups.0 (three_wide skin.room s.page.columns wide) (wide_enough skin s) (let short = narrow_enough skin s narrow in omega (arith, short)) keeps.faces groups.2
+    (subst (λ (l : List ℕ). AllByRecursion (KeepsRoom dress width) (sections_at dress width (sections_in (take (count_by (λ start. nat_lt start end) l) (keeps.page width))))) groups.1 keeps.keeps) row
+    (row_behind (front_at s.laid.fronts.items row) line) (rows_are (line_rules dress) (has_ascii_boxes dress) (Some width) (keeps.page width) s.laid keeps.laid row line is) (omega (arith, inside))
 
 -- a row that fills its room fills the columns that the bar leaves
 room_fills : (skin : PageSkin) (s : State) (row : List RowPiece) → 5 ≤ s.page.columns → FillsRow (text_columns skin s) row → FillsRow (columns_beside (bar_of skin s) s.page.columns) (in_room (paged_skin skin) (room_of skin s) (columns_beside (bar_of skin s) s.page.columns) row)

@@ -1,7 +1,6 @@
 -- The sessions of a pager stay orderly.
 use Rattle.std.proofs.Common.{◌≡◌, ℕ, List, Option, Some, None, option_map, ap, refl, sym, subst}
 use Rattle.std.specs.Prelude.{slice_index}
-use Rattle.mad_sections.specs.Sections.{SectionContent}
 use Rattle.mad_page_skin.specs.declared.page_skin.PageSkin.{PageSkin}
 use Rattle.mad_term.specs.declared.events.Event.{Event}
 use Rattle.mad_term.specs.declared.events.Event.TheVariants.{Key, Mouse, Resize, FocusGained, FocusLost}
@@ -9,7 +8,7 @@ use Rattle.mad_term.specs.declared.keys.KeyEvent.{KeyEvent}
 use Rattle.mad_page.specs.declared.page.Files.{Files}
 use Rattle.mad_pager.specs.Screens.{IsOrderly}
 use Rattle.mad_pager.specs.Sessions.{State, HasSameText, IsEventStep, IsSettled, hears_size, pasted, state_of}
-use Rattle.mad_outline.specs.Sources.{Content, TextSaid, a_text, addresses, headers, content_page, content_of, said_of, source_page}
+use Rattle.mad_outline.specs.Sources.{Content, PageAt, TextSaid, a_text, addresses, headers, content_page, content_of, said_of, source_page}
 use Rattle.mad_pager.specs.Pagers.{Leaf, View, IsAnswered, IsChoice, IsCovered, IsLeafSettled, IsLeafStep, IsOpened, IsOrderlyLeaf, IsOrderlyOver, IsOrderlyView, IsOverSettled, IsOverStart, IsPageStart, IsSameLeaf, IsStep, IsStepIn, IsViewSettled, contents_name, contents_page, header_row, help_name, help_page, hearing, leaf_page, leaf_of, links_name, links_page, over_answer, sighted, begun, pasted_at, pasted_in, pasted_leaf}
 use Rattle.mad_pager.specs.declared.over.Answer.{Answer}
 use Rattle.mad_pager.specs.declared.over.Answer.TheVariants.{Closes, Takes, Chooses, Passes}
@@ -133,7 +132,7 @@ pasted_view_order event v h = pasted_at_order v.over event v.text h.text h.over
 settled_leaf_order : (old new : Leaf) → IsLeafSettled old new → IsOrderlyLeaf old → IsOrderlyLeaf new
 settled_leaf_order old new h k = order_at old.skin old.content new h.same.skin h.same.content (settled_order old.skin (leaf_page old) old.state new.state h.settled k)
 
-sighted_order : (skin : PageSkin) (text : List (List SectionContent)) (content : Content) (s : State) → IsOrderly skin text s → IsOrderly skin text (sighted content s)
+sighted_order : (skin : PageSkin) (text : PageAt) (content : Content) (s : State) → IsOrderly skin text s → IsOrderly skin text (sighted content s)
 sighted_order skin text (headers of chosen) s h = sight_order skin text (slice_index s.laid.starts.items chosen) s h
 sighted_order skin text (a_text said) s h = h
 sighted_order skin text (addresses links) s h = h

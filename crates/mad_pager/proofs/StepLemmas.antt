@@ -1,7 +1,7 @@
 -- What keys and events do, along what is equal.
 use Rattle.std.proofs.Common.{◌≡◌, ◌≢◌, ℕ, ◌-◌, ◌==◌, Bool, List, [], ◌∷◌, ◌++◌, length, Option, Some, None, refl, sym, subst, ap, ◌∙◌, true, false, append_assoc}
 use Rattle.std.specs.Prelude.{codes}
-use Rattle.mad_sections.specs.Sections.{SectionContent}
+use Rattle.mad_outline.specs.Sources.{PageAt}
 use Rattle.mad_md.specs.declared.alignment.Alignment.{Alignment}
 use Rattle.mad_md.specs.declared.alignment.Alignment.TheVariants.{Left}
 use Rattle.mad_format.specs.Fitting.{IsCompositeFitted}
@@ -63,18 +63,18 @@ same_previous a b l m t u end to row e k i f h =
     subst (λ (n : ℕ). IsPreviousRowIn b m u n row) f (subst (λ (y : List ℕ). IsPreviousRowIn b m y end row) i (subst (λ (x : List FmtLine). IsPreviousRowIn b x t end row) k (subst (λ (x : List ℕ). IsPreviousRowIn x l t end row) e h)))
 
 -- a text laid out at the width of a screen is so for the screen
-pub laid_at : (skin : PageSkin) (page : List (List SectionContent)) (columns width : ℕ) (dress : RowSkin) (ascii : Bool) (laid : PagedPage) → dress ≡ paged_skin skin → ascii ≡ has_ascii_boxes dress → width ≡ layout_width skin.room columns → IsPagedAt (line_rules dress) ascii (Some width) page laid
+pub laid_at : (skin : PageSkin) (page : PageAt) (columns width : ℕ) (dress : RowSkin) (ascii : Bool) (laid : PagedPage) → dress ≡ paged_skin skin → ascii ≡ has_ascii_boxes dress → width ≡ layout_width skin.room columns → IsPagedAt (line_rules dress) ascii (Some width) (page width) laid
     → IsLaidFor skin page columns laid
 laid_at skin page columns width dress ascii laid dressed boxes e h =
-    subst (λ (n : ℕ). IsPagedAt (line_rules (paged_skin skin)) (has_ascii_boxes (paged_skin skin)) (Some n) page laid) e
-    (subst (λ (d : RowSkin). IsPagedAt (line_rules d) (has_ascii_boxes d) (Some width) page laid) dressed (subst (λ (b : Bool). IsPagedAt (line_rules dress) b (Some width) page laid) boxes h))
+    subst (λ (n : ℕ). IsPagedAt (line_rules (paged_skin skin)) (has_ascii_boxes (paged_skin skin)) (Some n) (page n) laid) e
+    (subst (λ (d : RowSkin). IsPagedAt (line_rules d) (has_ascii_boxes d) (Some width) (page width) laid) dressed (subst (λ (b : Bool). IsPagedAt (line_rules dress) b (Some width) (page width) laid) boxes h))
 
 -- a text that is laid out anew for the size that was told
-pub settled_some : (skin : PageSkin) (text : List (List SectionContent)) (told : Option ScreenSize) (size : ScreenSize) (s new : State) → told ≡ Some size → IsResized skin text size.columns size.rows s new → IsLaidAnew told skin text s new
+pub settled_some : (skin : PageSkin) (text : PageAt) (told : Option ScreenSize) (size : ScreenSize) (s new : State) → told ≡ Some size → IsResized skin text size.columns size.rows s new → IsLaidAnew told skin text s new
 settled_some skin text told size s new is h = subst (λ (o : Option ScreenSize). IsLaidAnew o skin text s new) (sym is) h
 
 -- without such a size it stays
-pub settled_none : (skin : PageSkin) (text : List (List SectionContent)) (told : Option ScreenSize) (s : State) → told ≡ None → IsLaidAnew told skin text s s
+pub settled_none : (skin : PageSkin) (text : PageAt) (told : Option ScreenSize) (s : State) → told ≡ None → IsLaidAnew told skin text s s
 settled_none skin text told s is = subst (λ (o : Option ScreenSize). IsLaidAnew o skin text s s) (sym is) refl
 
 -- a field that was given this area

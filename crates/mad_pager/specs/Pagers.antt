@@ -21,7 +21,7 @@ use Rattle.mad_term.specs.declared.keys.KeyEvent.{KeyEvent}
 use Rattle.markdown_reader.specs.MarkdownSays.{LinkSaid}
 use Rattle.mad_pager.specs.Screens.{IsOrderly, IsShown, IsUnshown}
 use Rattle.mad_pager.specs.Sessions.{State, IsEventStep, IsResized, IsSettled, IsStart, at_header, hears, opens, pasted, state_of, turn_of}
-use Rattle.mad_outline.specs.Sources.{Content, LinksIn, TextSaid, a_text, addresses, headers, content_page, content_of, count_below, header_numbers, next, plain_said, said_of}
+use Rattle.mad_outline.specs.Sources.{Content, LinksIn, PageAt, TextSaid, a_text, addresses, headers, content_page, content_of, count_below, header_numbers, next, plain_said, said_of}
 use Rattle.mad_pager.specs.declared.over.Answer.{Answer}
 use Rattle.mad_pager.specs.declared.over.Answer.TheVariants.{Closes, Takes, Chooses, Passes}
 use Rattle.mad_pager.specs.declared.pager.Pager.{Pager}
@@ -45,8 +45,8 @@ pub record Leaf : Type 0 where
 abbrev pub leaf_of : Session → Leaf
 leaf_of s = record { skin = s.skin.now; name = s.name.now; content = content_of s.source; state = state_of s }
 
--- the sections of what is shown, in groups
-abbrev pub leaf_page : Leaf → List (List SectionContent)
+-- the sections of what is shown at a width, in groups
+abbrev pub leaf_page : Leaf → PageAt
 leaf_page l = content_page l.content
 
 -- What a pager has: a text, and the page over it, while one is open.
@@ -169,9 +169,9 @@ last_row_of page = min (page.top + (body_rows page - 1)) (2 ^ 64 - 1)
 abbrev pub links_in : List LinkSaid → State → LinksIn
 links_in links s = record { links = links; from = part_of s.laid.starts.items s.page.top; to = next (part_of s.laid.starts.items (last_row_of s.page)) }
 
--- what is said of a text whose lines stand for themselves
+-- what is said of a text that can't have some
 abbrev pub never_links : List ℕ
-never_links = codes "With --lines there are no links."
+never_links = codes "No links are read of this text."
 
 -- what the page of links is made of, over a text that has these links, if it can have some
 abbrev pub links_page_of : Option (List LinkSaid) → State → Content
@@ -401,7 +401,7 @@ pub record IsOrderlyView (v : View) : Type 0 where
 
 -- the screen is that of the session that is shown
 abbrev pub IsLeafShown : Bool → Leaf → Trace → Trace → Type 0
-IsLeafShown asks l old new = IsShown l.skin l.name asks l.state old new
+IsLeafShown asks l old new = IsShown l.skin l.name l.content asks l.state old new
 
 -- the screen is that of what the pager shows
 abbrev pub IsViewShown : Bool → View → Trace → Trace → Type 0
@@ -409,4 +409,4 @@ IsViewShown asks v old new = IsLeafShown asks (shown v) old new
 
 -- what the pager shows was not shown, by this fault
 abbrev pub IsViewUnshown : Bool → View → Trace → Error → Trace → Type 0
-IsViewUnshown asks v old e new = IsUnshown (shown v).skin (shown v).name asks (shown v).state old e new
+IsViewUnshown asks v old e new = IsUnshown (shown v).skin (shown v).name (shown v).content asks (shown v).state old e new

@@ -1,14 +1,15 @@
 -- What the screen shows of a session.
-use Rattle.std.specs.Prelude.{◌≡◌, ℕ, ◌+◌, ◌-◌, ◌<◌, ◌≤◌, ◌++◌, nat_lt, ◌||◌, Bool, true, false, List, [], ◌∷◌, length, count_by, min, take, codes, decimal, Option, Some, None, IfSome, Result, if◌then◌else◌}
+use Rattle.std.specs.Prelude.{◌≡◌, ℕ, ◌+◌, ◌-◌, ◌<◌, ◌≤◌, ◌++◌, nat_lt, ◌||◌, Bool, true, false, List, [], ◌∷◌, length, count_by, min, drop, option_map, take, codes, decimal, Option, Some, None, IfSome, Result, if◌then◌else◌}
 use Rattle.std.specs.List.{flat_map, range_with_len}
 use Rattle.std.specs.Str.{chars}
 use Rattle.mad_md.specs.Flagged.{flagged, flagged_of, unflagged}
-use Rattle.mad_sections.specs.Sections.{SectionContent}
+use Rattle.mad_outline.specs.Sources.{Content, PageAt, content_drawn}
 use Rattle.mad_md.specs.declared.alignment.Alignment.TheVariants.{Left}
 use Rattle.mad_measure.specs.TextColumns.{width_of}
 use Rattle.mad_style.specs.CompoundStyles.{unstyled}
 use Rattle.mad_style.specs.StyledChars.{styled_char}
 use Rattle.mad_style.specs.declared.compound_styles.CompoundStyle.{CompoundStyle}
+use Rattle.mad_style.specs.declared.styled_chars.StyledChar.{StyledChar}
 use Rattle.mad_style.specs.declared.kinds.CompositeKind.TheVariants.{Paragraph}
 use Rattle.mad_format.specs.Fitting.{IsCompositeFitted}
 use Rattle.mad_format.specs.Wraps.{IsMeasured}
@@ -16,6 +17,7 @@ use Rattle.mad_format.specs.declared.composite.FmtComposite.{FmtComposite}
 use Rattle.mad_format.specs.declared.line.FmtLine.TheVariants.{Normal}
 use Rattle.mad_wrap.specs.WrapLines.{capped}
 use Rattle.mad_hits.specs.FrontHits.{AreRowsMarked}
+use Rattle.mad_hits.specs.OwnRows.{AreRowsDrawn}
 use Rattle.mad_hits.specs.Panes.{page_rows}
 use Rattle.mad_hits.specs.declared.rooms.RowRoom.{RowRoom}
 use Rattle.mad_page_rows.specs.FaceLaws.{AreFacesShown}
@@ -171,7 +173,7 @@ pub record IsFieldInRow (s : State) : Type 0 where
   pub typed : TakeColumns s.field.content.text
 
 -- What a session keeps from its start on: the text is laid out for its screen, and its field is in the last row.
-pub record IsOrderly (skin : PageSkin) (page : List (List SectionContent)) (s : State) : Type 0 where
+pub record IsOrderly (skin : PageSkin) (page : PageAt) (s : State) : Type 0 where
   pub laid : IsLaidFor skin page s.page.columns s.laid
   pub field : IsFieldInRow s
 
@@ -184,9 +186,9 @@ count_begun s = count_by (λ start. nat_lt start (s.page.top + (area_of s).heigh
 -- What the text has to keep: what is laid out is a page each of whose sections, as far as the screen reaches, keeps the premises. The characters that the
 -- skin shows beside text, and those of the bar, if there is one, take one column each.
 pub record KeepsTextPremises (skin : PageSkin) (s : State) : Type 0 where
-  pub page : List (List SectionContent)
+  pub page : PageAt
   pub laid : IsLaidFor skin page s.page.columns s.laid
-  pub keeps : AllByRecursion (KeepsRoom (paged_skin skin) (layout_width skin.room s.page.columns)) (sections_at (paged_skin skin) (layout_width skin.room s.page.columns) (sections_in (take (count_begun s) page)))
+  pub keeps : AllByRecursion (KeepsRoom (paged_skin skin) (layout_width skin.room s.page.columns)) (sections_at (paged_skin skin) (layout_width skin.room s.page.columns) (sections_in (take (count_begun s) (page (layout_width skin.room s.page.columns)))))
   pub faces : AreFacesShown (paged_skin skin)
   pub bar : IfSome (bar_of skin s) (IsBarShown (area_of s).width)
 
@@ -238,19 +240,30 @@ rows_shown s = range_with_len s.page.top (min (area_of s).height (length s.laid.
 abbrev pub AreHitsDrawn : PageSkin → State → List ℕ → Type 0
 AreHitsDrawn skin s bytes = AreRowsMarked (paged_skin skin) skin.hit (room_of skin s) s.sought s.laid.lines.items s.laid.fronts.items s.laid.parts.items 0 (rows_shown s) bytes
 
--- These bytes show a session: first the text and the last row, and then, over the text, what is sought. Each byte of a hit is written in the cells of
--- the hit alone.
-pub record IsDrawing (skin : PageSkin) (name : List ℕ) (s : State) (bytes : List ℕ) : Type 0 where
+-- the rows on the screen whose characters have styles of their own, if what is shown has such
+abbrev pub own_rows : PageSkin → Content → State → Option (List (List StyledChar))
+own_rows skin content s =
+    option_map (λ (drawn : ℕ → List (List StyledChar)). take (area_of s).height (drop s.page.top (drawn (layout_width skin.room s.page.columns)))) (content_drawn content)
+
+-- These bytes are drawn over the text: what is sought, in the style of hits. Where rows have styles of their own, they are drawn first, and the hits are
+-- in that style over theirs.
+abbrev pub AreDrawnOver : PageSkin → Option (List (List StyledChar)) → State → List ℕ → Type 0
+AreDrawnOver skin None s bytes = AreHitsDrawn skin s bytes
+AreDrawnOver skin (Some rows) s bytes = AreRowsDrawn skin.hit (room_of skin s) s.sought 0 rows bytes
+
+-- These bytes show a session: first the text and the last row, and then what is drawn over the text. Each byte of a hit is written in the cells of the hit
+-- alone.
+pub record IsDrawing (skin : PageSkin) (name : List ℕ) (content : Content) (s : State) (bytes : List ℕ) : Type 0 where
   pub panes : List ℕ
   pub hits : List ℕ
   pub are : bytes ≡ panes ++ hits
   pub drawn : ArePanesDrawn skin name s panes
-  pub marked : AreHitsDrawn skin s hits
+  pub marked : AreDrawnOver skin (own_rows skin content s) s hits
 
 -- the picture of a session; on a screen that shows nothing it has no byte
-pub record IsPicture (skin : PageSkin) (name : List ℕ) (s : State) (bytes : List ℕ) : Type 0 where
+pub record IsPicture (skin : PageSkin) (name : List ℕ) (content : Content) (s : State) (bytes : List ℕ) : Type 0 where
   pub small : is_small s ≡ true → bytes ≡ []
-  pub shown : is_small s ≡ false → IsDrawing skin name s bytes
+  pub shown : is_small s ≡ false → IsDrawing skin name content s bytes
 
 -- ---- what goes out
 
@@ -259,17 +272,17 @@ abbrev pub question : Bool → List ℕ
 question asks = if asks then 27 ∷ (codes "[999;999H" ++ 27 ∷ codes "[6n") else []
 
 -- these bytes are the question for the size, if it is asked, and the picture of a session
-pub record IsShowing (skin : PageSkin) (name : List ℕ) (asks : Bool) (s : State) (bytes : List ℕ) : Type 0 where
+pub record IsShowing (skin : PageSkin) (name : List ℕ) (content : Content) (asks : Bool) (s : State) (bytes : List ℕ) : Type 0 where
   pub picture : List ℕ
   pub is : bytes ≡ question asks ++ picture
-  pub shows : IsPicture skin name s picture
+  pub shows : IsPicture skin name content s picture
 
 -- the device took such bytes whole, and was flushed then
-abbrev pub IsShown : PageSkin → List ℕ → Bool → State → Trace → Trace → Type 0
-IsShown skin name asks s old new = (bytes : List ℕ) × IsShowing skin name asks s bytes × (new ≡ flushed (after old bytes))
+abbrev pub IsShown : PageSkin → List ℕ → Content → Bool → State → Trace → Trace → Type 0
+IsShown skin name content asks s old new = (bytes : List ℕ) × IsShowing skin name content asks s bytes × (new ≡ flushed (after old bytes))
 
 -- It failed within such bytes, or at the flush. Out of memory nothing went out. It refuses by nothing else.
-abbrev pub IsUnshown : PageSkin → List ℕ → Bool → State → Trace → Error → Trace → Type 0
-IsUnshown skin name asks s old (IO e) new = (bytes : List ℕ) × IsShowing skin name asks s bytes × CutShort old bytes new
-IsUnshown skin name asks s old (InsufficientWidth e) new = ⊥
-IsUnshown skin name asks s old Memory new = new ≡ old
+abbrev pub IsUnshown : PageSkin → List ℕ → Content → Bool → State → Trace → Error → Trace → Type 0
+IsUnshown skin name content asks s old (IO e) new = (bytes : List ℕ) × IsShowing skin name content asks s bytes × CutShort old bytes new
+IsUnshown skin name content asks s old (InsufficientWidth e) new = ⊥
+IsUnshown skin name content asks s old Memory new = new ≡ old

@@ -2,7 +2,7 @@
 use Rattle.std.specs.Prelude.{◌≡◌, ◌≢◌, ℕ, ◌+◌, ◌-◌, ◌*◌, ◌^◌, ◌==◌, nat_lt, not, Bool, true, false, List, [], ◌∷◌, ◌++◌, map, get_or, Option, Some, None, length, min, encode_utf8_all, string_bytes, if◌then◌else◌}
 use Rattle.std.specs.Str.{bytes_eq, chars}
 use Rattle.mad_characters.specs.Columns.{char_columns}
-use Rattle.mad_sections.specs.Sections.{SectionContent}
+use Rattle.mad_outline.specs.Sources.{PageAt}
 use Rattle.mad_term.specs.declared.events.Event.{Event}
 use Rattle.mad_term.specs.declared.events.Event.TheVariants.{Key, Mouse, Resize}
 use Rattle.mad_term.specs.declared.keys.KeyCode.{KeyCode}
@@ -106,12 +106,12 @@ layout_width room columns = room_width room columns (columns - 1)
 abbrev pub paged_skin : PageSkin → RowSkin
 paged_skin skin = record (page_row_skin skin) { whole_words = skin.text.whole_words }
 
--- sections are laid out in groups for a screen of these columns
-abbrev pub IsLaidFor : PageSkin → List (List SectionContent) → ℕ → PagedPage → Type 0
-IsLaidFor skin page columns laid = IsPagedAt (line_rules (paged_skin skin)) (has_ascii_boxes (paged_skin skin)) (Some (layout_width skin.room columns)) page laid
+-- the sections that are shown at the width of a screen of these columns are laid out for it, in groups
+abbrev pub IsLaidFor : PageSkin → PageAt → ℕ → PagedPage → Type 0
+IsLaidFor skin page columns laid = IsPagedAt (line_rules (paged_skin skin)) (has_ascii_boxes (paged_skin skin)) (Some (layout_width skin.room columns)) (page (layout_width skin.room columns)) laid
 
 -- the start of a text on a screen of this size: its first row is on top, nothing is being typed and nothing is sought; these files are beside it
-pub record IsStart (skin : PageSkin) (text : List (List SectionContent)) (columns rows : ℕ) (files : Files) (s : State) : Type 0 where
+pub record IsStart (skin : PageSkin) (text : PageAt) (columns rows : ℕ) (files : Files) (s : State) : Type 0 where
   pub laid : IsLaidFor skin text columns s.laid
   pub page : s.page ≡ record { columns = columns; rows = rows; height = length s.laid.lines.items; top = 0; count = 0; holds_bar = false; has_colon = false; tells = false; files = files }
   pub field : s.field ≡ new_field (field_row columns rows)
@@ -267,7 +267,7 @@ abbrev pub kept_row : ℕ → ℕ → List ℕ → List ℕ → ℕ → ℕ
 kept_row old_columns new_columns old new row = if new_columns == old_columns then row else row_in_parts old new row
 
 -- The screen has another size: the text is laid out for it, and what was on top stays there.
-pub record IsResized (skin : PageSkin) (text : List (List SectionContent)) (columns rows : ℕ) (old new : State) : Type 0 where
+pub record IsResized (skin : PageSkin) (text : PageAt) (columns rows : ℕ) (old new : State) : Type 0 where
   pub laid : IsLaidFor skin text columns new.laid
   pub page : new.page ≡ record old.page { columns = columns; rows = rows; height = length new.laid.lines.items; top = kept_row old.page.columns columns old.laid.starts.items new.laid.starts.items old.page.top }
   pub field : IsMovedTo (field_row columns rows) old.field new.field
@@ -282,12 +282,12 @@ pub record IsResized (skin : PageSkin) (text : List (List SectionContent)) (colu
   pub told : new.told ≡ None
 
 -- the text is laid out for the size that was told, if one was
-abbrev pub IsLaidAnew : Option ScreenSize → PageSkin → List (List SectionContent) → State → State → Type 0
+abbrev pub IsLaidAnew : Option ScreenSize → PageSkin → PageAt → State → State → Type 0
 IsLaidAnew None skin text s new = new ≡ s
 IsLaidAnew (Some size) skin text s new = IsResized skin text size.columns size.rows s new
 
 -- a session is laid out for the size that it was told, if it was told one
-abbrev pub IsSettled : PageSkin → List (List SectionContent) → State → State → Type 0
+abbrev pub IsSettled : PageSkin → PageAt → State → State → Type 0
 IsSettled skin text s new = IsLaidAnew s.told skin text s new
 
 -- a size that the terminal tells is remembered; one of more than a million cells isn't believed
@@ -305,7 +305,7 @@ pub record IsAnyKeyStep (key : KeyEvent) (s new : State) : Type 0 where
   pub other : s.is_typing ≡ false → IsKeyStep key s new
 
 -- what an event does
-abbrev pub IsEventStep : PageSkin → List (List SectionContent) → Event → State → State → Type 0
+abbrev pub IsEventStep : PageSkin → PageAt → Event → State → State → Type 0
 IsEventStep skin text (Key key) s new = IsAnyKeyStep key s new
 IsEventStep skin text (Mouse mouse) s new = new ≡ record s { page = after_mouse mouse s.page }
 IsEventStep skin text (Resize columns rows) s new = new ≡ hears_size columns rows s

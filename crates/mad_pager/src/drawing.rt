@@ -4,6 +4,7 @@ ghost use Rattle.std.specs.Prelude.{◌≡◌, OnOk, IfOk, MatchResult, ℕ, Lis
 ghost use Rattle.mad_term.specs.Trace.{TookWith, Writes};
 ghost use Rattle.mad_pager.specs.Pictures.{picture_trace};
 ghost use Rattle.mad_pager.specs.Sessions.{state_of};
+ghost use Rattle.mad_outline.specs.Sources.{content_of};
 ghost use Rattle.mad_pager.specs.Screens.{AreHitsDrawn, AreLinesShown, ArePanesDrawn, IsDrawing, IsFieldRow, IsFieldShown, IsLastRow, IsPicture, IsShown, IsUnshown, bar_of, is_small, question, room_of};
 
 use crate::picture::Picture;
@@ -33,8 +34,8 @@ impl Session<'_> {
     ///
     /// A fault of the device, or out of memory. Out of memory nothing went out.
     pub fn show<O: Out>(&self, alloc: Global, out: &mut O, asks: bool) -> Result<(), Error>
-        ensures { MatchResult result (λ _. IsShown self.now.skin.now self.now.name.now asks (state_of self.now) (O.seen out.old) (O.seen out.new))
-            (λ e. IsUnshown self.now.skin.now self.now.name.now asks (state_of self.now) (O.seen out.old) e (O.seen out.new)) }
+        ensures { MatchResult result (λ _. IsShown self.now.skin.now self.now.name.now (content_of self.now.source) asks (state_of self.now) (O.seen out.old) (O.seen out.new))
+            (λ e. IsUnshown self.now.skin.now self.now.name.now (content_of self.now.source) asks (state_of self.now) (O.seen out.old) e (O.seen out.new)) }
     {
         let picture = self.picture(alloc)?;
         ask_size(out, asks)?;
@@ -45,7 +46,7 @@ impl Session<'_> {
 
     // The screen, drawn in memory. Nothing is drawn on one that is too small.
     fn picture(&self, alloc: Global) -> Result<Picture, AllocError>
-        ensures { IfOk result (λ picture. (bytes : List ℕ) × ((picture_trace picture).bytes ≡ Some bytes) × IsPicture self.now.skin.now self.now.name.now (state_of self.now) bytes) }
+        ensures { IfOk result (λ picture. (bytes : List ℕ) × ((picture_trace picture).bytes ≡ Some bytes) × IsPicture self.now.skin.now self.now.name.now (content_of self.now.source) (state_of self.now) bytes) }
     {
         let mut picture = Picture::new(alloc);
         let is_small = self.is_small();
@@ -66,13 +67,13 @@ impl Session<'_> {
         self.page.columns < LEAST_COLUMNS || self.page.rows < LEAST_ROWS
     }
 
-    // Draws the text beside its bar, in the last row what is typed or the status, and last what is sought once more, in the style of hits.
+    // Draws the text beside its bar, in the last row what is typed or the status, and last what comes over the text.
     fn draw<O: Out>(&self, alloc: Global, out: &mut O) -> Result<(), Error>
         requires { is_small (state_of self.now) ≡ false }
-        ensures { OnOk result (TookWith (O.seen out.old) (O.seen out.new) (IsDrawing self.now.skin.now self.now.name.now (state_of self.now))) }
+        ensures { OnOk result (TookWith (O.seen out.old) (O.seen out.new) (IsDrawing self.now.skin.now self.now.name.now (content_of self.now.source) (state_of self.now))) }
     {
         self.draw_panes(alloc, out)?;
-        self.draw_hits(alloc, out)?;
+        self.draw_over(alloc, out)?;
         Ok(())
     }
 
@@ -87,7 +88,7 @@ impl Session<'_> {
     }
 
     // Draws what is sought once more in the style of hits, wherever it is on the screen.
-    fn draw_hits<O: Out>(&self, alloc: Global, out: &mut O) -> Result<(), Error>
+    pub(crate) fn draw_hits<O: Out>(&self, alloc: Global, out: &mut O) -> Result<(), Error>
         ensures { OnOk result (TookWith (O.seen out.old) (O.seen out.new) (AreHitsDrawn self.now.skin.now (state_of self.now))) }
     {
         draw_row_hits(
@@ -120,7 +121,7 @@ impl Session<'_> {
     }
 
     // Where the text's rows are, in the columns that the bar leaves.
-    fn room(&self) -> RowRoom
+    pub(crate) fn room(&self) -> RowRoom
         ensures { result ≡ room_of self.now.skin.now (state_of self.now) }
     {
         let left = left_columns(self.bar(), self.page.columns);

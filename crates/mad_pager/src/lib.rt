@@ -6,7 +6,7 @@
 //! 2. [`sizes`]: the size of the screen, and the text laid out for it.
 //! 3. [`typing`], [`finding`]: what is sought, and the rows that have it.
 //! 4. [`places`]: where all is on the screen; [`status`]: its last row.
-//! 5. [`picture`]: bytes that are drawn in memory; [`drawing`]: the whole screen.
+//! 5. [`picture`]: bytes that are drawn in memory; [`own_rows`]: what comes over the text; [`drawing`]: the whole screen.
 //! 6. [`help`]: the page of help; [`pager`]: a text, and a page over it while one is open.
 //! 7. [`laws`]: what marking hits changes, and what Up brings.
 #![tactic(auto)]
@@ -16,6 +16,7 @@ mod finding;
 mod help;
 pub mod laws;
 mod over;
+mod own_rows;
 mod pager;
 mod picture;
 mod places;

@@ -158,6 +158,7 @@ impl<'s> Session<'s> {
     {
         match self.paged() {
             PagedText::Lines(_) => Source::Text(PagedText::Lines(NEVER_LINKS)),
+            PagedText::Plain(_) => Source::Text(PagedText::Lines(NEVER_LINKS)),
             PagedText::Markdown(markdown, _) => {
                 let starts = self.laid.starts.as_slice();
                 let first = section_at(starts, self.page.top);

@@ -40,7 +40,7 @@ styled_said style [] = refl
 styled_said style (c ∷ cs) = ap (λ (l : List ℕ). c ∷ l) (styled_said style cs)
 
 -- characters in the styles of runs are those characters
-spread_said : (last : Pen) (at : ℕ) (runs : List StyleRun) (cs : List ℕ) → said (spread last at runs cs) ≡ cs
+pub spread_said : (last : Pen) (at : ℕ) (runs : List StyleRun) (cs : List ℕ) → said (spread last at runs cs) ≡ cs
 spread_said last at [] cs = styled_said last cs
 spread_said last at (r ∷ rs) cs =
     let k = r.end - at in

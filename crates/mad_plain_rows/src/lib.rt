@@ -9,4 +9,5 @@ mod lines;
 mod rows;
 mod writing;
 
+pub use rows::pen_written;
 pub use writing::write_plain_on;

@@ -31,8 +31,8 @@ pub(crate) fn push_row(
     push_end(text, pen)
 }
 
-// The pen that a character of this style is written with.
-fn pen_written(is_styled: bool, style: Pen) -> Pen
+/// The pen that a character of this style is written with: the plain one, where styles aren't written.
+pub fn pen_written(is_styled: bool, style: Pen) -> Pen
     ensures { result ≡ pen_written is_styled style }
 {
     if is_styled { style } else { plain_pen() }

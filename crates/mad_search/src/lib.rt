@@ -1,6 +1,6 @@
 //! A text that is paged, and rows of it that are looked for.
 //!
-//! 1. [`paged`], [`plain`]: the sections of the text; [`dressed_pages`]: each with what is put into its page with it.
+//! 1. [`paged`], [`plain`], [`row_pages`]: the sections of the text; [`dressed_pages`]: each with what is put into its page with it.
 //! 2. [`letters`], [`breaks`], [`search`]: which row has what is sought.
 //! 3. [`headers`]: which rows begin a header.
 //! 4. [`kept`]: which section has a row, and which row stays on top where the width changes.
@@ -13,6 +13,7 @@ mod kept;
 mod letters;
 mod paged;
 mod plain;
+mod row_pages;
 mod search;
 
 pub use breaks::{rows_after, rows_up_to};

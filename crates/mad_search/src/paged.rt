@@ -1,4 +1,4 @@
-//! A text that is paged: its lines stand for themselves, or it is Markdown as people write it.
+//! A text that is paged: its lines stand for themselves, or it is Markdown as people write it, or no Markdown.
 
 ghost use Rattle.std.specs.Prelude.{◌≡◌, false, IfOk, map};
 ghost use Rattle.mad_dressing.specs.Dressed.{put_of, sections_dressed};
@@ -6,12 +6,14 @@ ghost use Rattle.mad_md.specs.Lines.{contents};
 ghost use Rattle.mad_md.specs.Reading.{unread_text};
 ghost use Rattle.mad_md.specs.Scan.{lines_of};
 ghost use Rattle.mad_sections.specs.Sections.{page_content};
-ghost use Rattle.mad_search.specs.PagedTexts.{paged_groups, paged_sections, puts_of};
+ghost use Rattle.mad_search.specs.PagedTexts.{paged_groups, paged_sections, plain_sections, puts_of, sections_shown};
 
 use crate::dressed_pages::dress_each;
 use crate::plain::plain_page;
+use crate::row_pages::rows_page;
 use mad_dressing::{Dressed, Dressing};
 use mad_md::{LineCursor, ParseOptions, Text};
+use mad_plain_page::PlainText;
 use mad_sections::Page;
 use markdown_reader::Markdown;
 use std::alloc::{AllocError, Global};
@@ -23,10 +25,13 @@ pub enum PagedText<'s> {
     Lines(&'s str),
     /// Markdown as people write it, which was read, and what is put into its page with each of its sections.
     Markdown(&'s Markdown, &'s [Dressing]),
+    /// A text that isn't Markdown.
+    Plain(&'s PlainText<'s>),
 }
 
 impl<'s> PagedText<'s> {
-    /// The sections of the text. Where its lines stand for themselves, each part of it is one, without gutters.
+    /// The sections of the text. Where its lines stand for themselves, each part of it is one, without gutters. Where it isn't Markdown, it has none:
+    /// [`PagedText::dressed`] has those of its rows.
     ///
     /// # Errors
     ///
@@ -36,27 +41,50 @@ impl<'s> PagedText<'s> {
     {
         match self {
             PagedText::Lines(source) => {
-                let text = read_lines(alloc, source)?;
-                let page = plain_page(alloc, text)?;
+                let page = lines_page(alloc, source)?;
                 Ok(page)
             }
             PagedText::Markdown(markdown, _) => {
                 let page = markdown.page(alloc)?;
                 Ok(page)
             }
+            PagedText::Plain(_) => Ok(Page {
+                sections: Vec::new(alloc),
+            }),
         }
     }
 
-    /// The same, each with what is put into the page with it.
+    /// The sections that are shown at a width, in columns, each with what is put into the page with it. Where the text isn't Markdown, each line is one,
+    /// which has its rows at that width. Those of another text are the same at all widths.
     ///
     /// # Errors
     ///
     /// Out of memory is the only error.
-    pub fn dressed(self, alloc: Global) -> Result<Vec<Dressed<'s>>, AllocError>
-        ensures { IfOk result (λ dressed. map sections_dressed dressed.items ≡ paged_groups self.entry) }
+    pub fn dressed(self, alloc: Global, width: usize) -> Result<Vec<Dressed<'s>>, AllocError>
+        ensures { IfOk result (λ dressed. map sections_dressed dressed.items ≡ paged_groups self.entry width) }
     {
-        let page = self.page(alloc)?;
+        let page = self.page_at(alloc, width)?;
         dress_each(alloc, page, self.dressings())
+    }
+
+    // The sections that are shown at a width.
+    fn page_at(self, alloc: Global, width: usize) -> Result<Page<'s>, AllocError>
+        ensures { IfOk result (λ page. page_content page ≡ sections_shown self.entry width) }
+    {
+        match self {
+            PagedText::Lines(source) => {
+                let page = lines_page(alloc, source)?;
+                Ok(page)
+            }
+            PagedText::Markdown(markdown, _) => {
+                let page = markdown.page(alloc)?;
+                Ok(page)
+            }
+            PagedText::Plain(text) => {
+                let page = rows_page(alloc, text, width)?;
+                Ok(page)
+            }
+        }
     }
 
     // What is put into the page with each.
@@ -66,8 +94,18 @@ impl<'s> PagedText<'s> {
         match self {
             PagedText::Lines(_) => &[],
             PagedText::Markdown(_, dressings) => dressings,
+            PagedText::Plain(_) => &[],
         }
     }
+}
+
+// The parts of a text whose lines stand for themselves, as a page.
+fn lines_page<'s>(alloc: Global, source: &'s str) -> Result<Page<'s>, AllocError>
+    ensures { IfOk result (λ page. page_content page ≡ plain_sections (lines_of (unread_text false source.now))) }
+{
+    let text = read_lines(alloc, source)?;
+    let page = plain_page(alloc, text)?;
+    Ok(page)
 }
 
 // The lines of a text that stand for themselves.

@@ -6,13 +6,13 @@ use Rattle.std.specs.Char.{is_ascii_punctuation}
 use Rattle.std.specs.List.{list_all, onto_first}
 use Rattle.markdown_blocks.specs.Lines.{text_lines}
 use Rattle.markdown_writing.specs.Pages.{Page, Written, block_lines, code, ended, gap, heading, longest, markdown_from, no_more, paragraph, quotes, shows, thematic_break}
-use Rattle.markdown_writing.specs.Phrases.{Phrase, plain, code_span, fence, first_text, line_text, most_ticks, needs_room, phrase_text, room, roomy}
+use Rattle.markdown_writing.specs.Phrases.{Phrase, plain, code_span, emphasis, emphasis_text, fence, first_text, line_text, link, link_text, most_ticks, needs_room, phrase_text, room, roomy, star_marks}
 use Rattle.markdown_writing.specs.Quotes.{quoted}
 use Rattle.markdown_writing.specs.Reading.{AreWritable, IsWritable}
 use Rattle.markdown_writing.specs.Words.{escaped, escaped_byte, escaped_if, is_mark}
-use Rattle.markdown_writing.specs.Writable.{is_line, is_phrase, is_some_line, is_tab_or_end}
+use Rattle.markdown_writing.specs.Writable.{is_destination, is_direct, is_line, is_phrase, is_some_line, is_tab_or_end}
 use Rattle.markdown_writing.proofs.QuoteLemmas.{quoted_line}
-use Rattle.markdown_writing.proofs.WordLemmas.{by_escape}
+use Rattle.markdown_writing.proofs.WordLemmas.{by_escape, no_other}
 
 -- ---- bytes of lines
 
@@ -61,13 +61,51 @@ span_line bytes h =
     both_lines (fence most) (roomy bytes ++ fence most) (fence_line most)
     (both_lines (roomy bytes) (fence most) (both_lines (room t) (bytes ++ room t) (room_line t) (both_lines bytes (room t) h (room_line t))) (fence_line most))
 
+stars_line : (strong : Bool) → is_line (star_marks strong) ≡ true
+stars_line true = refl
+stars_line false = refl
+
+emphasis_line : (strong : Bool) (words : List ℕ) → is_line words ≡ true → is_line (emphasis_text strong words) ≡ true
+emphasis_line strong words h =
+    let stars = star_marks strong in
+    let bytes = flat_map escaped_byte words in
+    both_lines stars (bytes ++ stars) (stars_line strong) (both_lines bytes stars (rest_line words h) (stars_line strong))
+
+-- a byte that isn't in a destination
+abbrev other_than_direct : ℕ → Bool
+other_than_direct b = not (is_direct b)
+
+direct_line : (bs : List ℕ) → list_all is_direct bs ≡ true → is_line bs ≡ true
+direct_line [] h = refl
+direct_line (b ∷ bs) h =
+    let parts = and_parts (is_direct b) (list_all is_direct bs) h in
+    let direct : other_than_direct b ≡ false = ap not parts.0 in
+    and_true (not (is_tab_or_end b)) (is_line bs) (rw (no_other other_than_direct b 9 refl direct) (rw (no_other other_than_direct b 10 refl direct) (rw (no_other other_than_direct b 13 refl direct) refl)))
+    (direct_line bs parts.1)
+
+destination_line : (bs : List ℕ) → is_destination bs ≡ true → is_line bs ≡ true
+destination_line [] h = refl
+destination_line (b ∷ bs) h = direct_line (b ∷ bs) h
+
+link_line : (words destination : List ℕ) → is_line words ≡ true → is_line destination ≡ true → is_line (link_text words destination) ≡ true
+link_line words destination h k = both_lines (flat_map escaped_byte words) (93 ∷ 40 ∷ (destination ++ 41 ∷ [])) (rest_line words h) (both_lines destination (41 ∷ []) k refl)
+
+both_link : (words destination : List ℕ) → (is_some_line words && is_destination destination) ≡ true → is_line (link_text words destination) ≡ true
+both_link words destination h =
+    let parts = and_parts (is_some_line words) (is_destination destination) h in
+    link_line words destination (some_line words parts.0) (destination_line destination parts.1)
+
 phrase_line : (p : Phrase) → is_phrase p ≡ true → is_line (phrase_text p) ≡ true
 phrase_line (plain words) h = rest_line words (some_line words h)
 phrase_line (code_span bytes) h = span_line bytes (some_line bytes h)
+phrase_line (emphasis strong words) h = emphasis_line strong words (some_line words h)
+phrase_line (link words destination) h = both_link words destination h
 
 first_line : (p : Phrase) → is_phrase p ≡ true → is_line (first_text p) ≡ true
 first_line (plain words) h = words_line words (some_line words h)
 first_line (code_span bytes) h = span_line bytes (some_line bytes h)
+first_line (emphasis strong words) h = emphasis_line strong words (some_line words h)
+first_line (link words destination) h = both_link words destination h
 
 others_line : (ps : List Phrase) → list_all is_phrase ps ≡ true → is_line (flat_map phrase_text ps) ≡ true
 others_line [] h = refl

@@ -7,6 +7,12 @@ pub enum PagePhrase<'p> {
     Words(&'p str),
     /// Code within the line.
     Code(&'p str),
+    /// Emphasized words.
+    Emphasis(&'p str),
+    /// Words with strong emphasis.
+    Strong(&'p str),
+    /// Words that are a link, and where it leads.
+    Link(&'p str, &'p str),
 }
 
 /// A block of a page.

@@ -1,5 +1,5 @@
 -- Escaped words are cut into pieces that say them.
-use Rattle.std.proofs.Common.{◌≡◌, ℕ, zero, suc, ◌+◌, ◌-◌, ◌<◌, ◌≤◌, Bool, true, false, cond, not, ◌||◌, ◌&&◌, ◌==◌, nat_lt, nat_le, min, List, [], ◌∷◌, ◌++◌, length, take, drop, slice_index, Option, Some, None, is_some, refl, sym, ap, subst, ◌∙◌, append_assoc, append-nil, length-append, length-drop, arith}
+use Rattle.std.proofs.Common.{◌≡◌, ℕ, zero, suc, ◌+◌, ◌-◌, ◌<◌, ◌≤◌, Bool, true, false, cond, not, ◌||◌, ◌&&◌, ◌==◌, nat_lt, min, List, [], ◌∷◌, ◌++◌, length, take, drop, slice_index, Option, Some, None, is_some, refl, sym, ap, subst, ◌∙◌, append_assoc, append-nil, length-append, length-drop, arith}
 use Rattle.std.proofs.Math.Seq.{drop-append_seam, take-append_seam}
 use Rattle.std.proofs.lemmas.Bool.{and_parts, eqb-true}
 use Rattle.std.proofs.lemmas.Bool.Decides.{nat_tests}
@@ -9,14 +9,13 @@ use Rattle.std.specs.List.{flat_map, list_all, prefix_len}
 use Rattle.markdown_marks.specs.Bytes.{first, is_blank_byte}
 use Rattle.markdown_html.specs.Names.{same_letters}
 use Rattle.markdown_addresses.specs.declared.bare.Bare.{Bare}
-use Rattle.markdown_addresses.specs.Bare.{bare_after, is_mail_byte, mail_by, mail_domain, mail_of, may_precede_mail, may_precede_web, or_bare, web_of}
-use Rattle.markdown_brackets.specs.Brackets.{Reading, nothing_read}
-use Rattle.markdown_spans.specs.declared.entities.Escape.{Escape}
+use Rattle.markdown_addresses.specs.Bare.{is_mail_byte, mail_by, mail_domain, mail_of, may_precede_mail, may_precede_web, or_bare, web_of}
+use Rattle.markdown_brackets.specs.declared.brackets.Placed.{Placed}
+use Rattle.markdown_brackets.specs.Brackets.{Reading, is_free, nothing_read}
 use Rattle.markdown_spans.specs.declared.entities.Escape.TheVariants.{Break, Itself, Sign as SignEscape}
-use Rattle.markdown_spans.specs.Entities.{escape_of}
 use Rattle.markdown_pieces.specs.declared.pieces.Kind.TheVariants.{Plain, Shown}
 use Rattle.markdown_pieces.specs.declared.pieces.Piece.{Piece}
-use Rattle.markdown_pieces.specs.Cut.{Pieces, Step, capped_step, cut_from, cut_text, onto, other_step, read_with, step, step_of}
+use Rattle.markdown_pieces.specs.Cut.{Pieces, Step, capped_step, cut_from, cut_text, onto, read_with, step, step_of}
 use Rattle.markdown_pieces.specs.Pieces.{bare_if, break_piece, byte_before, ends_line, escape_by, is_plain, no_mark_piece, piece, piece_at, piece_by, plain_by, plain_from, plain_piece, stays}
 use Rattle.markdown_writing.specs.Words.{escaped, escaped_byte, escaped_if, is_mark}
 use Rattle.markdown_writing.specs.Writable.{is_line, is_tab_or_end}
@@ -27,10 +26,17 @@ use Rattle.markdown_writing_laws.specs.Said.{AreWords, Says, WordsAreSaid}
 abbrev pub rest_of : List ℕ → List ℕ
 rest_of words = flat_map escaped_byte words
 
--- Nothing follows words, or code does.
+-- Nothing follows words, or code does, a star or a bracket.
 pub data IsTail : List ℕ → Type 0 where
   none_follows : IsTail []
   code_follows : (bs : List ℕ) → IsTail (96 ∷ bs)
+  star_follows : (bs : List ℕ) → IsTail (42 ∷ bs)
+  opening_follows : (bs : List ℕ) → IsTail (91 ∷ bs)
+  closing_follows : (bs : List ℕ) → IsTail (93 ∷ bs)
+
+-- these runs are read, and no bracket is open
+abbrev pub free : List Placed → Reading
+free runs = record { brackets = []; runs = runs; pairs = [] }
 
 plain_rest : (b : ℕ) (bs : List ℕ) → is_mark b ≡ false → rest_of (b ∷ bs) ≡ b ∷ rest_of bs
 plain_rest b bs e = ap (λ (t : Bool). escaped_if t b ++ rest_of bs) e
@@ -86,6 +92,9 @@ no_line_end words tail h t = rest_after is_blank_byte 10 refl refl (λ b e f. no
     end_of : (bs : List ℕ) → IsTail bs → (after is_blank_byte bs == 10) ≡ false
     end_of bs none_follows = refl
     end_of bs (code_follows others) = refl
+    end_of bs (star_follows others) = refl
+    end_of bs (opening_follows others) = refl
+    end_of bs (closing_follows others) = refl
 
 -- ---- no bare address
 
@@ -100,6 +109,9 @@ no_mail words tail h t =
     end_of : (bs : List ℕ) → IsTail bs → (after is_mail_byte bs == 64) ≡ false
     end_of bs none_follows = refl
     end_of bs (code_follows others) = refl
+    end_of bs (star_follows others) = refl
+    end_of bs (opening_follows others) = refl
+    end_of bs (closing_follows others) = refl
 
 lower_same : (x b : ℕ) → x < 65 → (b == x) ≡ false → (x == to_ascii_lowercase b) ≡ false
 lower_same x b few h =
@@ -122,13 +134,16 @@ lower_same x b few h =
 
 -- none of these bytes is in an address's beginning
 abbrev stops : ℕ → Bool
-stops c = (c == 92) || (c == 96)
+stops c = (c == 92) || (c == 96) || (c == 42) || (c == 91) || (c == 93)
 
 not_slash : (c : ℕ) → not (stops c) ≡ true → (c == 92) ≡ false
 not_slash c h = no_other stops c 92 refl (negated (stops c) h)
 
 not_tick : (c : ℕ) → not (stops c) ≡ true → (c == 96) ≡ false
 not_tick c h = no_other stops c 96 refl (negated (stops c) h)
+
+not_star : (c : ℕ) → not (stops c) ≡ true → (c == 42) ≡ false
+not_star c h = no_other stops c 42 refl (negated (stops c) h)
 
 -- the byte that follows words is no letter
 tail_not_in_front : (c : ℕ) (others : List ℕ) → not (stops c) ≡ true → (n : ℕ) (tail : List ℕ) → IsTail tail → same_letters (c ∷ others) (take n tail) ≡ false
@@ -137,6 +152,12 @@ tail_not_in_front c others h zero tail none_follows = refl
 tail_not_in_front c others h (suc n) tail none_follows = refl
 tail_not_in_front c others h zero tail (code_follows bs) = refl
 tail_not_in_front c others h (suc n) tail (code_follows bs) = ap (λ (t : Bool). t && same_letters others (take n bs)) (not_tick c h)
+tail_not_in_front c others h zero tail (star_follows bs) = refl
+tail_not_in_front c others h (suc n) tail (star_follows bs) = ap (λ (t : Bool). t && same_letters others (take n bs)) (not_star c h)
+tail_not_in_front c others h zero tail (opening_follows bs) = refl
+tail_not_in_front c others h (suc n) tail (opening_follows bs) = ap (λ (t : Bool). t && same_letters others (take n bs)) (no_other stops c 91 refl (negated (stops c) h))
+tail_not_in_front c others h zero tail (closing_follows bs) = refl
+tail_not_in_front c others h (suc n) tail (closing_follows bs) = ap (λ (t : Bool). t && same_letters others (take n bs)) (no_other stops c 93 refl (negated (stops c) h))
 
 -- letters, and a mark behind them, aren't in front
 not_in_front : (letters : List ℕ) (x : ℕ) (others : List ℕ) → list_all (λ c. not (stops c)) letters ≡ true → not (stops x) ≡ true → x < 65 → is_mark x ≡ true → (n : ℕ) (words tail : List ℕ) → IsTail tail
@@ -172,8 +193,9 @@ none_or_none true false = refl
 none_or_none false true = refl
 none_or_none false false = refl
 
-no_bare : (before : Option ℕ) (words tail : List ℕ) → is_line words ≡ true → IsTail tail → bare_if true before (rest_of words ++ tail) ≡ None
-no_bare before words tail h t =
+no_bare : (is_out : Bool) (before : Option ℕ) (words tail : List ℕ) → is_line words ≡ true → IsTail tail → bare_if is_out before (rest_of words ++ tail) ≡ None
+no_bare false before words tail h t = refl
+no_bare true before words tail h t =
     let p = may_precede_web before in
     let q = may_precede_mail before in
     ap (λ (o : Option Bare). or_bare (cond p o None) (cond q (mail_of (rest_of words ++ tail)) None)) (no_web words tail t)
@@ -201,26 +223,29 @@ record Split (before : Option ℕ) (words tail : List ℕ) : Type 0 where
   others : List ℕ
   words_are : words ≡ plain ++ others
   bytes_are : rest_of words ≡ plain ++ rest_of others
-  many : plain_from true before (rest_of words ++ tail) ≡ length plain
+  many : (is_out : Bool) → plain_from is_out before (rest_of words ++ tail) ≡ length plain
   line : is_line others ≡ true
 
-from_slash : (before : Option ℕ) (bytes : List ℕ) → plain_from true before (92 ∷ bytes) ≡ 0
+from_slash : (is_out : Bool) (before : Option ℕ) (bytes : List ℕ) → plain_from is_out before (92 ∷ bytes) ≡ 0
 unfolding plain_from
-from_slash before bytes = refl
+from_slash is_out before bytes = refl
 
-from_plain : (before : Option ℕ) (b : ℕ) (bs : List ℕ) → stays b (b ∷ bs) ≡ true → bare_if true before (b ∷ bs) ≡ None → plain_from true before (b ∷ bs) ≡ suc (plain_from true (Some b) bs)
+from_plain : (is_out : Bool) (before : Option ℕ) (b : ℕ) (bs : List ℕ) → stays b (b ∷ bs) ≡ true → bare_if is_out before (b ∷ bs) ≡ None → plain_from is_out before (b ∷ bs) ≡ suc (plain_from is_out (Some b) bs)
 unfolding plain_from
-from_plain before b bs h e =
-    let next = suc (plain_from true (Some b) bs) in
-    ap (λ (t : Bool). cond (t && not (is_some (bare_if true before (b ∷ bs)))) next 0) h ∙ ap (λ (o : Option Bare). cond (not (is_some o)) next 0) e
+from_plain is_out before b bs h e =
+    let next = suc (plain_from is_out (Some b) bs) in
+    ap (λ (t : Bool). cond (t && not (is_some (bare_if is_out before (b ∷ bs)))) next 0) h ∙ ap (λ (o : Option Bare). cond (not (is_some o)) next 0) e
 
-none_plain : (before : Option ℕ) (tail : List ℕ) → IsTail tail → plain_from true before tail ≡ 0
+none_plain : (is_out : Bool) (before : Option ℕ) (tail : List ℕ) → IsTail tail → plain_from is_out before tail ≡ 0
 unfolding plain_from
-none_plain before tail none_follows = refl
-none_plain before tail (code_follows bs) = refl
+none_plain is_out before tail none_follows = refl
+none_plain is_out before tail (code_follows bs) = refl
+none_plain is_out before tail (star_follows bs) = refl
+none_plain is_out before tail (opening_follows bs) = refl
+none_plain is_out before tail (closing_follows bs) = refl
 
 split : (before : Option ℕ) (words tail : List ℕ) → is_line words ≡ true → IsTail tail → Split before words tail
-split before [] tail h t = record { plain = []; others = []; words_are = refl; bytes_are = refl; many = none_plain before tail t; line = refl }
+split before [] tail h t = record { plain = []; others = []; words_are = refl; bytes_are = refl; many = λ is_out. none_plain is_out before tail t; line = refl }
 split before (b ∷ bs) tail h t =
     let parts = and_parts (not (is_tab_or_end b)) (is_line bs) h in
     by_test (is_mark b) (Split before (b ∷ bs) tail)
@@ -229,20 +254,20 @@ split before (b ∷ bs) tail h t =
       others = b ∷ bs;
       words_are = refl;
       bytes_are = refl;
-      many = ap (λ (ws : List ℕ). plain_from true before (ws ++ tail)) (sign_rest b bs e) ∙ from_slash before (b ∷ (rest_of bs ++ tail));
+      many = λ is_out. ap (λ (ws : List ℕ). plain_from is_out before (ws ++ tail)) (sign_rest b bs e) ∙ from_slash is_out before (b ∷ (rest_of bs ++ tail));
       line = h;
     })
     (λ e.
     let more = split (Some b) bs tail parts.1 t in
     let are = plain_rest b bs e in
     let ends : ends_line (b ∷ (rest_of bs ++ tail)) ≡ false = ap (λ (ws : List ℕ). ends_line (ws ++ tail)) (sym are) ∙ no_line_end (b ∷ bs) tail h t in
-    let bare : bare_if true before (b ∷ (rest_of bs ++ tail)) ≡ None = ap (λ (ws : List ℕ). bare_if true before (ws ++ tail)) (sym are) ∙ no_bare before (b ∷ bs) tail h t in
+    let bare : (is_out : Bool) → bare_if is_out before (b ∷ (rest_of bs ++ tail)) ≡ None = λ is_out. ap (λ (ws : List ℕ). bare_if is_out before (ws ++ tail)) (sym are) ∙ no_bare is_out before (b ∷ bs) tail h t in
     record {
       plain = b ∷ more.plain;
       others = more.others;
       words_are = ap (λ (ws : List ℕ). b ∷ ws) more.words_are;
       bytes_are = are ∙ ap (λ (ws : List ℕ). b ∷ ws) more.bytes_are;
-      many = ap (λ (ws : List ℕ). plain_from true before (ws ++ tail)) are ∙ from_plain before b (rest_of bs ++ tail) (stays_here b (b ∷ (rest_of bs ++ tail)) e parts.0 ends) bare ∙ ap suc more.many;
+      many = λ is_out. ap (λ (ws : List ℕ). plain_from is_out before (ws ++ tail)) are ∙ from_plain is_out before b (rest_of bs ++ tail) (stays_here b (b ∷ (rest_of bs ++ tail)) e parts.0 ends) (bare is_out) ∙ ap suc (more.many is_out);
       line = more.line;
     })
 
@@ -251,72 +276,68 @@ split before (b ∷ bs) tail h t =
 pub index_is : (text : List ℕ) (at b : ℕ) (rest : List ℕ) → drop at text ≡ b ∷ rest → slice_index text at ≡ b
 index_is text at b rest e = ap (λ (n : ℕ). slice_index text n) (omega arith) ∙ sym (get_or-drop at text 0 0) ∙ ap (λ (bs : List ℕ). slice_index bs 0) e
 
-pub other_of : (labels : List (List ℕ)) (text : List ℕ) (at index c : ℕ) (rest : List ℕ) → (c == 91) ≡ false → (c == 33) ≡ false → (c == 93) ≡ false
-    → read_with c labels text at index nothing_read rest ≡ step_of (piece_at true text at rest) index nothing_read
-other_of labels text at index c rest e f g = rw e (rw f (rw g refl))
+pub other_of : (labels : List (List ℕ)) (r : Reading) (text : List ℕ) (at index c : ℕ) (rest : List ℕ) → (c == 91) ≡ false → (c == 33) ≡ false → (c == 93) ≡ false
+    → read_with c labels text at index r rest ≡ step_of (piece_at (is_free r.brackets) text at rest) index r
+other_of labels r text at index c rest e f g = rw e (rw f (rw g refl))
 
-pub capped_is : (text : List ℕ) (at index : ℕ) (p : Piece) (rest : List ℕ) → drop at text ≡ rest → p.more < length rest → capped_step (step_of p index nothing_read) (length text - at - 1) ≡ record { piece = p; reading = (step_of p index nothing_read).reading }
-capped_is text at index p rest e few =
+pub capped_is : (r : Reading) (text : List ℕ) (at index : ℕ) (p : Piece) (rest : List ℕ) → drop at text ≡ rest → p.more < length rest → capped_step (step_of p index r) (length text - at - 1) ≡ record { piece = p; reading = (step_of p index r).reading }
+capped_is r text at index p rest e few =
     let left : length text - at ≡ length rest = sym (length-drop at text) ∙ ap length e in
     let same : min p.more (length text - at - 1) ≡ p.more = omega (arith, left, few) in
-    ap (λ (n : ℕ). record { piece = record p { more = n }; reading = (step_of p index nothing_read).reading }) same
+    ap (λ (n : ℕ). record { piece = record p { more = n }; reading = (step_of p index r).reading }) same
 
-by_slash : (text : List ℕ) (at b : ℕ) (bs : List ℕ) → (b == 10) ≡ false → is_ascii_punctuation b ≡ true → piece_by true 92 text at (92 ∷ b ∷ bs) ≡ piece (Shown b None) 1
-by_slash text at b bs e h = ap escape_by (ap (λ (t : Bool). cond t Break (cond (is_ascii_punctuation b) (SignEscape b) Itself)) e ∙ ap (λ (t : Bool). cond t (SignEscape b) Itself) h)
+by_slash : (is_out : Bool) (text : List ℕ) (at b : ℕ) (bs : List ℕ) → (b == 10) ≡ false → is_ascii_punctuation b ≡ true → piece_by is_out 92 text at (92 ∷ b ∷ bs) ≡ piece (Shown b None) 1
+by_slash is_out text at b bs e h = ap escape_by (ap (λ (t : Bool). cond t Break (cond (is_ascii_punctuation b) (SignEscape b) Itself)) e ∙ ap (λ (t : Bool). cond t (SignEscape b) Itself) h)
 
 -- a backslash and a sign
-step_sign : (labels : List (List ℕ)) (text : List ℕ) (at index b : ℕ) (bs : List ℕ) → drop at text ≡ 92 ∷ b ∷ bs → (b == 10) ≡ false → is_ascii_punctuation b ≡ true
-    → step labels text at index nothing_read (92 ∷ b ∷ bs) ≡ record { piece = piece (Shown b None) 1; reading = nothing_read }
+step_sign : (labels : List (List ℕ)) (r : Reading) (text : List ℕ) (at index b : ℕ) (bs : List ℕ) → drop at text ≡ 92 ∷ b ∷ bs → (b == 10) ≡ false → is_ascii_punctuation b ≡ true
+    → step labels text at index r (92 ∷ b ∷ bs) ≡ record { piece = piece (Shown b None) 1; reading = r }
 unfolding step piece_at
-step_sign labels text at index b bs e f h =
+step_sign labels r text at index b bs e f h =
     let rest = 92 ∷ b ∷ bs in
     let here = index_is text at 92 (b ∷ bs) e in
     let few : 1 < length rest = omega arith in
-    ap (λ (c : ℕ). capped_step (read_with c labels text at index nothing_read rest) (length text - at - 1)) here
-    ∙ ap (λ (s : Step). capped_step s (length text - at - 1)) (other_of labels text at index 92 rest refl refl refl)
-    ∙ ap (λ (c : ℕ). capped_step (step_of (piece_by true c text at rest) index nothing_read) (length text - at - 1)) here
-    ∙ ap (λ (p : Piece). capped_step (step_of p index nothing_read) (length text - at - 1)) (by_slash text at b bs f h)
-    ∙ capped_is text at index (piece (Shown b None) 1) rest e few
+    ap (λ (c : ℕ). capped_step (read_with c labels text at index r rest) (length text - at - 1)) here
+    ∙ ap (λ (s : Step). capped_step s (length text - at - 1)) (other_of labels r text at index 92 rest refl refl refl)
+    ∙ ap (λ (c : ℕ). capped_step (step_of (piece_by (is_free r.brackets) c text at rest) index r) (length text - at - 1)) here
+    ∙ ap (λ (p : Piece). capped_step (step_of p index r) (length text - at - 1)) (by_slash (is_free r.brackets) text at b bs f h)
+    ∙ capped_is r text at index (piece (Shown b None) 1) rest e few
 
-by_plain : (text : List ℕ) (at b : ℕ) (bs : List ℕ) → is_mark b ≡ false → ends_line (b ∷ bs) ≡ false → bare_if true (byte_before text at) (b ∷ bs) ≡ None
-    → piece_by true b text at (b ∷ bs) ≡ piece Plain (plain_from true (Some b) bs)
+by_plain : (is_out : Bool) (text : List ℕ) (at b : ℕ) (bs : List ℕ) → is_mark b ≡ false → ends_line (b ∷ bs) ≡ false → bare_if is_out (byte_before text at) (b ∷ bs) ≡ None
+    → piece_by is_out b text at (b ∷ bs) ≡ piece Plain (plain_from is_out (Some b) bs)
 unfolding plain_piece
-by_plain text at b bs h e f =
+by_plain is_out text at b bs h e f =
     let rest = b ∷ bs in
     let before = byte_before text at in
-    let others : piece_by true b text at rest ≡ no_mark_piece true before b rest =
+    let others : piece_by is_out b text at rest ≡ no_mark_piece is_out before b rest =
     rw (none b 96 refl h) (rw (none b 42 refl h) (rw (none b 95 refl h) (rw (none b 126 refl h) (rw (none b 92 refl h) (rw (none b 38 refl h) (rw (none b 60 refl h) refl)))))) in
-    others ∙ ap (λ (t : Bool). cond t (break_piece rest) (plain_piece true before b rest)) e ∙ ap (λ (o : Option Bare). plain_by o true b rest) f
+    others ∙ ap (λ (t : Bool). cond t (break_piece rest) (plain_piece is_out before b rest)) e ∙ ap (λ (o : Option Bare). plain_by o is_out b rest) f
 
 -- plain bytes
-step_plain : (labels : List (List ℕ)) (text : List ℕ) (at index b : ℕ) (bs : List ℕ) → drop at text ≡ b ∷ bs → is_mark b ≡ false → ends_line (b ∷ bs) ≡ false → bare_if true (byte_before text at) (b ∷ bs) ≡ None
-    → plain_from true (Some b) bs ≤ length bs → step labels text at index nothing_read (b ∷ bs) ≡ record { piece = piece Plain (plain_from true (Some b) bs); reading = nothing_read }
+step_plain : (labels : List (List ℕ)) (r : Reading) (text : List ℕ) (at index b : ℕ) (bs : List ℕ) → drop at text ≡ b ∷ bs → is_mark b ≡ false → ends_line (b ∷ bs) ≡ false → bare_if (is_free r.brackets) (byte_before text at) (b ∷ bs) ≡ None
+    → plain_from (is_free r.brackets) (Some b) bs ≤ length bs → step labels text at index r (b ∷ bs) ≡ record { piece = piece Plain (plain_from (is_free r.brackets) (Some b) bs); reading = r }
 unfolding step piece_at
-step_plain labels text at index b bs e h ends bare many =
+step_plain labels r text at index b bs e h ends bare many =
     let rest = b ∷ bs in
     let here = index_is text at b bs e in
-    let few : plain_from true (Some b) bs < length rest = omega (arith, many) in
-    ap (λ (c : ℕ). capped_step (read_with c labels text at index nothing_read rest) (length text - at - 1)) here
-    ∙ ap (λ (s : Step). capped_step s (length text - at - 1)) (other_of labels text at index b rest (none b 91 refl h) (none b 33 refl h) (none b 93 refl h))
-    ∙ ap (λ (c : ℕ). capped_step (step_of (piece_by true c text at rest) index nothing_read) (length text - at - 1)) here
-    ∙ ap (λ (p : Piece). capped_step (step_of p index nothing_read) (length text - at - 1)) (by_plain text at b bs h ends bare)
-    ∙ capped_is text at index (piece Plain (plain_from true (Some b) bs)) rest e few
+    let few : plain_from (is_free r.brackets) (Some b) bs < length rest = omega (arith, many) in
+    ap (λ (c : ℕ). capped_step (read_with c labels text at index r rest) (length text - at - 1)) here
+    ∙ ap (λ (s : Step). capped_step s (length text - at - 1)) (other_of labels r text at index b rest (none b 91 refl h) (none b 33 refl h) (none b 93 refl h))
+    ∙ ap (λ (c : ℕ). capped_step (step_of (piece_by (is_free r.brackets) c text at rest) index r) (length text - at - 1)) here
+    ∙ ap (λ (p : Piece). capped_step (step_of p index r) (length text - at - 1)) (by_plain (is_free r.brackets) text at b bs h ends bare)
+    ∙ capped_is r text at index (piece Plain (plain_from (is_free r.brackets) (Some b) bs)) rest e few
 
 -- ---- pieces, one after the other
 
-pub skipped : (labels : List (List ℕ)) (text : List ℕ) (at index : ℕ) (xs ys : List ℕ) → cut_from labels text (length xs) at index nothing_read (xs ++ ys) ≡ cut_from labels text 0 (at + length xs) index nothing_read ys
+pub skipped : (labels : List (List ℕ)) (r : Reading) (text : List ℕ) (at index : ℕ) (xs ys : List ℕ) → cut_from labels text (length xs) at index r (xs ++ ys) ≡ cut_from labels text 0 (at + length xs) index r ys
 unfolding cut_from
-skipped labels text at index [] ys = ap (λ (n : ℕ). cut_from labels text 0 n index nothing_read ys) (omega arith)
-skipped labels text at index (x ∷ xs) ys = skipped labels text (at + 1) index xs ys ∙ ap (λ (n : ℕ). cut_from labels text 0 n index nothing_read ys) (omega arith)
+skipped labels r text at index [] ys = ap (λ (n : ℕ). cut_from labels text 0 n index r ys) (omega arith)
+skipped labels r text at index (x ∷ xs) ys = skipped labels r text (at + 1) index xs ys ∙ ap (λ (n : ℕ). cut_from labels text 0 n index r ys) (omega arith)
 
-pub cut_by : (labels : List (List ℕ)) (text : List ℕ) (at index b : ℕ) (bs : List ℕ) (p : Piece) → step labels text at index nothing_read (b ∷ bs) ≡ record { piece = p; reading = nothing_read }
-    → cut_from labels text 0 at index nothing_read (b ∷ bs) ≡ onto p (cut_from labels text p.more (at + 1) (index + 1) nothing_read bs)
+pub cut_by : (labels : List (List ℕ)) (r after : Reading) (text : List ℕ) (at index b : ℕ) (bs : List ℕ) (p : Piece) → step labels text at index r (b ∷ bs) ≡ record { piece = p; reading = after }
+    → cut_from labels text 0 at index r (b ∷ bs) ≡ onto p (cut_from labels text p.more (at + 1) (index + 1) after bs)
 unfolding cut_from
-cut_by labels text at index b bs p e = ap (λ (s : Step). onto s.piece (cut_from labels text s.piece.more (at + 1) (index + 1) s.reading bs)) e
-
-nothing_cut : (labels : List (List ℕ)) (text : List ℕ) (at index : ℕ) → (cut_from labels text 0 at index nothing_read []).pieces ≡ []
-unfolding cut_from
-nothing_cut labels text at index = refl
+cut_by labels r after text at index b bs p e = ap (λ (s : Step). onto s.piece (cut_from labels text s.piece.more (at + 1) (index + 1) s.reading bs)) e
 
 zero_more : (m : ℕ) → 0 + m ≡ m
 zero_more m = omega arith
@@ -346,7 +367,7 @@ taken_plain : (b n : ℕ) (xs ys : List ℕ) → n ≡ length xs → (b ∷ xs �
 taken_plain b n xs ys e =
     (ap (λ (ws : List ℕ). b ∷ ws) (sym (take-append_seam xs ys)) ∙ ap (λ (k : ℕ). take (suc k) (b ∷ (xs ++ ys))) (sym e), sym (drop-append_seam xs ys) ∙ ap (λ (k : ℕ). drop (suc k) (b ∷ (xs ++ ys))) (sym e))
 
-no_mark : (b : ℕ) → is_ascii_punctuation b ≡ false → is_mark b ≡ false
+pub no_mark : (b : ℕ) → is_ascii_punctuation b ≡ false → is_mark b ≡ false
 no_mark b f =
     rw (no_other is_ascii_punctuation b 33 refl f) (rw (no_other is_ascii_punctuation b 35 refl f) (rw (no_other is_ascii_punctuation b 38 refl f) (rw (no_other is_ascii_punctuation b 41 refl f)
     (rw (no_other is_ascii_punctuation b 42 refl f) (rw (no_other is_ascii_punctuation b 46 refl f) (rw (no_other is_ascii_punctuation b 58 refl f) (rw (no_other is_ascii_punctuation b 60 refl f)
@@ -384,17 +405,17 @@ before_others ps c = record { pieces = ps ++ c.pieces; reading = c.reading }
 -- Some bytes are cut into pieces that say words, and what follows them is cut as it would be anyhow.
 pub record IsCut (labels : List (List ℕ)) (text : List ℕ) (at index : ℕ) (bytes words tail : List ℕ) : Type 0 where
   pub pieces : List Piece
-  pub cut : cut_from labels text 0 at index nothing_read (bytes ++ tail) ≡ before_others pieces (cut_from labels text 0 (at + length bytes) (index + length pieces) nothing_read tail)
+  pub cut : (r : Reading) → cut_from labels text 0 at index r (bytes ++ tail) ≡ before_others pieces (cut_from labels text 0 (at + length bytes) (index + length pieces) r tail)
   pub many : bytes_in pieces ≡ length bytes
   pub are : AreWordsTo tail (bytes ++ tail) pieces words
 
 -- the same at places that are the same
-pub same_places : (labels : List (List ℕ)) (text : List ℕ) (at other index next : ℕ) (tail : List ℕ) → at ≡ other → index ≡ next
-    → cut_from labels text 0 at index nothing_read tail ≡ cut_from labels text 0 other next nothing_read tail
-same_places labels text at other index next tail e f = ap (λ (n : ℕ). cut_from labels text 0 n index nothing_read tail) e ∙ ap (λ (n : ℕ). cut_from labels text 0 other n nothing_read tail) f
+pub same_places : (labels : List (List ℕ)) (r : Reading) (text : List ℕ) (at other index next : ℕ) (tail : List ℕ) → at ≡ other → index ≡ next
+    → cut_from labels text 0 at index r tail ≡ cut_from labels text 0 other next r tail
+same_places labels r text at other index next tail e f = ap (λ (n : ℕ). cut_from labels text 0 n index r tail) e ∙ ap (λ (n : ℕ). cut_from labels text 0 other n r tail) f
 
 none_cut : (labels : List (List ℕ)) (text : List ℕ) (at index : ℕ) (tail : List ℕ) → IsCut labels text at index [] [] tail
-none_cut labels text at index tail = record { pieces = []; cut = same_places labels text at (at + 0) index (index + 0) tail (omega arith) (omega arith); many = refl; are = (refl, refl) }
+none_cut labels text at index tail = record { pieces = []; cut = λ r. same_places labels r text at (at + 0) index (index + 0) tail (omega arith) (omega arith); many = refl; are = (refl, refl) }
 
 sign_cut : (labels : List (List ℕ)) (text : List ℕ) (at index b : ℕ) (bytes words tail : List ℕ) → drop at text ≡ 92 ∷ b ∷ (bytes ++ tail) → is_ascii_punctuation b ≡ true
     → IsCut labels text (at + 1 + 1) (index + 1) bytes words tail → IsCut labels text at index (92 ∷ b ∷ bytes) (b ∷ words) tail
@@ -403,11 +424,11 @@ sign_cut labels text at index b bytes words tail e h later =
     let count = length later.pieces in
     record {
       pieces = p ∷ later.pieces;
-      cut =
-          cut_by labels text at index 92 (b ∷ (bytes ++ tail)) p (step_sign labels text at index b (bytes ++ tail) e (no_newline b h) h)
-          ∙ ap (onto p) (skipped labels text (at + 1) (index + 1) (b ∷ []) (bytes ++ tail) ∙ later.cut)
+      cut = λ r.
+          cut_by labels r r text at index 92 (b ∷ (bytes ++ tail)) p (step_sign labels r text at index b (bytes ++ tail) e (no_newline b h) h)
+          ∙ ap (onto p) (skipped labels r text (at + 1) (index + 1) (b ∷ []) (bytes ++ tail) ∙ later.cut r)
           ∙ ap (λ (c : Pieces). before_others (p ∷ later.pieces) c)
-          (same_places labels text (at + 1 + 1 + length bytes) (at + length (92 ∷ b ∷ bytes)) (index + 1 + count) (index + length (p ∷ later.pieces)) tail (omega arith) (omega arith));
+          (same_places labels r text (at + 1 + 1 + length bytes) (at + length (92 ∷ b ∷ bytes)) (index + 1 + count) (index + length (p ∷ later.pieces)) tail (omega arith) (omega arith));
       many = omega (arith, later.many);
       are = (b ∷ [], words, refl, (refl, few_signs b h), later.are);
     }
@@ -418,25 +439,24 @@ plain_cut labels text at index b bs tail e h line t s later =
     let are = plain_rest b bs h in
     let rest = rest_of bs ++ tail in
     let ends : ends_line (b ∷ rest) ≡ false = ap (λ (ws : List ℕ). ends_line (ws ++ tail)) (sym are) ∙ no_line_end (b ∷ bs) tail line t in
-    let bare : bare_if true (byte_before text at) (b ∷ rest) ≡ None = ap (λ (ws : List ℕ). bare_if true (byte_before text at) (ws ++ tail)) (sym are) ∙ no_bare (byte_before text at) (b ∷ bs) tail line t in
-    let n = plain_from true (Some b) rest in
+    let bare : (is_out : Bool) → bare_if is_out (byte_before text at) (b ∷ rest) ≡ None = λ is_out. ap (λ (ws : List ℕ). bare_if is_out (byte_before text at) (ws ++ tail)) (sym are) ∙ no_bare is_out (byte_before text at) (b ∷ bs) tail line t in
+    let n = length s.plain in
     let behind = rest_of s.others ++ tail in
     let bytes_are : rest ≡ s.plain ++ behind = ap (λ (ws : List ℕ). ws ++ tail) s.bytes_are ∙ append_assoc s.plain (rest_of s.others) tail in
-    let many : n ≤ length rest = omega (arith, s.many, ap length bytes_are, length-append s.plain behind) in
+    let many : (is_out : Bool) → plain_from is_out (Some b) rest ≤ length rest = λ is_out. omega (arith, s.many is_out, ap length bytes_are, length-append s.plain behind) in
     let p = piece Plain n in
-    let taken = taken_plain b n s.plain behind s.many in
+    let taken = taken_plain b n s.plain behind refl in
     let all : length (rest_of bs) ≡ length s.plain + length (rest_of s.others) = ap length s.bytes_are ∙ length-append s.plain (rest_of s.others) in
     let count = length later.pieces in
     record {
       pieces = p ∷ later.pieces;
-      cut =
-          cut_by labels text at index b rest p (step_plain labels text at index b rest e h ends bare many)
-          ∙ ap (λ (k : ℕ). onto p (cut_from labels text k (at + 1) (index + 1) nothing_read rest)) s.many
-          ∙ ap (λ (ws : List ℕ). onto p (cut_from labels text (length s.plain) (at + 1) (index + 1) nothing_read ws)) bytes_are
-          ∙ ap (onto p) (skipped labels text (at + 1) (index + 1) s.plain behind ∙ later.cut)
+      cut = λ r.
+          cut_by labels r r text at index b rest p (step_plain labels r text at index b rest e h ends (bare (is_free r.brackets)) (many (is_free r.brackets)) ∙ ap (λ (k : ℕ). record { piece = piece Plain k; reading = r }) (s.many (is_free r.brackets)))
+          ∙ ap (λ (ws : List ℕ). onto p (cut_from labels text (length s.plain) (at + 1) (index + 1) r ws)) bytes_are
+          ∙ ap (onto p) (skipped labels r text (at + 1) (index + 1) s.plain behind ∙ later.cut r)
           ∙ ap (λ (c : Pieces). before_others (p ∷ later.pieces) c)
-          (same_places labels text (at + 1 + length s.plain + length (rest_of s.others)) (at + length (b ∷ rest_of bs)) (index + 1 + count) (index + length (p ∷ later.pieces)) tail (omega (arith, all)) (omega arith));
-      many = omega (arith, later.many, s.many, all);
+          (same_places labels r text (at + 1 + length s.plain + length (rest_of s.others)) (at + length (b ∷ rest_of bs)) (index + 1 + count) (index + length (p ∷ later.pieces)) tail (omega (arith, all)) (omega arith));
+      many = omega (arith, later.many, all);
       are = (
         b ∷ s.plain,
         s.others,
@@ -495,9 +515,9 @@ nothing_left rest [] words h = h
 nothing_left rest (p ∷ ps) words h = (h.0, h.1, h.2, h.3, nothing_left (drop (suc p.more) rest) ps h.1 h.4)
 
 -- what is cut where nothing follows
-pub ended_cut : (labels : List (List ℕ)) (text : List ℕ) (at index : ℕ) (bytes words : List ℕ) (c : IsCut labels text at index bytes words []) → cut_from labels text 0 at index nothing_read (bytes ++ []) ≡ record { pieces = c.pieces; reading = nothing_read }
+ended_cut : (labels : List (List ℕ)) (text : List ℕ) (at index : ℕ) (bytes words : List ℕ) (c : IsCut labels text at index bytes words []) → cut_from labels text 0 at index nothing_read (bytes ++ []) ≡ record { pieces = c.pieces; reading = nothing_read }
 unfolding cut_from
-ended_cut labels text at index bytes words c = c.cut ∙ ap (λ (ps : List Piece). record { pieces = ps; reading = nothing_read }) (append-nil c.pieces)
+ended_cut labels text at index bytes words c = c.cut nothing_read ∙ ap (λ (ps : List Piece). record { pieces = ps; reading = nothing_read }) (append-nil c.pieces)
 
 -- escaped words are read as these words
 pub words_said : WordsAreSaid

@@ -1,4 +1,4 @@
-//! Laws of words and code that were written: what they show. Each is a function that does nothing and states its law.
+//! Laws of words, code, emphasis and links that were written: what they show. Each is a function that does nothing and states its law.
 #![tactic(auto)]
 
 ghost use Rattle.markdown_writing_laws.specs.Printed.{PhrasesArePrinted};
@@ -10,7 +10,7 @@ pub fn words_are_said()
     ensures { WordsAreSaid }
 {}
 
-/// Of words and code spans the html that CommonMark prints is these, one after the other: there is no other element.
+/// Of words, code spans, emphasis and links the html that CommonMark prints is these, one after the other: there is no other element.
 #[tactic(auto, using(crate::proofs::PrintLemmas::phrases_printed))]
 pub fn phrases_are_printed()
     ensures { PhrasesArePrinted }

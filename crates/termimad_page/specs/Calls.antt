@@ -1,11 +1,11 @@
 -- What the words after the program's name ask for. A word is its bytes.
-use Rattle.std.specs.Prelude.{◌≡◌, ℕ, ◌^◌, ◌<◌, false, List, [], ◌∷◌, codes, Option, Some, None, if◌then◌else◌}
+use Rattle.std.specs.Prelude.{◌≡◌, ℕ, ◌^◌, ◌<◌, true, false, List, [], ◌∷◌, codes, Option, Some, None, unwrap_or, if◌then◌else◌}
 use Rattle.std.specs.Str.{bytes_eq}
 use Rattle.std.specs.Str.Parse.{IsNumeral, digits_value}
 use Rattle.mad_page.specs.Pages.{files_named}
 use Rattle.mad_page.specs.declared.page.Files.{Files}
 use Rattle.termimad_page_run.specs.declared.program.Grammar.{Grammar}
-use Rattle.termimad_page_run.specs.declared.program.Grammar.TheVariants.{Lines, Markdown}
+use Rattle.termimad_page_run.specs.declared.program.Grammar.TheVariants.{Lines, Markdown, Plain}
 use Rattle.termimad_words.specs.Numbers.{IsNumber}
 use Rattle.termimad_page.specs.declared.call.Place.{Place}
 use Rattle.termimad_page.specs.declared.call.Place.TheVariants.{OnScreen, Whole}
@@ -63,15 +63,28 @@ AsksPlace [] file skin place = ⊥
 AsksPlace (word ∷ words) file skin (on_screen name columns rows files start) = (word ≡ codes "page") × AsksScreen words file skin name columns rows files start
 AsksPlace (word ∷ words) file skin (as_whole columns) = (word ≡ codes "whole") × AsksWhole words file skin columns
 
--- how the text is read: line by line behind `--lines`
+-- how a word says that the text is read: line by line, or as no Markdown, in its styles or without; any other says nothing
+abbrev pub named_grammar : List ℕ → Option Grammar
+named_grammar word =
+    if bytes_eq word (codes "--lines") then Some Lines
+    else if bytes_eq word (codes "--plain") then Some (Plain true)
+    else if bytes_eq word (codes "--plain=none") then Some (Plain false)
+    else None
+
+-- how the text is read, if the first word says so, and else as Markdown
 abbrev pub grammar_said : List (List ℕ) → Grammar
 grammar_said [] = Markdown
-grammar_said (word ∷ words) = if bytes_eq word (codes "--lines") then Lines else Markdown
+grammar_said (word ∷ words) = unwrap_or (named_grammar word) Markdown
 
--- the words behind `--lines`, or all without it
+-- the words behind the first, if it says how the text is read, or all
+abbrev pub words_after : Option Grammar → List ℕ → List (List ℕ) → List (List ℕ)
+words_after (Some grammar) word words = words
+words_after None word words = word ∷ words
+
+-- the words behind the one that says so, or all without it
 abbrev pub words_behind : List (List ℕ) → List (List ℕ)
 words_behind [] = []
-words_behind (word ∷ words) = if bytes_eq word (codes "--lines") then words else word ∷ words
+words_behind (word ∷ words) = words_after (named_grammar word) word words
 
 -- the words ask for this file, read so, this word for the skin and this place
 abbrev pub Asks : List (List ℕ) → List ℕ → Grammar → Option (List ℕ) → Where → Type 0

@@ -1,8 +1,10 @@
 -- What a run does to its devices, and how it ends.
+use Rattle.std.specs.Str.Lossy.{utf8_lossy}
 use Rattle.std.specs.Prelude.{◌≡◌, ◌⊎◌, ℕ, List, Option, Some, Result, Ok, Err, MatchResult, IsErrOf, IsUtf8, ⊤}
 use Rattle.mad_layout.specs.RowSkins.{row_skin}
 use Rattle.mad_layout.specs.WrittenParts.{WritesParts}
 use Rattle.mad_page.specs.declared.page.Files.{Files}
+use Rattle.mad_plain_rows.specs.PlainRows.{WritesPlain}
 use Rattle.mad_page_skin.specs.declared.page_skin.PageSkin.{PageSkin}
 use Rattle.mad_pager.specs.declared.session.End.{End}
 use Rattle.mad_pager.specs.declared.session.End.TheVariants.{Quits}
@@ -15,7 +17,7 @@ use Rattle.markdown_lines.specs.Texts.{behind_mark}
 use Rattle.termimad_given.specs.Given.{Held}
 use Rattle.termimad_page_run.specs.Runs.{IsBrokenRun, IsPaged, shown_text}
 use Rattle.termimad_page_run.specs.declared.program.Grammar.{Grammar}
-use Rattle.termimad_page_run.specs.declared.program.Grammar.TheVariants.{Lines, Markdown}
+use Rattle.termimad_page_run.specs.declared.program.Grammar.TheVariants.{Lines, Markdown, Plain}
 use Rattle.termimad_page_run.specs.declared.program.Sheet.{Sheet}
 use Rattle.termimad_words.specs.declared.failure.Failure.{Failure}
 use Rattle.termimad_words.specs.declared.failure.Failure.TheVariants.{Io, Usage, NotUtf8, Memory}
@@ -65,10 +67,11 @@ ReadsFile _ = ⊥
 -- ---- what is shown
 
 -- what is written of a text that is read so: its lines, each for itself, as they are shown; or Markdown as a page, in the skin, with what stands beside
--- headings. Or there was no memory, and nothing went out.
+-- headings; or the rows of no Markdown. Or there was no memory, and nothing went out.
 abbrev pub WritesRows : {T : Type 0} → Grammar → PageSkin → ℕ → List ℕ → Trace → Result T Error → Trace → Type 0
 WritesRows Lines skin columns text old r new = WritesParts (row_skin skin.text) (Some columns) (shown_text text) old r new ⊎ (IsErrOf r NoMemory × (new ≡ old))
 WritesRows Markdown skin columns text old r new = WritesDressed skin (Some columns) (markdown_sections text) old r new
+WritesRows (Plain is_styled) skin columns text old r new = WritesPlain columns is_styled text old r new
 
 -- the rows went out, and then this happened to the output
 pub record HasWritten (grammar : Grammar) (skin : PageSkin) (columns : ℕ) (text : List ℕ) (old : Trace) (ending : Trace → Trace) (new : Trace) : Type 0 where
@@ -114,15 +117,23 @@ ShowsText grammar skin (on_screen name columns rows files start) text old r new 
 ShowsText grammar skin (as_whole columns) text old r new =
     WritesWhole grammar skin columns text old.out r new.out × (new.keys ≡ old.keys) × (new.screen ≡ old.screen)
 
--- bytes are no text
-abbrev pub AreNoText : List ℕ → Result End Refusal → Type 0
-AreNoText bytes r = ¬ (IsUtf8 bytes) × (r ≡ Err (Failed NotUtf8))
+-- the text that bytes are which are read so; where it isn't Markdown they may be any, and each part that isn't UTF-8 is U+FFFD
+abbrev pub IsTextOf : Grammar → List ℕ → List ℕ → Type 0
+IsTextOf Lines bytes text = IsUtf8 bytes × (text ≡ bytes)
+IsTextOf Markdown bytes text = IsUtf8 bytes × (text ≡ bytes)
+IsTextOf (Plain is_styled) bytes text = text ≡ utf8_lossy bytes
+
+-- why they are none: they aren't UTF-8, or there is no memory for U+FFFD in its place
+abbrev pub IsNoText : Grammar → List ℕ → Refusal → Type 0
+IsNoText Lines bytes refusal = ¬ (IsUtf8 bytes) × (refusal ≡ Failed NotUtf8)
+IsNoText Markdown bytes refusal = ¬ (IsUtf8 bytes) × (refusal ≡ Failed NotUtf8)
+IsNoText (Plain is_styled) bytes refusal = refusal ≡ Failed Memory
 
 -- bytes are shown as the text that they are, without a byte order mark at its front; or they are none, and nothing is done
 abbrev pub Shows : Grammar → PageSkin → Where → List ℕ → Devices → Result End Refusal → Devices → Type 0
 Shows grammar skin place bytes old r new =
-    (IsUtf8 bytes × ShowsText grammar skin place (behind_mark bytes) old r new)
-    ⊎ (AreNoText bytes r × (new ≡ old))
+    ((text : List ℕ) × IsTextOf grammar bytes text × ShowsText grammar skin place (behind_mark text) old r new)
+    ⊎ ((refusal : Refusal) × (r ≡ Err refusal) × IsNoText grammar bytes refusal × (new ≡ old))
 
 -- ---- a run
 

@@ -1,13 +1,13 @@
 -- The skin that a text is shown in.
 use Rattle.std.specs.Prelude.{◌≡◌, ℕ, Bool, true, false, List, codes, Option, Some, None, option_map, if◌then◌else◌}
 use Rattle.std.specs.Str.{bytes_eq}
-use Rattle.mad_layout.specs.Skins.{default_skin}
+use Rattle.mad_layout.specs.Skins.{default_skin, no_style_skin}
 use Rattle.mad_layout.specs.declared.skin.MadSkin.{MadSkin}
-use Rattle.mad_page_skin.specs.PageSkins.{page_skin_of}
+use Rattle.mad_page_skin.specs.PageSkins.{page_skin_of, whole_room}
 use Rattle.mad_page_skin.specs.declared.page_skin.PageSkin.{PageSkin}
 use Rattle.termimad_page_run.specs.PlainSkins.{plain_skin}
 use Rattle.termimad_page_run.specs.declared.program.Grammar.{Grammar}
-use Rattle.termimad_page_run.specs.declared.program.Grammar.TheVariants.{Lines, Markdown}
+use Rattle.termimad_page_run.specs.declared.program.Grammar.TheVariants.{Lines, Markdown, Plain}
 use Rattle.termimad_words.specs.GivenSkins.{page_skin_given, skin_given, RefusesPageSkin, RefusesSkin}
 use Rattle.termimad_words.specs.declared.failure.Failure.{Failure}
 
@@ -46,14 +46,26 @@ page_skin_worded word = option_map (λ read. record read.0 { text = record read.
 abbrev pub RefusesPageWord : Option (List ℕ) → Failure → Type 0
 RefusesPageWord word failure = RefusesPageSkin (Some (word_or_default word)) failure
 
+-- ---- of text that isn't Markdown
+
+-- the same skin, but for its text, which has no style but its scroll bar's, and all columns
+abbrev pub unstyled_text : PageSkin → PageSkin
+unstyled_text skin = record skin { text = record no_style_skin { scrollbar = skin.text.scrollbar }; room = whole_room }
+
+-- that of the page's skin for that word
+abbrev pub plain_text_skin : Option (List ℕ) → Option PageSkin
+plain_text_skin word = option_map unstyled_text (page_skin_worded word)
+
 -- ---- of a text that is read so
 
 -- the skin of that word for it
 abbrev pub skin_for : Option (List ℕ) → Grammar → Option PageSkin
 skin_for word Lines = lines_skin word
 skin_for word Markdown = page_skin_worded word
+skin_for word (Plain is_styled) = plain_text_skin word
 
 -- why the word gives none
 abbrev pub RefusesSkinFor : Option (List ℕ) → Grammar → Failure → Type 0
 RefusesSkinFor word Lines failure = RefusesWord word failure
 RefusesSkinFor word Markdown failure = RefusesPageWord word failure
+RefusesSkinFor word (Plain is_styled) failure = RefusesPageWord word failure

@@ -2,7 +2,7 @@
 
 ghost use Rattle.std.specs.Prelude.{◌≡◌, ℕ, List, Option, MatchOption, map, option_map, string_bytes};
 ghost use Rattle.mad_page.specs.declared.page.Files.{Files as SomeFiles};
-ghost use Rattle.termimad_page.specs.Calls.{Asks, AsksPlace, AsksScreen, AsksWhole, IsNoCall, IsRowNumber, SaysMore, SaysStart, Where, grammar_said, where_of, words_behind};
+ghost use Rattle.termimad_page.specs.Calls.{Asks, AsksPlace, AsksScreen, AsksWhole, IsNoCall, IsRowNumber, SaysMore, SaysStart, Where, grammar_said, named_grammar, where_of, words_behind};
 
 use termimad_page_run::{Files, Grammar};
 use termimad_words::parse_number;
@@ -48,7 +48,8 @@ pub(crate) struct Screen<'w> {
 }
 
 /// The call that the words after the program's name are: `page FILE COLUMNS ROWS [SKIN [NAME [PLACE [ROW]]]]` or `whole FILE [SKIN [COLUMNS]]`, with
-/// `--lines` before them where each line of the text stands for itself. None, where they are neither.
+/// `--lines` before them where each line of the text stands for itself, `--plain` where it isn't Markdown, and `--plain=none` where its styles aren't shown
+/// either. None, where they are neither.
 pub(crate) fn parse_call(words: &[String]) -> Option<Call<'_>>
     ensures { MatchOption result (IsNoCall (map string_bytes words.now))
         (λ call. Asks (map string_bytes words.now) call.file.now call.grammar (option_map (λ word. word.now) call.skin) (where_of call.place)) }
@@ -68,9 +69,24 @@ fn grammar_said(words: &[String]) -> (Grammar, &[String])
     ensures grammar { result.0 ≡ grammar_said (map string_bytes words.now) }
     ensures behind { map string_bytes result.1.now ≡ words_behind (map string_bytes words.now) }
 {
-    match words {
-        [first, rest @ ..] if first.as_str() == "--lines" => (Grammar::Lines, rest),
-        _ => (Grammar::Markdown, words),
+    let [first, rest @ ..] = words else {
+        return (Grammar::Markdown, words);
+    };
+    match named_grammar(first.as_str()) {
+        Some(grammar) => (grammar, rest),
+        None => (Grammar::Markdown, words),
+    }
+}
+
+// How a word says that the text is read, if it says so.
+fn named_grammar(word: &str) -> Option<Grammar>
+    ensures { result ≡ named_grammar word.now }
+{
+    match word {
+        "--lines" => Some(Grammar::Lines),
+        "--plain" => Some(Grammar::Plain(true)),
+        "--plain=none" => Some(Grammar::Plain(false)),
+        _ => None,
     }
 }
 

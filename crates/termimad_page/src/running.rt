@@ -1,20 +1,27 @@
 //! A run, over any devices.
 
-ghost use Rattle.std.specs.Prelude.{◌≡◌, MatchResult, map, string_bytes};
+ghost use Rattle.std.specs.Prelude.{◌≡◌, IsUtf8, MatchResult, map, string_bytes};
+ghost use Rattle.std.specs.Cow.{cow_str_bytes};
+ghost use Rattle.std.specs.Str.Lossy.{utf8_lossy};
+ghost use Rattle.termimad_page.specs.declared.failing.Refusal.TheVariants.{Failed};
+ghost use Rattle.termimad_words.specs.declared.failure.Failure.TheVariants.{Memory, NotUtf8};
 ghost use Rattle.mad_pager.specs.declared.session.End.TheVariants.{Quits};
 ghost use Rattle.termimad_page.specs.Calls.{where_of};
-ghost use Rattle.termimad_page.specs.Runs.{HasRun, IsBegun, IsSheetOf, IsUnbegun, PagesText, Performs, ReadsFile, Shows, WritesRows, WritesWhole, devices};
+ghost use Rattle.termimad_page.specs.Runs.{HasRun, IsBegun, IsNoText, IsSheetOf, IsTextOf, IsUnbegun, PagesText, Performs, ReadsFile, Shows, WritesRows, WritesWhole, devices};
 
 use crate::call::{Call, Place, Screen, parse_call};
 use crate::failing::{Refusal, refusal_of, refusal_reading, refuse, say_end};
 use crate::skins::skin_for;
 use mad_measure::printable;
 use mad_page_skin::PageSkin;
+use mad_plain::lossy_text;
+use mad_plain_rows::write_plain_on;
 use mad_steady::steady;
 use mad_term::{Error, Out, Source};
 use markdown_layout::write_markdown_on;
 use markdown_lines::texts::behind_mark;
 use std::alloc::Global;
+use std::borrow::CowStr;
 use termimad_given::Texts;
 use termimad_page_run::{End, Grammar, Sheet, run as page};
 use termimad_words::Failure;
@@ -97,13 +104,42 @@ fn show<I: Source, S: Out, O: Out>(
     ensures { Shows call.now.grammar skin.now (where_of call.now.place) bytes.now (devices (I.seen input.old) (S.seen screen.old) (O.seen out.old))
         result (devices (I.seen input.new) (S.seen screen.new) (O.seen out.new)) }
 {
-    let Ok(text) = str::from_utf8(bytes) else {
-        return Err(Refusal::Failed(Failure::NotUtf8));
-    };
-    let text = behind_mark(text);
+    let whole = text_of(alloc, call.grammar, bytes)?;
+    let text = behind_mark(&whole);
     match call.place {
         Place::OnScreen(place) => page_text(alloc, &place, call.grammar, skin, text, input, screen),
         Place::Whole(columns) => write_whole(alloc, out, call.grammar, skin, columns, text),
+    }
+}
+
+// The text that bytes are, which are read so. Of no Markdown each part that isn't UTF-8 is U+FFFD.
+fn text_of(alloc: Global, grammar: Grammar, bytes: &[u8]) -> Result<CowStr<'_, Global>, Refusal>
+    ensures { MatchResult result (λ text. IsTextOf grammar bytes.now (cow_str_bytes text)) (IsNoText grammar bytes.now) }
+{
+    match grammar {
+        Grammar::Lines => utf8_text(bytes),
+        Grammar::Markdown => utf8_text(bytes),
+        Grammar::Plain(_) => any_text(alloc, bytes),
+    }
+}
+
+// The text that bytes are, if they are UTF-8.
+fn utf8_text(bytes: &[u8]) -> Result<CowStr<'_, Global>, Refusal>
+    ensures { MatchResult result (λ text. IsUtf8 bytes.now × (cow_str_bytes text ≡ bytes.now)) (λ refusal. ¬ (IsUtf8 bytes.now) × (refusal ≡ Failed NotUtf8)) }
+{
+    match str::from_utf8(bytes) {
+        Ok(text) => Ok(CowStr::Borrowed(text)),
+        Err(_) => Err(Refusal::Failed(Failure::NotUtf8)),
+    }
+}
+
+// The text that any bytes are.
+fn any_text(alloc: Global, bytes: &[u8]) -> Result<CowStr<'_, Global>, Refusal>
+    ensures { MatchResult result (λ text. cow_str_bytes text ≡ utf8_lossy bytes.now) (λ refusal. refusal ≡ Failed Memory) }
+{
+    match lossy_text(alloc, bytes) {
+        Ok(text) => Ok(text),
+        Err(_) => Err(Refusal::Failed(Failure::Memory)),
     }
 }
 
@@ -175,5 +211,8 @@ fn write_rows<O: Out>(
             skin.text.write_parts_on(alloc, out, &shown, width)
         }
         Grammar::Markdown => write_markdown_on(alloc, out, skin, text, width),
+        Grammar::Plain(is_styled) => {
+            write_plain_on(alloc, out, text, usize::from(columns), is_styled)
+        }
     }
 }

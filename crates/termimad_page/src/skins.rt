@@ -1,10 +1,10 @@
 //! The skin that a text is shown in.
 
 ghost use Rattle.std.specs.Prelude.{◌≡◌, Some, MatchResult, option_map};
-ghost use Rattle.termimad_page.specs.Skins.{lines_skin, page_skin_worded, skin_for, skin_worded, word_or_default, RefusesPageWord, RefusesSkinFor, RefusesWord};
+ghost use Rattle.termimad_page.specs.Skins.{lines_skin, page_skin_worded, plain_text_skin, skin_for, skin_worded, unstyled_text, word_or_default, RefusesPageWord, RefusesSkinFor, RefusesWord};
 
 use mad_layout::MadSkin;
-use mad_page_skin::PageSkin;
+use mad_page_skin::{PageSkin, TextRoom};
 use std::alloc::Global;
 use termimad_page_run::{Grammar, plain_skin};
 use termimad_words::{Failure, page_skin_of_word, skin_of};
@@ -15,7 +15,8 @@ const DEFAULT: &str = "default";
 /// The skin of the word for SKIN, for a text that is read so. Words of Markdown stay whole.
 ///
 /// Markdown has the skin of a page, as [`page_skin_of_word`] reads the word; without one it is `default`. Lines that stand for themselves have that
-/// of a text: the default one without a word, and for `none` one without a style, not that of the scroll bar either.
+/// of a text: the default one without a word, and for `none` one without a style, not that of the scroll bar either. A text that isn't Markdown has
+/// that of a page, but for its text, which has no style and all columns.
 ///
 /// # Errors
 ///
@@ -28,6 +29,7 @@ pub fn skin_for(alloc: Global, word: Option<&str>, grammar: Grammar) -> Result<P
     match grammar {
         Grammar::Lines => lines_skin(alloc, word),
         Grammar::Markdown => page_skin(alloc, word),
+        Grammar::Plain(_) => plain_text_skin(alloc, word),
     }
 }
 
@@ -40,6 +42,29 @@ fn page_skin(alloc: Global, word: Option<&str>) -> Result<PageSkin, Failure>
     let (mut skin, _) = page_skin_of_word(alloc, Some(word_or_default(word)))?;
     skin.text.whole_words = true;
     Ok(skin)
+}
+
+// The skin of a text that isn't Markdown for that word.
+fn plain_text_skin(alloc: Global, word: Option<&str>) -> Result<PageSkin, Failure>
+    ensures { MatchResult result
+        (λ skin. plain_text_skin (option_map (λ word. word.now) word.entry) ≡ Some skin)
+        (λ failure. RefusesPageWord (option_map (λ word. word.now) word.entry) failure) }
+{
+    let skin = page_skin(alloc, word)?;
+    Ok(unstyled_text(skin))
+}
+
+// The same skin, but for its text, which has no style but its scroll bar's, and all columns.
+fn unstyled_text(skin: PageSkin) -> PageSkin
+    ensures { result ≡ unstyled_text skin }
+{
+    let mut text = MadSkin::no_style();
+    text.scrollbar = skin.text.scrollbar;
+    PageSkin {
+        text,
+        room: TextRoom::WHOLE,
+        ..skin
+    }
 }
 
 // That word, or the default one without it.

@@ -14,11 +14,13 @@ use Rattle.mad_input.specs.declared.input.Heard.TheVariants.{Typed, Pasted, Read
 use Rattle.mad_input.specs.declared.input.TerminalInput.{TerminalInput}
 use Rattle.mad_sections.specs.Sections.{SectionContent}
 use Rattle.mad_dressing.specs.Dressed.{Put, dressed, put_with}
-use Rattle.mad_dressing.specs.declared.heading_marks.HeadingMarks.{HeadingMarks}
+use Rattle.mad_dressing.specs.declared.page_marks.PageMarks.{PageMarks}
 use Rattle.mad_search.specs.PagedTexts.{grouped}
 use Rattle.mad_search.proofs.GroupLemmas.{page_grouped}
 use Rattle.markdown_reader.specs.MarkdownSays.{LinkSaid}
-use Rattle.mad_outline.specs.Sources.{TextSaid, plain_said}
+use Rattle.mad_plain.specs.Runs.{StyledChar}
+use Rattle.mad_plain_page.specs.PlainTexts.{lines_shown}
+use Rattle.mad_outline.specs.Sources.{TextSaid, plain_said, rows_said}
 use Rattle.mad_pager.proofs.PagerOrder.{pasted_view_order, step_order, view_settled_order}
 use Rattle.mad_pager.specs.Pagers.{View, begun, pasted_in, IsOpened, IsOrderlyView, IsViewShown}
 use Rattle.mad_pager.specs.declared.pager.Pager.{Pager}
@@ -28,7 +30,7 @@ use Rattle.termimad_page_run.specs.Runs.{AreTurns, EndsAtInput, IsBrokenOff, IsB
 use Rattle.markdown_reader.specs.Markdown.{markdown_sections, markdown_links}
 use Rattle.mad_steady.specs.Steady.{steady_text}
 use Rattle.termimad_page_run.specs.declared.program.Grammar.{Grammar}
-use Rattle.termimad_page_run.specs.declared.program.Grammar.TheVariants.{Lines, Markdown}
+use Rattle.termimad_page_run.specs.declared.program.Grammar.TheVariants.{Lines, Markdown, Plain}
 use Rattle.termimad_page_run.specs.declared.program.Sheet.{Sheet}
 
 -- ---- names
@@ -129,17 +131,23 @@ pub shown_by : (text printed shown : List ℕ) → printed ≡ printed_text text
 shown_by text printed shown e is = is ∙ ap (λ (t : List ℕ). encode_utf8_all (steady_text (chars t))) e
 
 -- what a text says that is shown so
-pub lines_said : (grammar : Grammar) (marks : HeadingMarks) (text shown : List ℕ) → grammar ≡ Lines → shown ≡ shown_text text → plain_said shown ≡ said_in grammar marks text
+pub lines_said : (grammar : Grammar) (marks : PageMarks) (text shown : List ℕ) → grammar ≡ Lines → shown ≡ shown_text text → plain_said shown ≡ said_in grammar marks text
 lines_said grammar marks text shown is e = ap plain_said e ∙ ap (λ (g : Grammar). said_in g marks text) (sym is)
 
 -- what Markdown says that was read, with what is put into its page with each of its sections
-pub markdown_said : (grammar : Grammar) (marks : HeadingMarks) (text : List ℕ) (puts : List Put) (page said : List SectionContent) (links : List LinkSaid) → grammar ≡ Markdown → said ≡ markdown_sections text → page ≡ said → puts ≡ map (put_with marks) page
-    → links ≡ markdown_links text → record { page = said; shown = grouped puts said; links = Some links } ≡ said_in grammar marks text
+pub markdown_said : (grammar : Grammar) (marks : PageMarks) (text : List ℕ) (puts : List Put) (page said : List SectionContent) (links : List LinkSaid) → grammar ≡ Markdown → said ≡ markdown_sections text → page ≡ said → puts ≡ map (put_with marks) page
+    → links ≡ markdown_links text → record { page = said; shown = λ width. grouped puts said; drawn = None; links = Some links } ≡ said_in grammar marks text
 markdown_said grammar marks text puts page said links is e same put f =
     let groups : grouped puts said ≡ map (dressed marks) said = page_grouped marks puts said (put ∙ ap (map (put_with marks)) same) in
-    ap (λ (g : List (List SectionContent)). let s : TextSaid = record { page = said; shown = g; links = Some links } in s) groups
-    ∙ (ap (λ (l : List SectionContent). let s : TextSaid = record { page = l; shown = map (dressed marks) l; links = Some links } in s) e
-    ∙ (ap (λ (l : List LinkSaid). let s : TextSaid = record { page = markdown_sections text; shown = map (dressed marks) (markdown_sections text); links = Some l } in s) f ∙ ap (λ (g : Grammar). said_in g marks text) (sym is)))
+    ap (λ (g : List (List SectionContent)). let s : TextSaid = record { page = said; shown = λ width. g; drawn = None; links = Some links } in s) groups
+    ∙ (ap (λ (l : List SectionContent). let s : TextSaid = record { page = l; shown = λ width. map (dressed marks) l; drawn = None; links = Some links } in s) e
+    ∙ (ap (λ (l : List LinkSaid). let s : TextSaid = record { page = markdown_sections text; shown = λ width. map (dressed marks) (markdown_sections text); drawn = None; links = Some l } in s) f ∙ ap (λ (g : Grammar). said_in g marks text) (sym is)))
+
+-- what a text says that isn't Markdown and was read
+pub plain_text_said : (grammar : Grammar) (marks : PageMarks) (text : List ℕ) (lines : List (List StyledChar)) (is_styled shown : Bool) → grammar ≡ Plain is_styled → shown ≡ is_styled → lines ≡ lines_shown text
+    → rows_said shown lines ≡ said_in grammar marks text
+plain_text_said grammar marks text lines is_styled shown is styled read =
+    ap (λ (b : Bool). rows_said b lines) styled ∙ (ap (rows_said is_styled) read ∙ ap (λ (g : Grammar). said_in g marks text) (sym is))
 
 -- what was opened, along what is equal
 pub opened_along : (sheet : Sheet) (v : View) (name : List ℕ) (text : TextSaid) → name ≡ name_row sheet.name.now → text ≡ sheet_said sheet → IsOpened sheet.skin.now name text sheet.columns sheet.rows sheet.files v

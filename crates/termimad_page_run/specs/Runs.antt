@@ -1,15 +1,17 @@
 -- A run of the pager: which blocks of bytes are read, what is done of them, and what goes out.
-use Rattle.std.specs.Prelude.{◌≡◌, ◌⊎◌, ℕ, ◌-◌, ◌^◌, ◌<◌, ◌==◌, nat_lt, Bool, false, List, [], ◌∷◌, length, map, Some, chars, encode_utf8_all, if◌then◌else◌}
+use Rattle.std.specs.Prelude.{◌≡◌, ◌⊎◌, ℕ, ◌-◌, ◌^◌, ◌<◌, ◌==◌, nat_lt, Bool, false, List, [], ◌∷◌, length, map, None, Some, chars, encode_utf8_all, if◌then◌else◌}
 use Rattle.mad_term.specs.Trace.{Trace, ahead_all, failed, IsAtItsEnd}
 use Rattle.mad_term.specs.declared.errors.Error.{Error}
 use Rattle.mad_term.specs.declared.errors.Error.TheVariants.{IO, InsufficientWidth, Memory}
 use Rattle.mad_measure.specs.Printable.{printable_text}
 use Rattle.mad_steady.specs.Steady.{steady_text}
 use Rattle.mad_dressing.specs.Dressed.{dressed}
-use Rattle.mad_dressing.specs.declared.heading_marks.HeadingMarks.{HeadingMarks}
+use Rattle.mad_dressing.specs.declared.page_marks.PageMarks.{PageMarks}
+use Rattle.mad_page_skin.specs.PageSkins.{page_marks}
 use Rattle.markdown_reader.specs.Markdown.{markdown_sections, markdown_links}
 use Rattle.mad_pager.specs.Pagers.{View, begun, IsOpened, IsOrderlyView, IsViewShown, IsViewUnshown, view_of}
-use Rattle.mad_outline.specs.Sources.{TextSaid, plain_said}
+use Rattle.mad_outline.specs.Sources.{TextSaid, plain_said, rows_said}
+use Rattle.mad_plain_page.specs.PlainTexts.{lines_shown}
 use Rattle.mad_input.specs.Hearing.{awaiting, quiet_input}
 use Rattle.mad_input.specs.declared.input.TerminalInput.{TerminalInput}
 use Rattle.mad_pager.specs.declared.pager.Pager.{Pager}
@@ -17,7 +19,7 @@ use Rattle.mad_pager.specs.declared.session.End.{End}
 use Rattle.mad_pager.specs.declared.session.End.TheVariants.{Quits}
 use Rattle.termimad_page_run.specs.Blocks.{IsBlockDone, IsEndedIn}
 use Rattle.termimad_page_run.specs.declared.program.Grammar.{Grammar}
-use Rattle.termimad_page_run.specs.declared.program.Grammar.TheVariants.{Lines, Markdown}
+use Rattle.termimad_page_run.specs.declared.program.Grammar.TheVariants.{Lines, Markdown, Plain}
 use Rattle.termimad_page_run.specs.declared.program.Sheet.{Sheet}
 
 -- how many bytes a block has at most; after one that has as many there may be more, so that it is no pause
@@ -42,14 +44,17 @@ row_char c = if c == 10 then 32 else c
 abbrev pub name_row : List ℕ → List ℕ
 name_row name = encode_utf8_all (map row_char (chars (shown_text name)))
 
--- what a text says: the parts of it as it is shown, or the sections of Markdown as people write it, with the rules and signs of headings, and its links
-abbrev pub said_in : Grammar → HeadingMarks → List ℕ → TextSaid
+-- what a text says: the parts of it as it is shown, or the sections of Markdown as people write it, with the rules and signs of headings, and its links;
+-- or the rows of no Markdown, in their styles or without
+abbrev pub said_in : Grammar → PageMarks → List ℕ → TextSaid
 said_in Lines marks text = plain_said (shown_text text)
-said_in Markdown marks text = record { page = markdown_sections text; shown = map (dressed marks) (markdown_sections text); links = Some (markdown_links text) }
+said_in Markdown marks text =
+    record { page = markdown_sections text; shown = λ width. map (dressed marks) (markdown_sections text); drawn = None; links = Some (markdown_links text) }
+said_in (Plain is_styled) marks text = rows_said is_styled (lines_shown text)
 
 -- what a sheet's text says
 abbrev pub sheet_said : Sheet → TextSaid
-sheet_said sheet = said_in sheet.grammar sheet.skin.now.headings sheet.text.now
+sheet_said sheet = said_in sheet.grammar (page_marks sheet.skin.now) sheet.text.now
 
 -- ---- turns
 

@@ -3,7 +3,8 @@
 ghost use Rattle.std.specs.Prelude.{◌≡◌, IfOk, IfErr, OnOk, MatchResult, List, ℕ, None, Some, string_bytes};
 ghost use Rattle.mad_pager.specs.Pagers.{begun, view_of, IsOrderlyView};
 ghost use Rattle.mad_pager.specs.Sessions.{asks_size, end_of};
-ghost use Rattle.mad_outline.specs.Sources.{text_said};
+ghost use Rattle.mad_outline.specs.Sources.{plain_said, rows_said, text_said};
+ghost use Rattle.mad_plain_page.specs.PlainTexts.{lines_kept};
 ghost use Rattle.termimad_page_run.specs.Runs.{moment, name_row, row_char, sheet_said, IsBrokenOff, IsBrokenRun, IsFaultyTurn, IsLastTurn, IsPaged, IsTurn, IsTurned};
 
 use crate::blocks::apply_block;
@@ -12,6 +13,7 @@ use mad_input::TerminalInput;
 use mad_measure::printable;
 use mad_page_skin::PageSkin;
 use mad_pager::{End, Files, Pager, Turn};
+use mad_plain_page::PlainText;
 use mad_search::PagedText;
 use mad_steady::steady;
 use mad_term::{Error, Out, Source};
@@ -28,6 +30,8 @@ pub enum Grammar {
     Lines,
     /// As Markdown that people write.
     Markdown,
+    /// As no Markdown: no mark is read, but colors and overstrikes are. They are shown, or not.
+    Plain(bool),
 }
 
 /// What is paged, and where.
@@ -58,13 +62,13 @@ pub struct Sheet<'s> {
 /// A size that the terminal tells counts where it was asked for, once for each question. Where the terminal says that it is ready, by `ESC [ 0 n`, it
 /// is asked. What is pasted goes into a search that is typed, or else nowhere.
 ///
-/// What is printable of the name and of the text is shown, made steady; of Markdown that people write, of what it is read as. A block that fills
-/// the room for it whole is no pause.
+/// What is printable of the name and of the text is shown, made steady; of Markdown that people write, of what it is read as. Of no Markdown each
+/// character is shown, or its picture. A block that fills the room for it whole is no pause.
 ///
 /// # Errors
 ///
 /// The first fault of a device, or out of memory. What went out by then is whole pictures, unless the output failed.
-#[tactic(auto, using(crate::proofs::RunLemmas::lines_said, crate::proofs::RunLemmas::markdown_said))]
+#[tactic(auto, using(crate::proofs::RunLemmas::lines_said, crate::proofs::RunLemmas::markdown_said, crate::proofs::RunLemmas::plain_text_said))]
 pub fn run<I: Source, O: Out>(
     alloc: Global,
     sheet: &Sheet,
@@ -78,24 +82,55 @@ pub fn run<I: Source, O: Out>(
     match sheet.grammar {
         Grammar::Lines => {
             let printed = printable(alloc, sheet.text)?;
-            let text = steady(alloc, &printed)?;
-            page(
-                alloc,
-                sheet,
-                name.as_str(),
-                PagedText::Lines(&text),
-                input,
-                out,
-            )
+            let lines = steady(alloc, &printed)?;
+            page_lines(alloc, sheet, name.as_str(), &lines, input, out)
         }
         Grammar::Markdown => {
             let markdown = Markdown::read(alloc, sheet.text)?;
             let sections = markdown.page(alloc)?;
-            let dressings = dressings_of(alloc, &sections, sheet.skin.headings)?;
+            let dressings = dressings_of(alloc, &sections, sheet.skin.marks())?;
             let text = PagedText::Markdown(&markdown, &dressings);
             page(alloc, sheet, name.as_str(), text, input, out)
         }
+        Grammar::Plain(is_styled) => {
+            let plain = PlainText::read(alloc, sheet.text, is_styled)?;
+            page_plain(alloc, sheet, name.as_str(), &plain, input, out)
+        }
     }
+}
+
+// Pages the text of a sheet whose lines stand for themselves.
+fn page_lines<I: Source, O: Out>(
+    alloc: Global,
+    sheet: &Sheet,
+    name: &str,
+    text: &str,
+    input: &mut I,
+    out: &mut O,
+) -> Result<End, Error>
+    requires name { name.now ≡ name_row sheet.now.name.now }
+    requires text { plain_said text.now ≡ sheet_said sheet.now }
+    ensures { MatchResult result (λ end. IsPaged sheet.now end (I.seen input.old) (I.seen input.new) (O.seen out.old) (O.seen out.new))
+        (λ e. IsBrokenRun sheet.now e (I.seen input.old) (I.seen input.new) (O.seen out.old) (O.seen out.new)) }
+{
+    page(alloc, sheet, name, PagedText::Lines(text), input, out)
+}
+
+// Pages the text of a sheet that isn't Markdown.
+fn page_plain<I: Source, O: Out>(
+    alloc: Global,
+    sheet: &Sheet,
+    name: &str,
+    text: &PlainText,
+    input: &mut I,
+    out: &mut O,
+) -> Result<End, Error>
+    requires name { name.now ≡ name_row sheet.now.name.now }
+    requires text { rows_said text.now.is_styled (lines_kept text.now) ≡ sheet_said sheet.now }
+    ensures { MatchResult result (λ end. IsPaged sheet.now end (I.seen input.old) (I.seen input.new) (O.seen out.old) (O.seen out.new))
+        (λ e. IsBrokenRun sheet.now e (I.seen input.old) (I.seen input.new) (O.seen out.old) (O.seen out.new)) }
+{
+    page(alloc, sheet, name, PagedText::Plain(text), input, out)
 }
 
 // Pages the text of a sheet, whose name and text are handed over as they are shown.

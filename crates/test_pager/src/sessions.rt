@@ -12,9 +12,9 @@ use termimad_page_run::{End, Files, Grammar, Sheet, plain_skin, run};
 const SIZE_QUESTION: &[u8] = b"\x1b[999;999H\x1b[6n";
 
 /// What a session shows. The call has the columns and rows of the screen, and the name, after the word `markdown` where the text is read as
-/// people write Markdown. Before the columns stands what files there are beside it, if there are some: `first`, `between` or `last`, and after that `+N`,
-/// where the row of this number is on top at first. With the word
-/// `plain` before these the skin has no style; with `dark`, `light`, `sixteen` or `none` it is that of a page. With `pens` before that each picture is
+/// people write Markdown, and after `colors` or `bare` where it is read as no Markdown, in its styles or without. Before the columns stands what files
+/// there are beside it, if there are some: `first`, `between` or `last`, and after that `+N`, where the row of this number is on top at first. With the
+/// word `plain` before these the skin has no style; with `dark`, `light`, `sixteen` or `none` it is that of a page. With `pens` before that each picture is
 /// shown once more as letters of its pens. The text comes first, then a line `==`, and a block a line.
 pub fn shown(alloc: Global, call: &str, text: &str) -> Result<String, AllocError> {
     let (pens, call) = match call.strip_prefix("pens ") {
@@ -22,10 +22,7 @@ pub fn shown(alloc: Global, call: &str, text: &str) -> Result<String, AllocError
         None => (false, call),
     };
     let (mut skin, call) = skin_in(call);
-    let (grammar, call) = match call.strip_prefix("markdown ") {
-        Some(call) => (Grammar::Markdown, call),
-        None => (Grammar::Lines, call),
-    };
+    let (grammar, call) = grammar_in(call);
     // As the program has it: words of Markdown stay whole.
     skin.text.whole_words = grammar == Grammar::Markdown;
     let (files, call) = files_in(call);
@@ -34,12 +31,11 @@ pub fn shown(alloc: Global, call: &str, text: &str) -> Result<String, AllocError
     let columns = number(words.next());
     let rows = number(words.next());
     let name = words.next().unwrap_or("");
-    let (text, blocks) = text.split_once("\n==\n").unwrap_or((text, ""));
-    let blocks: String = blocks.chars().map(meant).collect(alloc)?;
+    let (text, blocks) = text_and_blocks(alloc, text)?;
     let blocks = blocks.as_str();
     let sheet = Sheet {
         name,
-        text,
+        text: text.as_str(),
         grammar,
         skin: &skin,
         columns,
@@ -62,6 +58,25 @@ pub fn shown(alloc: Global, call: &str, text: &str) -> Result<String, AllocError
         Err(_) => answer.push_str("a fault\n")?,
     }
     Ok(answer)
+}
+
+// The text and the blocks, with the characters that signs mean.
+fn text_and_blocks(alloc: Global, text: &str) -> Result<(String, String), AllocError> {
+    let (text, blocks) = text.split_once("\n==\n").unwrap_or((text, ""));
+    let text: String = text.chars().map(struck).collect(alloc)?;
+    let blocks: String = blocks.chars().map(meant).collect(alloc)?;
+    Ok((text, blocks))
+}
+
+// How a call says that the text is read, and the rest of it. Without a word for it its lines stand for themselves.
+fn grammar_in(call: &str) -> (Grammar, &str) {
+    let (word, rest) = call.split_once(' ').unwrap_or((call, ""));
+    match word {
+        "markdown" => (Grammar::Markdown, rest),
+        "colors" => (Grammar::Plain(true), rest),
+        "bare" => (Grammar::Plain(false), rest),
+        _ => (Grammar::Lines, call),
+    }
 }
 
 // The skin that a call names, and the rest of it. Without a name it is the default one of the smaller grammar.
@@ -103,6 +118,14 @@ fn push_end(answer: &mut String, end: End) -> Result<(), AllocError> {
         End::PreviousFile => answer.push_str("ended for the file before\n"),
         End::Reload(row) => write!(answer, "ended for the file as it is, at row {row}\n"),
         End::Edit(row) => write!(answer, "ended for an editor at row {row}\n"),
+    }
+}
+
+// The character that a sign means in a text: a backspace, as overstrikes have it.
+fn struck(sign: char) -> char {
+    match sign {
+        '␈' => '\u{8}',
+        _ => sign,
     }
 }
 

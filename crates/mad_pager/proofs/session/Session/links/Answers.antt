@@ -9,6 +9,9 @@ use Rattle.mad_pager.proofs.session.Session.links.Goals as goal
 pub returns-in-Lines : goal.returns-in-Lines
 returns-in-Lines c = ap (λ (t : TextSaid). links_page t (state_of c.args.self.now)) (ap text_said (sym c.in-Lines.is) ∙ c.paged.ensures)
 
+pub returns-in-Plain : goal.returns-in-Plain
+returns-in-Plain c = ap (λ (t : TextSaid). links_page t (state_of c.args.self.now)) (ap text_said (sym c.in-Plain.is) ∙ c.paged.ensures)
+
 pub returns-in-Markdown : goal.returns-in-Markdown
 returns-in-Markdown c =
     let s = state_of c.args.self.now in

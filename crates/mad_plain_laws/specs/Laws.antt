@@ -1,0 +1,40 @@
+-- Laws of the page of a text that isn't Markdown.
+use Rattle.std.specs.Prelude.{◌≡◌, ◌≤◌, ℕ, ◌+◌, Bool, List, [], ◌∷◌, chars, encode_utf8_all, length, map, Some}
+use Rattle.std.specs.List.{AllByRecursion}
+use Rattle.std.specs.Str.{IsUtf8}
+use Rattle.mad_style.specs.LineStyles.{margins_at}
+use Rattle.mad_style.specs.StyledChars.{char_alone}
+use Rattle.mad_style.specs.declared.kinds.CompositeKind.TheVariants.{Code}
+use Rattle.mad_style.specs.declared.styled_chars.StyledChar.{StyledChar as PaintedChar}
+use Rattle.mad_format.specs.LineRules.{LineRules}
+use Rattle.mad_plain.specs.Rows.{wrapped}
+use Rattle.mad_plain.specs.Runs.{StyledChar, said}
+use Rattle.mad_plain_page.specs.PlainTexts.{painted_rows}
+use Rattle.mad_search.specs.PagedTexts.{grouped, row_sections}
+use Rattle.mad_search.specs.Searches.{line_text}
+use Rattle.mad_pages.specs.PagedPages.{IsPagedAt}
+use Rattle.mad_pages.specs.declared.paged.PagedPage.{PagedPage}
+
+-- the characters of a row that is drawn, as a text
+abbrev pub row_text : List PaintedChar → List ℕ
+row_text row = encode_utf8_all (map char_alone row)
+
+-- in which rows lines begin, the first of them in this one; last the row behind all
+abbrev pub line_starts : ℕ → ℕ → List (List StyledChar) → List ℕ
+line_starts width row [] = row ∷ []
+line_starts width row (line ∷ lines) = row ∷ line_starts width (row + length (wrapped width line)) lines
+
+-- the line's characters are those of a text
+abbrev pub SaysText : List StyledChar → Type 0
+SaysText line = (text : List ℕ) × IsUtf8 text × (said line ≡ chars text)
+
+-- The page has a line for each row that is drawn of these lines, in order, and it says the row's characters. Its sections begin where the lines do.
+pub record IsPageOfRows (is_styled : Bool) (width : ℕ) (lines : List (List StyledChar)) (paged : PagedPage) : Type 0 where
+  pub text : map line_text paged.lines.items ≡ map row_text (painted_rows is_styled width lines)
+  pub begin : paged.starts.items ≡ line_starts width 0 lines
+
+-- The page of the rows of a text is so, from three columns on, where code has no margins.
+abbrev pub PagesAreTheRows : Type 0
+PagesAreTheRows = (rules : LineRules) (ascii is_styled : Bool) (width : ℕ) (lines : List (List StyledChar)) (paged : PagedPage)
+    → 3 ≤ width → margins_at (rules.line_style Code) (Some width) ≡ (0, 0) → AllByRecursion SaysText lines
+    → IsPagedAt rules ascii (Some width) (grouped [] (row_sections width lines)) paged → IsPageOfRows is_styled width lines paged

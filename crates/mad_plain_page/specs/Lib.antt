@@ -1,0 +1,4 @@
+pub mod Laws
+pub mod PlainTexts
+pub mod StyledRows
+pub mod Taking

@@ -1,0 +1,5 @@
+mod EdgeLemmas
+mod RunLemmas
+pub mod RowLemmas
+pub mod CellLemmas
+pub mod ByteLemmas
