@@ -25,7 +25,7 @@ use Rattle.mad_format.specs.declared.composite.FmtComposite.{FmtComposite}
 use Rattle.mad_format.specs.declared.line.FmtLine.{FmtLine}
 use Rattle.mad_format.specs.declared.line.FmtLine.TheVariants.{Normal, TableRow, TableRule, HorizontalRule}
 use Rattle.mad_format.specs.declared.table.RelativePosition.{RelativePosition}
-use Rattle.mad_rows.specs.Rows.{prefix_pieces, compound_piece, inner_blanks, outer_blanks, margins_of, composite_pieces, left_of_place, right_of_place, placed_pieces, vertical_piece, cell_pieces, row_columns, rule_chars, table_row_pieces, table_rule_pieces, line_pieces}
+use Rattle.mad_rows.specs.Rows.{cell_margins, prefix_pieces, compound_piece, inner_blanks, outer_blanks, margins_of, composite_pieces, left_of_place, right_of_place, placed_pieces, vertical_piece, cell_pieces, row_columns, rule_chars, table_row_pieces, table_rule_pieces, line_pieces}
 use Rattle.mad_rows.specs.RowStyles.{compound_style, line_style, ordered_item_style, tone_styles}
 use Rattle.mad_rows.specs.declared.row_skin.RowSkin.{RowSkin}
 use Rattle.mad_sections.specs.Gutters.{gutter_columns}
@@ -133,7 +133,7 @@ cells_text : (skin : RowSkin) (cells : List FmtComposite) → AreTextAndMarks sk
 cells_text skin [] = refl
 cells_text skin (cell ∷ cells) =
     subst (λ (text : List ℕ). AreTextAndMarks skin text (flat_map (cell_pieces skin) (cell ∷ cells))) (sym (flat_map-append (λ (run : Run). run.text) (runs_of cell) (flat_map runs_of cells)))
-    (inl ((border, refl), both_texts skin (bytes_of (runs_of cell)) (bytes_of (flat_map runs_of cells)) (composite_pieces skin None (0, 0) false cell) (flat_map (cell_pieces skin) cells) (composite_text skin None (0, 0) false cell) (cells_text skin cells)))
+    (inl ((border, refl), both_texts skin (bytes_of (runs_of cell)) (bytes_of (flat_map runs_of cells)) (composite_pieces skin None (cell_margins skin) true cell) (flat_map (cell_pieces skin) cells) (composite_text skin None (cell_margins skin) true cell) (cells_text skin cells)))
 
 placed_text : (skin : RowSkin) (outer : Option ℕ) (filled : Bool) (columns : ℕ) (text : List ℕ) (ps : List RowPiece) → AreTextAndMarks skin text ps → AreTextAndMarks skin text (placed_pieces skin outer filled columns ps)
 placed_text skin outer filled columns text ps h =
@@ -169,7 +169,7 @@ line_text : (skin : RowSkin) (outer : Option ℕ) (filled : Bool) (line : FmtLin
 line_text skin outer filled (Normal l) = composite_text skin outer (margins_of skin outer l) filled l
 line_text skin outer filled (TableRow row) =
     let text : List ℕ = bytes_of (flat_map runs_of row.cells.items) in
-    placed_text skin outer filled (row_columns row.cells.items) text (flat_map (cell_pieces skin) row.cells.items ++ vertical_piece skin ∷ [])
+    placed_text skin outer filled (row_columns skin row.cells.items) text (flat_map (cell_pieces skin) row.cells.items ++ vertical_piece skin ∷ [])
     (marks_after skin text (flat_map (cell_pieces skin) row.cells.items) (vertical_piece skin ∷ []) (cells_text skin row.cells.items) ((border, refl), tt))
 line_text skin outer filled (TableRule across) =
     let ps : List RowPiece = rule_pieces skin.table.compound_style (rule_chars skin.table_border_chars across.position) across.widths.items in

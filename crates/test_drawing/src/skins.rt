@@ -13,7 +13,7 @@ pub struct TestSkin {
 }
 
 impl LineSkin for TestSkin {
-    ghost rules = { λ skin. record { list_items_indentation_mode = skin.mode; whole_words = skin.keeps_words; line_style = λ kind. skin.style } };
+    ghost rules = { λ skin. record { list_items_indentation_mode = skin.mode; whole_words = skin.keeps_words; cell_blanks = false; line_style = λ kind. skin.style } };
 
     fn items_indentation(&self) -> ListItemsIndentationMode {
         self.mode
@@ -21,6 +21,10 @@ impl LineSkin for TestSkin {
 
     fn whole_words(&self) -> bool {
         self.keeps_words
+    }
+
+    fn cell_blanks(&self) -> bool {
+        false
     }
 
     fn style_of(&self, _kind: CompositeKind) -> &LineStyle {
