@@ -1,2 +1,3 @@
 pub mod BlockLemmas
+pub mod ComingLemmas
 pub mod RunLemmas
