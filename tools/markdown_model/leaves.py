@@ -17,6 +17,10 @@ class Address:
         self.text = text
 
 
+class Picture:
+    """Two pictures may say the same."""
+
+
 @dataclass
 class Run:
     text: str
@@ -25,9 +29,11 @@ class Run:
     code: bool = False
     strike: bool = False
     link: Address | None = None
+    picture: Picture | None = None
 
     def same(self, o: Run) -> bool:
-        return (self.bold, self.italic, self.code, self.strike) == (o.bold, o.italic, o.code, o.strike) and self.link is o.link
+        flags = (self.bold, self.italic, self.code, self.strike) == (o.bold, o.italic, o.code, o.strike)
+        return flags and self.link is o.link and self.picture is o.picture
 
 
 TURNS = "\u202a\u202b\u202c\u202d\u202e\u2066\u2067\u2068\u2069"  # what turns the direction
@@ -50,26 +56,39 @@ Row = list[Run]
 
 def runs_of_leaf(s: str, defs: dict) -> list[Row]:
     """The rows of a leaf (cut at hard breaks), each a list of runs whose neighbours differ. Empty rows at the leaf's ends aren't shown: none
-    is left of a leaf that shows nothing."""
+    is left of a leaf that shows nothing. What is said of a picture has the link around it and no other flag, and a break in it is a space. Of images in
+    one another the outermost is the picture."""
     rows = [[]]
     depth = {"em": 0, "strong": 0, "del": 0}
     links = []  # of the open links and images: the address of the link that they are in
+    images: list[Picture | None] = []  # of the same: the picture that they are or are in
 
     def put(text: str, code: bool = False, link: Address | None = None) -> None:
         text = printable(text)
         if not text:
             return
-        link = links[-1] if links and links[-1] is not None else link
-        r = Run(text, depth["strong"] > 0, depth["em"] > 0, code, depth["del"] > 0, link)
+        picture = images[-1] if images else None
+        if picture:
+            r = Run(text, link=links[-1], picture=picture)
+        else:
+            link = links[-1] if links and links[-1] is not None else link
+            r = Run(text, depth["strong"] > 0, depth["em"] > 0, code, depth["del"] > 0, link)
         row = rows[-1]
         if row and row[-1].same(r):
             row[-1].text += text
         else:
             row.append(r)
 
+    def cut() -> None:
+        if images and images[-1]:
+            put(" ")
+        else:
+            rows.append([])
+
     reader = Inlines(s, defs)
     reader.bare = True
-    for p in reader.read():
+    found = reader.read()
+    for k, p in enumerate(found):
         if p.kind == "text":
             put(p.text)
         elif p.kind in ADDRESSES:
@@ -78,11 +97,11 @@ def runs_of_leaf(s: str, defs: dict) -> list[Row]:
             put(p.text, True)
         elif p.kind == "html":
             if re.match(r"</?br(?![A-Za-z0-9-])", p.text, re.I):
-                rows.append([])
+                cut()
             else:
                 put(image_text(p.text))
         elif p.kind == "break":
-            rows.append([])
+            cut()
         elif p.kind == "soft":
             put(" ")
         elif p.kind == "run":
@@ -94,10 +113,21 @@ def runs_of_leaf(s: str, defs: dict) -> list[Row]:
         elif p.tag is None:
             put(s[p.start:p.start + (2 if s[p.start] == "!" else 1)])
         elif p.kind == "open":
-            links.append(Address(p.tag[1]) if p.tag[0] == "link" else links[-1] if links else None)
+            image, inside = p.tag[0] == "image", images[-1] if images else None
+            links.append(links[-1] if links and (image or inside) else None if image or inside else Address(p.tag[1]))
+            images.append(inside or (Picture() if image else None))
         else:
+            if p.tag[0] == "image" and found[k - 1].kind == "open" and found[k - 1].tag is p.tag:
+                put(file_name(p, s))
             links.pop()
+            images.pop()
     return without_empty_ends([trim(r) for r in rows])
+
+
+def file_name(p: Piece, s: str) -> str:
+    """What an image says that has nothing between its brackets: the last part of its address's path, if that stands in parentheses behind it."""
+    inline = p.end > p.start + 1 and s[p.start + 1] == "("
+    return re.split("[?#]", p.tag[1])[0].rpartition("/")[2] if inline else ""
 
 
 def without_empty_ends(rows: list[Row]) -> list[Row]:
@@ -147,7 +177,7 @@ def cell_runs(rows: list[Row], bold: bool) -> Row:
 
 
 def compounds(row: Row) -> list[Compound]:
-    return [Compound(r.text, r.bold, r.italic, r.code, r.strike, r.link and r.link.text) for r in row]
+    return [Compound(r.text, r.bold, r.italic, r.code, r.strike, r.link and r.link.text, r.picture is not None) for r in row]
 
 
 ATTRIBUTE = r"""[ \t\n]+([A-Za-z_:][A-Za-z0-9_.:-]*)(?:[ \t\n]*=[ \t\n]*(?:"([^"]*)(?:"|\Z)|'([^']*)(?:'|\Z)|([^ \t\n"'=<>`]+))?)?"""

@@ -14,7 +14,7 @@ from . import dump
 from .leaf_rows import Cells, Row, columns, fits_as_table, layout, placed, table_of
 from .lines import EMPTY, Align, Compound, HorizontalRule, Line, Normal, TableRule, paragraph
 from .sections import BULLET, CODE_SIDES, DONE, OPEN, Gutter, Section, hanging, sections_of
-from .words import worded
+from .words import pictured, worded
 
 PageRow = tuple[str, Row]
 LOOKS = ("page", "boxes", "ascii", "plain")
@@ -83,9 +83,9 @@ def boxed_rows(width: int | None, section: Section) -> list[PageRow]:
 
 
 def dressed(section: Section) -> list[Section]:
-    """What a page without styles shows in the place of a section: marks at its words, below a heading of the first two levels a rule, and the signs in front
-    of another."""
-    section = worded(section)
+    """What a page without styles shows in the place of a section: marks at its words, signs in front of its pictures, below a heading of the first two levels
+    a rule, and the signs in front of another."""
+    section = pictured(worded(section))
     first = section.lines[0]
     level = first.composite.style.level if isinstance(first, Normal) else 0
     if level in BELOW:
@@ -120,8 +120,7 @@ def texts(width: int | None, sections: list[Section], look: str = "page") -> lis
     rows_of = {"boxes": boxed_rows, "plain": plain_rows}.get(look, section_rows)
     if look == "ascii":
         sections = list(map(in_ascii, sections))
-    if look == "plain":
-        sections = [d for s in sections for d in dressed(s)]
+    sections = [d for s in sections for d in (dressed(s) if look == "plain" else [pictured(s)])]
     return [ended(front + "".join(c.src for c in row), look, s) for s in shown_sections(width, sections) for front, row in rows_of(width, s)]
 
 

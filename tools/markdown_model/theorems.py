@@ -70,6 +70,9 @@ def blocks_rows(number: int, text: str) -> Iterator[tuple[str, str]]:
 # ---- sections
 
 def run(compound: Compound) -> str:
+    if compound.picture:
+        assert compound.link is None, "Rows.antt has no word for a picture in a link"
+        return f"pictured {literal(compound.src)}"
     flags = (compound.bold, compound.italic, compound.code, compound.strikeout, compound.link is not None)
     return f"{'flagged ' + ' '.join(str(flag).lower() for flag in flags) if any(flags) else 'plain'} {literal(compound.src)}"
 
@@ -160,7 +163,7 @@ def blocks_uses(rows: list[str]) -> tuple[str, str]:
 
 
 def sections_uses(rows: list[str]) -> tuple[str, str]:
-    words = ["plain", "flagged", "row", "code_row", "cells", "behind", "table_behind", "blank", "toned_behind"]
+    words = ["plain", "flagged", "pictured", "row", "code_row", "cells", "behind", "table_behind", "blank", "toned_behind"]
     tongues = sorted({name for row in rows for name in TONED.findall(row)})
     return ", true, false", use(LANGUAGE + ".TheVariants", tongues) + "".join(variants(path, rows) for path in list(VARIANTS)[2:]) + use(
         "Rattle.mad_md.specs.Lines", named(["table_rule", "horizontal_rule"], rows)) + use(

@@ -1,4 +1,4 @@
-"""Marks at the words of a page without styles: where a flag begins, and where it ends."""
+"""Marks at the words of a page without styles, where a flag begins and where it ends; and signs in front of pictures."""
 from __future__ import annotations
 
 from dataclasses import replace
@@ -54,3 +54,19 @@ def worded(section: Section) -> Section:
         before = edge(section.lines, k, -1, strong)
         strong = strong and isinstance(line, TableRule)
     return replace(section, lines=lines)
+
+
+# ------------------------------------------------------------------ pictures
+
+
+def pictured(section: Section, sign: str = "▣") -> Section:
+    """A section with a sign in front of what is said of each picture, and a space behind the sign at which no row breaks."""
+    def signed(composite: Composite) -> Composite:
+        return replace(composite, compounds=[x for c in composite.compounds for x in ([Compound(sign + " ", code=True, sign=True)] if c.picture else []) + [c]])
+
+    def line_of(line: Line) -> Line:
+        if isinstance(line, Normal):
+            return Normal(signed(line.composite))
+        return TableRow(list(map(signed, line.cells))) if isinstance(line, TableRow) else line
+
+    return replace(section, lines=list(map(line_of, section.lines)))

@@ -20,7 +20,7 @@ const ROWS: u16 = 10;
 pub fn run<R: Read + Drop>(rt: &HostRuntime, input: R) -> Result<(), Error> {
     let skin = MadSkin::no_style();
     let page_skin = PageSkin::of(&skin);
-    let documents = read_all(rt, "texts.txt", page_skin.headings)?;
+    let documents = read_all(rt, "texts.txt", page_skin.marks())?;
     let mut reader = Reader::new(rt.alloc(), &skin, &page_skin, &documents)?;
     panel::run(rt, input, &mut reader, COLUMNS, ROWS)
 }

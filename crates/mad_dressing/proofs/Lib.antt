@@ -1,2 +1,3 @@
 pub mod DressLemmas
 pub mod MarkLemmas
+pub mod SignLemmas

@@ -1,4 +1,5 @@
 pub mod DressLaws
 pub mod Dressed
+pub mod PictureSigns
 pub mod WordFlags
 pub mod WordMarks

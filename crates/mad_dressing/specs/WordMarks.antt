@@ -41,9 +41,9 @@ is_address text =
     starts_with nat_eq text (codes "http://") || (starts_with nat_eq text (codes "https://") || (starts_with nat_eq text (codes "ftp://")
     || (starts_with nat_eq text (codes "mailto:") || starts_with nat_eq text (codes "www."))))
 
--- the flags of a run that have marks: bold has none in a line that is bold as a whole, and a link has none that is an address as it stands
+-- the flags of a run that have marks: bold has none in a line that is bold as a whole, a link has none that is an address as it stands, and a picture has none
 abbrev pub marked_flags : Bool → Run → Flags
-marked_flags strong run = record run.flags { bold = run.flags.bold && not strong; link = run.flags.link && not (is_address run.text) }
+marked_flags strong run = record run.flags { bold = run.flags.bold && not strong; link = run.flags.link && not (is_address run.text); picture = false; picture_sign = false }
 
 -- the flags of the first run, or without a run those of what follows
 abbrev pub first_flags : Bool → Flags → List Run → Flags

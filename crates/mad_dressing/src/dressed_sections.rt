@@ -7,6 +7,7 @@ ghost use Rattle.mad_dressing.specs.Dressed.{beside_of, dressed_by, placed_by, p
 
 use crate::dressings::{Dressing, HeadingDressing};
 use crate::marked_sections::worded;
+use crate::picture_signs::pictured;
 use mad_md::{Line, Text};
 use mad_sections::{Gutter, Section};
 use std::alloc::{AllocError, Global};
@@ -14,7 +15,8 @@ use std::alloc::{AllocError, Global};
 /// A section with what is put into the page with it.
 #[derive(Debug, PartialEq, Drop)]
 pub struct Dressed<'s> {
-    /// The section, with marks at its words or without; with signs behind one gutter more.
+    /// The section, with marks at its words or without, and with a sign in front of what is said of each picture. A heading with signs is behind one
+    /// gutter more.
     pub section: Section<'s>,
     /// The rule below it, if it has one: a section of its own.
     pub rule: Option<Section<'s>>,
@@ -32,7 +34,8 @@ pub fn dress<'s>(
 ) -> Result<Dressed<'s>, AllocError>
     ensures { IfOk result (λ dressed. sections_dressed dressed ≡ dressed_by (put_of dressing.entry.now) (section_content section.entry)) }
 {
-    let own = worded(alloc, section, dressing.words)?;
+    let marked = worded(alloc, section, dressing.words)?;
+    let own = pictured(alloc, marked, &dressing.sign)?;
     placed(alloc, own, &dressing.beside)
 }
 

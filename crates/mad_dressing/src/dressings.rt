@@ -6,17 +6,22 @@ ghost use Rattle.mad_sections.specs.Sections.{section_content};
 ghost use Rattle.mad_dressing.specs.Dressed.{beside_at, beside_of, header_level, heading_level, line_level, put_of, put_with};
 
 use crate::heading_marks::HeadingMarks;
+use crate::page_marks::PageMarks;
+use crate::picture_signs::sign_for;
 use mad_md::{CompositeStyle, Line};
 use mad_sections::{Gutter, Section};
 use std::alloc::{AllocError, Global};
 
-/// What is put into a page with a section. It has the gutters of what is put there, so it has to last as long as they are drawn.
+/// What is put into a page with a section. It has the gutters of what is put there, and the sign of
+/// pictures, so it has to last as long as they are drawn.
 #[derive(Debug, Drop)]
 pub struct Dressing {
     /// What stands beside it, if it is a heading.
     pub beside: HeadingDressing,
     /// Whether marks stand at its words.
     pub words: bool,
+    /// The sign in front of what is said of each of its pictures, with a space behind it, if it has any.
+    pub sign: Option<String>,
 }
 
 /// What stands beside a heading.
@@ -38,14 +43,16 @@ pub enum HeadingDressing {
 pub fn dressing_of(
     alloc: Global,
     section: &Section,
-    marks: HeadingMarks,
+    marks: PageMarks,
 ) -> Result<Dressing, AllocError>
     ensures { IfOk result (λ dressing. put_of dressing ≡ put_with marks (section_content section.now)) }
 {
-    let beside = beside_of(alloc, section, marks)?;
+    let beside = beside_of(alloc, section, marks.headings)?;
+    let sign = sign_for(alloc, &section.text.lines, marks.sign)?;
     Ok(Dressing {
         beside,
-        words: marks.words,
+        words: marks.headings.words,
+        sign,
     })
 }
 

@@ -42,8 +42,8 @@ fn begins_strong(section: &Section<'_>) -> bool
     begin_table(&section.text.lines) || (section.fresh > 0 && end_in_alert(section.gutters))
 }
 
-// Whether lines begin with one of code.
-fn begin_code(lines: &[Line<'_>]) -> bool
+/// Whether lines begin with one of code.
+pub(crate) fn begin_code(lines: &[Line<'_>]) -> bool
     ensures { result ≡ begin_code (map content_of lines.now) }
 {
     match lines {

@@ -6,7 +6,7 @@ ghost use Rattle.mad_dressing.specs.Dressed.{dressed_by, dressed_by_each, put_of
 
 use crate::dressed_sections::dress;
 use crate::dressings::{Dressing, dressing_of};
-use crate::heading_marks::HeadingMarks;
+use crate::page_marks::PageMarks;
 use mad_sections::{Page, Section};
 use std::alloc::{AllocError, Global};
 
@@ -18,7 +18,7 @@ use std::alloc::{AllocError, Global};
 pub fn dressings_of(
     alloc: Global,
     page: &Page<'_>,
-    marks: HeadingMarks,
+    marks: PageMarks,
 ) -> Result<Vec<Dressing>, AllocError>
     ensures { IfOk result (λ dressings. map put_of dressings.items ≡ map (put_with marks) (page_content page.now)) }
 {
@@ -28,7 +28,7 @@ pub fn dressings_of(
 fn dressings_of_sections(
     alloc: Global,
     sections: &[Section<'_>],
-    marks: HeadingMarks,
+    marks: PageMarks,
 ) -> Result<Vec<Dressing>, AllocError>
     ensures { IfOk result (λ dressings. map put_of dressings.items ≡ map (put_with marks) (map section_content sections.now)) }
 {

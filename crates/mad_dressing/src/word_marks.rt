@@ -10,7 +10,7 @@ ghost use Rattle.mad_dressing.specs.WordMarks.{beginnings, endings, first_flags,
 use mad_md::{Composite, Compound};
 use std::alloc::{AllocError, Global};
 
-/// The flags of a text that have marks.
+/// The flags of a text that have marks. Pictures have none.
 #[derive(Debug, Clone, Copy, PartialEq, Eq)]
 pub(crate) struct WordFlags {
     bold: bool,

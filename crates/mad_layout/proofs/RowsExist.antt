@@ -120,7 +120,7 @@ WhiteGaps ps = AllByRecursion (λ p. AllWhite (whole p.gap)) ps
 
 -- what breaking looks at of a piece: its columns, and whether it is blank
 abbrev sized : List FlaggedChar → Token
-sized t = record { compound = record { src = record { ref_ptr = (0, 0); now = [] }; bold = false; italic = false; code = false; strikeout = false; link = false }; blank = all_blank t; width = width_of t; start_in_compound = 0; end_in_compound = 0 }
+sized t = record { compound = record { src = record { ref_ptr = (0, 0); now = [] }; bold = false; italic = false; code = false; strikeout = false; link = false; picture = false; picture_sign = false }; blank = all_blank t; width = width_of t; start_in_compound = 0; end_in_compound = 0 }
 
 abbrev sized_pieces : List (LineAndGap (List FlaggedChar)) → List (LineAndGap Token)
 sized_pieces ps = map (piece_by sized) ps

@@ -55,7 +55,7 @@ use Rattle.mad_layout.proofs.WrittenLemmas.{hands_refused, WrittenSoFar, written
 -- a vector of at most one compound, in whatever memory
 abbrev holding : Vec FmtLine Global → List ℕ → Bor (List ℕ) → Vec Compound Global
 holding v [] text = record { ptr = v.ptr; len = 0; cap = 0; alloc = v.alloc; items = []; ok = (refl, omega arith); small = omega arith }
-holding v (b ∷ bs) text = record { ptr = v.ptr; len = 1; cap = 1; alloc = v.alloc; items = record { src = text; bold = false; italic = false; code = false; strikeout = false; link = false } ∷ []; ok = (refl, omega arith); small = omega arith }
+holding v (b ∷ bs) text = record { ptr = v.ptr; len = 1; cap = 1; alloc = v.alloc; items = record { src = text; bold = false; italic = false; code = false; strikeout = false; link = false; picture = false; picture_sign = false } ∷ []; ok = (refl, omega arith); small = omega arith }
 
 -- what was read, and the line that it becomes
 abbrev source : Vec FmtLine Global → List ℕ → Bor (List ℕ) → FmtComposite
@@ -141,7 +141,7 @@ text_piece : (skin : RowSkin) (v : Vec FmtLine Global) (bs : List ℕ) (text : B
     → pieces_bytes (map (compound_piece skin skin.paragraph) (holding v bs text).items) ≡ bs
 text_piece skin v [] text unstyled is h = refl
 text_piece skin v (b ∷ bs) text unstyled is h =
-    let p : Compound = record { src = text; bold = false; italic = false; code = false; strikeout = false; link = false } in
+    let p : Compound = record { src = text; bold = false; italic = false; code = false; strikeout = false; link = false; picture = false; picture_sign = false } in
     let same : compound_style skin skin.paragraph (run_of p) ≡ skin.paragraph.compound_style = if_false _ _ _ (other_text b bs text.now is (h 0 (omega arith))) in
     append-nil _ ∙ sym (bare_piece skin skin.paragraph p unstyled same) ∙ is
 

@@ -23,7 +23,7 @@ page_styles skin =
       below_others = skin.horizontal_rule;
     }
 
--- all but its scroll bar; links, heads of tables and titles of alerts have no style of their own, and code has no tones
+-- all but its scroll bar; links, pictures, heads of tables and titles of alerts have no style of their own, and code has no tones
 abbrev pub row_skin : MadSkin → RowSkin
 row_skin skin =
     record {
@@ -33,6 +33,8 @@ row_skin skin =
       strikeout = skin.strikeout;
       inline_code = skin.inline_code;
       link = unstyled;
+      picture = unstyled;
+      picture_sign = unstyled;
       code_block = skin.code_block;
       headers = skin.headers;
       table = skin.table;

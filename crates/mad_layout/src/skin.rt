@@ -10,10 +10,7 @@ ghost use Rattle.mad_layout.specs.SkinParts.{header_line, first_header_line, def
 use mad_format::{LineSkin, composite_columns};
 use mad_md::{Alignment, Compound, MAX_HEADER_DEPTH};
 pub use mad_rows::OrderedItemStyles;
-use mad_rows::{
-    FlagStyles, HeaderStyles, PageStyles, RowSkin, TitleStyles, item_style_at, style_of_compound,
-    style_of_kind,
-};
+use mad_rows::{HeaderStyles, PageStyles, RowSkin, TitleStyles, item_style_at, style_of_kind};
 use mad_style::{
     CompositeKind, CompoundStyle, LineStyle, ListItemsIndentationMode, MAX_ORDERED_LIST_DEPTH,
     OrderedItemStyle, STANDARD_TABLE_BORDER_CHARS, ScrollBarStyle, StyledChar, TableBorderChars,
@@ -194,18 +191,11 @@ impl MadSkin {
         item_style_at(&self.ordered_item_styles, level)
     }
 
-    /// The style of a compound in a line of that style, which [`style_of_compound`] makes. A link has no style of its own.
+    /// The style of a compound in a line of that style, as [`RowSkin::compound_style`] has it. Links and pictures have no style of their own.
     pub fn compound_style(&self, line_style: &LineStyle, compound: &Compound) -> CompoundStyle
         ensures { result ≡ compound_style (row_skin self.now) line_style.now (run_of compound.now) }
     {
-        let added = FlagStyles {
-            italic: &self.italic,
-            strikeout: &self.strikeout,
-            bold: &self.bold,
-            code: &self.inline_code,
-            link: &CompoundStyle::default(),
-        };
-        style_of_compound(line_style, added, &self.ellipsis, compound)
+        self.row_skin().compound_style(line_style, compound)
     }
 
     /// What rows show of the skin: all but its scroll bar. Links look as the rest of their line, and so does all of code. Heads of tables and titles of
@@ -220,6 +210,8 @@ impl MadSkin {
             strikeout: self.strikeout,
             inline_code: self.inline_code,
             link: CompoundStyle::default(),
+            picture: CompoundStyle::default(),
+            picture_sign: CompoundStyle::default(),
             code_block: self.code_block,
             headers: self.headers,
             table: self.table,

@@ -3,11 +3,12 @@ use Rattle.std.specs.Prelude.{Bool, true, false, ◌&&◌, List, [], ◌∷◌, 
 use Rattle.mad_term.specs.declared.attribute.Attribute.TheVariants as attribute
 use Rattle.mad_style.specs.CompoundStyles.{unstyled}
 use Rattle.mad_style.specs.declared.compound_styles.CompoundStyle.{CompoundStyle}
-use Rattle.mad_style.specs.StyledChars.{styled_char}
+use Rattle.mad_style.specs.StyledChars.{char_alone, char_style, styled_char}
 use Rattle.mad_rows.specs.RowStyles.{sets_nothing, unstyled_titles, with_links}
 use Rattle.mad_rows.specs.declared.row_skin.RowSkin.{RowSkin}
 use Rattle.mad_layout.specs.RowSkins.{page_styles, row_skin}
 use Rattle.mad_layout.specs.declared.skin.MadSkin.{MadSkin}
+use Rattle.mad_dressing.specs.declared.page_marks.PageMarks.{PageMarks}
 use Rattle.mad_page_skin.specs.Inks.{attributed}
 use Rattle.mad_page_skin.specs.declared.page_skin.PageSkin.{PageSkin}
 use Rattle.mad_page_skin.specs.declared.part_styles.CodeStyles.{CodeStyles}
@@ -40,7 +41,21 @@ code_tones code =
 
 -- what rows show of the skin of a page: they keep words whole
 abbrev pub page_row_skin : PageSkin → RowSkin
-page_row_skin skin = record (row_skin skin.text) { link = skin.link; whole_words = true; page = skin.page; head = skin.head; titles = skin.titles; tones = code_tones skin.code }
+page_row_skin skin =
+    record (row_skin skin.text) {
+      link = skin.link;
+      picture = skin.picture;
+      picture_sign = char_style skin.sign;
+      whole_words = true;
+      page = skin.page;
+      head = skin.head;
+      titles = skin.titles;
+      tones = code_tones skin.code;
+    }
+
+-- what stands in a page in a skin and isn't its text's own
+abbrev pub page_marks : PageSkin → PageMarks
+page_marks skin = record { headings = skin.headings; sign = char_alone skin.sign }
 
 -- as many columns as there are
 abbrev pub whole_room : TextRoom

@@ -3,11 +3,11 @@
 ghost use Rattle.std.specs.Prelude.{◌≡◌, true};
 ghost use Rattle.mad_layout.specs.RowSkins.{page_styles, row_skin};
 ghost use Rattle.mad_rows.specs.RowStyles.{with_links};
-ghost use Rattle.mad_page_skin.specs.PageSkins.{page_row_skin, page_skin_of};
+ghost use Rattle.mad_page_skin.specs.PageSkins.{page_marks, page_row_skin, page_skin_of};
 
 use crate::part_styles::CodeStyles;
 use crate::text_room::TextRoom;
-use mad_dressing::HeadingMarks;
+use mad_dressing::{HeadingMarks, PageMarks};
 use mad_layout::MadSkin;
 use mad_rows::{PageStyles, RowSkin, TitleStyles};
 use mad_style::{CompoundStyle, StyledChar};
@@ -49,7 +49,7 @@ pub struct PageSkin {
 
 impl PageSkin {
     /// The skin of a page that looks as a skin of the smaller grammar does: links are underlined, where a flag of a compound adds anything.
-    /// Headings have neither rules nor signs, and words no marks.
+    /// Headings have neither rules nor signs, and words no marks. In front of pictures is `▣`.
     pub fn of(text: &MadSkin) -> PageSkin
         ensures skin { result ≡ page_skin_of text.now }
         ensures rows { page_row_skin result ≡ with_links (record (row_skin text.now) { whole_words = true }) }
@@ -78,12 +78,24 @@ impl PageSkin {
         }
     }
 
+    /// What stands in a page in this skin and isn't its text's own.
+    pub fn marks(&self) -> PageMarks
+        ensures { result ≡ page_marks self.now }
+    {
+        PageMarks {
+            headings: self.headings,
+            sign: self.sign.nude_char(),
+        }
+    }
+
     /// What rows show of the skin. Words stay whole in them.
     pub fn row_skin(&self) -> RowSkin
         ensures { result ≡ page_row_skin self.now }
     {
         RowSkin {
             link: self.link,
+            picture: self.picture,
+            picture_sign: *self.sign.compound_style(),
             whole_words: true,
             page: self.page,
             head: self.head,

@@ -3,7 +3,8 @@ use Rattle.std.proofs.Common.{◌≡◌, ℕ, ◌+◌, ◌-◌, ◌<◌, ◌≤�
 use Rattle.std.specs.Str.{bytes_eq}
 use Rattle.mad_term.specs.Styles.{piece_bytes, opening_bytes, closing_bytes}
 use Rattle.mad_read_rows.specs.ReadRows.{IsBetween}
-use Rattle.mad_rows.specs.RowStyles.{compound_style, ellipsis_bytes, overwritten_if}
+use Rattle.mad_rows.specs.RowStyles.{compound_style, ellipsis_bytes, style_over_flags}
+use Rattle.mad_style.specs.CompoundStyles.{overwritten}
 use Rattle.std.specs.Prelude.{if◌then◌else◌}
 use Rattle.std.specs.List.{flat_map}
 use Rattle.std.proofs.lemmas.List.{length-append, length-map, map-append, at_drop_more, drop_all}
@@ -62,7 +63,9 @@ use Rattle.mad_read_rows.proofs.WordRowLemmas.{ArePieceRows, piece_rows}
 
 -- a style that a compound has by its flags alone
 flagged_style : RowSkin → LineStyle → Flags → CompoundStyle
-flagged_style skin style f = overwritten_if f.code skin.inline_code (overwritten_if f.bold skin.bold (overwritten_if f.strikeout skin.strikeout (overwritten_if f.italic skin.italic (overwritten_if f.link skin.link style.compound_style))))
+flagged_style skin style f =
+    if f.picture_sign then overwritten style.compound_style skin.picture_sign
+    else style_over_flags skin.picture skin.link skin.italic skin.strikeout skin.bold skin.inline_code style.compound_style f
 
 style_by_flags : (skin : RowSkin) (style : LineStyle) (p : Compound) → bytes_eq p.src.now ellipsis_bytes ≡ false → compound_style skin style (run_of p) ≡ flagged_style skin style (flags_of p)
 unfolding flagged_style

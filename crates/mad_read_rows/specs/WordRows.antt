@@ -64,7 +64,7 @@ IsQuickTo write p others end = HasLastWord write p end ⊎ ((end ≡ length p.sr
 
 -- what a compound is that isn't there
 abbrev pub no_compound : Compound
-no_compound = record { src = record { ref_ptr = (0, 0); now = [] }; bold = false; italic = false; code = false; strikeout = false; link = false }
+no_compound = record { src = record { ref_ptr = (0, 0); now = [] }; bold = false; italic = false; code = false; strikeout = false; link = false; picture = false; picture_sign = false }
 
 -- The tokens of a compound from a byte on up to another were put, each of which begins before `end`, and written after the bytes that were there.
 pub record WritesSome (write : Token → List ℕ) (later : List ℕ) (max : ℕ) (p : Compound) (at end to : ℕ) (s : FirstFit) (old : List ℕ) (n : FirstFit) (new : List ℕ) : Type 0 where

@@ -52,11 +52,14 @@ either_known false x y h k = k
 
 compound_known : (skin : RowSkin) (style : LineStyle) (p : Run) → AreKnownStyles skin → IsStyle style.compound_style.object_style → IsStyle (compound_style skin style p).object_style
 compound_known skin style p h k =
-    let link = if_known p.flags.link skin.link style.compound_style h.parts.link k in
+    let picture = if_known p.flags.picture skin.picture style.compound_style h.parts.picture k in
+    let link = if_known p.flags.link skin.link _ h.parts.link picture in
     let italic = if_known p.flags.italic skin.italic _ h.parts.italic link in
     let strikeout = if_known p.flags.strikeout skin.strikeout _ h.parts.strikeout italic in
     let bold = if_known p.flags.bold skin.bold _ h.parts.bold strikeout in
-    either_known (bytes_eq p.text ellipsis_bytes) skin.ellipsis _ h.parts.ellipsis (if_known p.flags.code skin.inline_code _ h.parts.code bold)
+    let sign = overwritten_known style.compound_style skin.picture_sign k h.parts.picture_sign in
+    either_known (bytes_eq p.text ellipsis_bytes) skin.ellipsis _ h.parts.ellipsis
+    (either_known p.flags.picture_sign _ _ sign (if_known p.flags.code skin.inline_code _ h.parts.code bold))
 
 compounds_known : (skin : RowSkin) (style : LineStyle) (ps : List Compound) → AreKnownStyles skin → IsStyle style.compound_style.object_style → AreKnown (map (compound_piece skin style) ps)
 compounds_known skin style [] h k = tt

@@ -2,7 +2,7 @@
 use Rattle.std.specs.Prelude.{ℕ, zero, suc, Bool, List, [], ◌∷◌, slice_get, unwrap_or, min, Option, Some, None, is_none, ◌&&◌, ◌==◌, if◌then◌else◌}
 use Rattle.std.specs.List.{AllByRecursion}
 use Rattle.std.specs.Str.{bytes_eq}
-use Rattle.mad_md.specs.Flagged.{Run}
+use Rattle.mad_md.specs.Flagged.{Flags, Run}
 use Rattle.mad_style.specs.declared.compound_styles.CompoundStyle.{CompoundStyle}
 use Rattle.mad_style.specs.declared.kinds.CompositeKind.{CompositeKind}
 use Rattle.mad_style.specs.declared.kinds.CompositeKind.TheVariants.{Header, Code}
@@ -47,16 +47,22 @@ ellipsis_bytes = 226 ∷ 128 ∷ 166 ∷ []
 abbrev pub overwritten_if : Bool → CompoundStyle → CompoundStyle → CompoundStyle
 overwritten_if flag other style = if flag then overwritten style other else style
 
--- The style of a compound in a line of this style: the ellipsis has its own; else the line's, overwritten with those of the compound's flags,
--- link first, then italic, strikeout, bold and code.
-abbrev pub style_of_compound : CompoundStyle → CompoundStyle → CompoundStyle → CompoundStyle → CompoundStyle → CompoundStyle → LineStyle → Run → CompoundStyle
-style_of_compound ellipsis link italic strikeout bold code style p =
+-- the style of the flags of a text over that of its line: picture first, then link, italic, strikeout, bold and code
+abbrev pub style_over_flags : CompoundStyle → CompoundStyle → CompoundStyle → CompoundStyle → CompoundStyle → CompoundStyle → CompoundStyle → Flags → CompoundStyle
+style_over_flags picture link italic strikeout bold code style f =
+    overwritten_if f.code code (overwritten_if f.bold bold (overwritten_if f.strikeout strikeout (overwritten_if f.italic italic (overwritten_if f.link link (overwritten_if f.picture picture style)))))
+
+-- The style of a compound in a line of this style: the ellipsis has its own; the sign of a picture the line's, overwritten with that of such signs;
+-- all else the line's, overwritten with those of the compound's flags.
+abbrev pub style_of_compound : CompoundStyle → CompoundStyle → CompoundStyle → CompoundStyle → CompoundStyle → CompoundStyle → CompoundStyle → CompoundStyle → LineStyle → Run → CompoundStyle
+style_of_compound ellipsis sign picture link italic strikeout bold code style p =
     if bytes_eq p.text ellipsis_bytes then ellipsis
-    else overwritten_if p.flags.code code (overwritten_if p.flags.bold bold (overwritten_if p.flags.strikeout strikeout (overwritten_if p.flags.italic italic (overwritten_if p.flags.link link style.compound_style))))
+    else if p.flags.picture_sign then overwritten style.compound_style sign
+    else style_over_flags picture link italic strikeout bold code style.compound_style p.flags
 
 -- so it is in a skin
 abbrev pub compound_style : RowSkin → LineStyle → Run → CompoundStyle
-compound_style skin = style_of_compound skin.ellipsis skin.link skin.italic skin.strikeout skin.bold skin.inline_code
+compound_style skin = style_of_compound skin.ellipsis skin.picture_sign skin.picture skin.link skin.italic skin.strikeout skin.bold skin.inline_code
 
 -- the style sets nothing
 abbrev pub sets_nothing : CompoundStyle → Bool
@@ -125,6 +131,8 @@ pub record AreKnownParts (skin : RowSkin) : Type 0 where
   pub strikeout : IsStyle skin.strikeout.object_style
   pub code : IsStyle skin.inline_code.object_style
   pub link : IsStyle skin.link.object_style
+  pub picture : IsStyle skin.picture.object_style
+  pub picture_sign : IsStyle skin.picture_sign.object_style
   pub ellipsis : IsStyle skin.ellipsis.object_style
   pub code_block : IsKnownLine skin.code_block
   pub table : IsKnownLine skin.table

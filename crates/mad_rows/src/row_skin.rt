@@ -42,6 +42,10 @@ pub struct RowSkin {
     pub inline_code: CompoundStyle,
     /// What the text of a link adds to its line's style. A [`RowSkin`] that a skin gives adds nothing: [`RowSkin::with_links`] sets it.
     pub link: CompoundStyle,
+    /// What is said of a picture adds this to its line's style.
+    pub picture: CompoundStyle,
+    /// The sign in front of a picture's words adds this.
+    pub picture_sign: CompoundStyle,
     /// The style of code blocks.
     pub code_block: LineStyle,
     /// The styles of headers.
@@ -141,6 +145,8 @@ impl RowSkin {
             bold: &self.bold,
             code: &self.inline_code,
             link: &self.link,
+            picture: &self.picture,
+            sign: &self.picture_sign,
         };
         style_of_compound(line_style, added, &self.ellipsis, compound)
     }
@@ -200,24 +206,35 @@ pub struct FlagStyles<'k> {
     pub code: &'k CompoundStyle,
     /// Of the text of a link.
     pub link: &'k CompoundStyle,
+    /// Of what is said of a picture.
+    pub picture: &'k CompoundStyle,
+    /// Of the sign in front of that.
+    pub sign: &'k CompoundStyle,
 }
 
 /// The style of a compound in a line of that style.
 ///
-/// An ellipsis has its own; any other has its line's, overwritten with those of its flags: link first, then italic,
-/// strikeout, bold and code.
+/// An ellipsis has its own. The sign of a picture has its line's, overwritten with that of such signs. Any other has its line's,
+/// overwritten with those of its flags: picture first, then link, italic, strikeout, bold and code.
 pub fn style_of_compound(
     line_style: &LineStyle,
     added: FlagStyles,
     ellipsis: &CompoundStyle,
     compound: &Compound,
 ) -> CompoundStyle
-    ensures { result ≡ style_of_compound ellipsis.now added.entry.link.now added.entry.italic.now added.entry.strikeout.now added.entry.bold.now added.entry.code.now line_style.now (run_of compound.now) }
+    ensures { result ≡ style_of_compound ellipsis.now added.entry.sign.now added.entry.picture.now added.entry.link.now added.entry.italic.now added.entry.strikeout.now added.entry.bold.now added.entry.code.now line_style.now (run_of compound.now) }
 {
     if compound.src == ELLIPSIS {
         return *ellipsis;
     }
     let mut style = line_style.compound_style;
+    if compound.picture_sign {
+        style.overwrite_with(added.sign);
+        return style;
+    }
+    if compound.picture {
+        style.overwrite_with(added.picture);
+    }
     if compound.link {
         style.overwrite_with(added.link);
     }
@@ -262,6 +279,8 @@ pub fn is_bare(compound: &Compound) -> bool
         || compound.italic
         || compound.code
         || compound.strikeout
-        || compound.link;
+        || compound.link
+        || compound.picture
+        || compound.picture_sign;
     !flagged && (compound.src.len() != ELLIPSIS.len() || compound.src != ELLIPSIS)
 }

@@ -1,17 +1,13 @@
 -- The texts of destinations and titles.
-use Rattle.std.specs.Prelude.{ℕ, true, List, [], ◌++◌, Option, Some, None, codes}
+use Rattle.std.specs.Prelude.{ℕ, List, [], ◌++◌, Option, Some, None, codes}
 use Rattle.std.specs.Str.Lossy.{utf8_lossy}
 use Rattle.markdown_addresses.specs.declared.addresses.Scheme.{Scheme}
 use Rattle.markdown_addresses.specs.declared.addresses.Scheme.TheVariants.{Itself, Mail, Web}
-use Rattle.markdown_spans.specs.Decoded.{decoded}
 use Rattle.markdown_inlines.specs.Parts.{part}
 use Rattle.markdown_inlines.specs.declared.inlines.LinkTarget.{LinkTarget}
 use Rattle.markdown_inlines.specs.declared.inlines.LinkTarget.TheVariants.{Definition, Inline, Address}
-use Rattle.markdown_destinations.specs.Parts.{inline_destination, inline_title, defined_destination, defined_title}
-
--- without escapes and entities
-abbrev pub text_of : List ℕ → List ℕ
-text_of bytes = utf8_lossy (decoded true bytes)
+use Rattle.markdown_link_parts.specs.Parts.{inline_destination, inline_title, defined_destination, defined_title}
+use Rattle.markdown_link_parts.specs.Texts.{text_of}
 
 -- the bytes of a destination and of a title
 pub record Leads : Type 0 where

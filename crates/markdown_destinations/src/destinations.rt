@@ -2,13 +2,15 @@
 
 ghost use Rattle.std.specs.Prelude.{◌≡◌, IfOk, option_map, string_bytes};
 ghost use Rattle.markdown_inlines.specs.Parts.{part};
-ghost use Rattle.markdown_destinations.specs.Destinations.{text_of, scheme_text, inline_leads, defined_leads, address_leads, link_leads};
+ghost use Rattle.markdown_destinations.specs.Destinations.{scheme_text, inline_leads, defined_leads, address_leads, link_leads};
 ghost use Rattle.markdown_destinations.specs.LeadsOf.{leads_of};
 
-use crate::parts::{defined_destination, defined_title, inline_destination, inline_title};
 use markdown_addresses::addresses::Scheme;
 use markdown_inlines::inlines::LinkTarget;
-use markdown_spans::decoded::decoded;
+use markdown_link_parts::parts::{
+    defined_destination, defined_title, inline_destination, inline_title,
+};
+use markdown_link_parts::texts::text_of;
 use markdown_spans::words::{bytes_from, bytes_up_to};
 use std::alloc::{AllocError, Global};
 
@@ -19,19 +21,6 @@ pub struct Destination {
     pub destination: String,
     /// Empty without one.
     pub title: String,
-}
-
-/// These bytes without escapes and entities.
-///
-/// # Errors
-///
-/// Out of memory is the only error.
-pub fn text_of(alloc: Global, bytes: &[u8]) -> Result<String, AllocError>
-    ensures { IfOk result (λ text. string_bytes text ≡ text_of bytes.now) }
-{
-    let decoded = decoded(alloc, true, bytes)?;
-    let text = String::from_utf8_lossy(alloc, &decoded)?;
-    Ok(text)
 }
 
 // What stands in parentheses behind a link, with them.

@@ -2,7 +2,7 @@
 use Rattle.std.proofs.Common.{◌≡◌, [], ◌∷◌, codes, true, false, refl}
 use Rattle.mad_sections.specs.declared.gutters.Gutter.TheVariants.{Bar}
 use Rattle.mad_md.specs.declared.composite.CompositeStyle.TheVariants.{Paragraph, Header}
-use Rattle.markdown_examples.specs.Rows.{plain, flagged, row, behind, blank}
+use Rattle.markdown_examples.specs.Rows.{plain, flagged, pictured, row, behind, blank}
 use Rattle.markdown_reader.specs.Mapping.{link_at}
 use Rattle.markdown_reader.specs.Markdown.{printable_sections, unmarked_links}
 use Rattle.markdown_examples.specs.Sections20.{AreSections20}
@@ -12,7 +12,7 @@ e476 : printable_sections (codes "####### a\n#b\n# c#\n# d #") ≡ behind [] 0 (
 unfolding sections
 e476 = refl
 
-e477 : printable_sections (codes "![a [b](c) d](e)") ≡ behind [] 0 (row Paragraph (plain (codes "a ") ∷ flagged false false false false true (codes "b") ∷ plain (codes " d") ∷ []) ∷ []) ∷ []
+e477 : printable_sections (codes "![a [b](c) d](e)") ≡ behind [] 0 (row Paragraph (pictured (codes "a b d") ∷ []) ∷ []) ∷ []
 unfolding sections
 e477 = refl
 

@@ -3,7 +3,7 @@ use Rattle.std.proofs.Common.{◌≡◌, [], ◌∷◌, codes, true, false, refl
 use Rattle.mad_sections.specs.declared.gutters.Gutter.TheVariants.{Bar, Bullet, Number}
 use Rattle.mad_md.specs.declared.composite.CompositeStyle.TheVariants.{Paragraph, Header}
 use Rattle.mad_md.specs.Lines.{horizontal_rule}
-use Rattle.markdown_examples.specs.Rows.{plain, flagged, row, behind, blank}
+use Rattle.markdown_examples.specs.Rows.{plain, flagged, pictured, row, behind, blank}
 use Rattle.markdown_reader.specs.Mapping.{link_at}
 use Rattle.markdown_reader.specs.Markdown.{printable_sections, unmarked_links}
 use Rattle.markdown_examples.specs.Sections5.{AreSections5}
@@ -25,7 +25,7 @@ e104 : printable_sections (226 ∷ 128 ∷ 156 ∷ 95 ∷ 95 ∷ 96 ∷ 96 ∷ 9
 unfolding sections
 e104 = refl
 
-e105 : printable_sections (codes "![```rs\n](/u)") ≡ behind [] 0 (row Paragraph (plain (codes "```rs") ∷ []) ∷ []) ∷ []
+e105 : printable_sections (codes "![```rs\n](/u)") ≡ behind [] 0 (row Paragraph (pictured (codes "```rs") ∷ []) ∷ []) ∷ []
 unfolding sections
 e105 = refl
 

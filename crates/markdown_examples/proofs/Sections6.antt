@@ -3,7 +3,7 @@ use Rattle.std.proofs.Common.{◌≡◌, [], ◌∷◌, codes, true, false, refl
 use Rattle.mad_sections.specs.declared.gutters.Gutter.TheVariants.{Bar, Bullet, Number, Code}
 use Rattle.mad_md.specs.declared.composite.CompositeStyle.TheVariants.{Paragraph, Header}
 use Rattle.mad_md.specs.Lines.{horizontal_rule}
-use Rattle.markdown_examples.specs.Rows.{plain, flagged, row, code_row, behind, blank}
+use Rattle.markdown_examples.specs.Rows.{plain, flagged, pictured, row, code_row, behind, blank}
 use Rattle.markdown_reader.specs.Markdown.{printable_sections}
 use Rattle.markdown_examples.specs.Sections6.{AreSections6}
 use Rattle.markdown_examples.proofs.Computing.{sections}
@@ -64,7 +64,7 @@ e139 : printable_sections (codes "* ](/u)\\\n    __") ≡ behind (Bullet ∷ [])
 unfolding sections
 e139 = refl
 
-e140 : printable_sections (codes "---\n.![](/u):\\*") ≡ behind [] 0 (horizontal_rule ∷ []) ∷ blank [] ∷ behind [] 0 (row Paragraph (plain (codes ".:*") ∷ []) ∷ []) ∷ []
+e140 : printable_sections (codes "---\n.![](/u):\\*") ≡ behind [] 0 (horizontal_rule ∷ []) ∷ blank [] ∷ behind [] 0 (row Paragraph (plain (codes ".") ∷ pictured (codes "u") ∷ plain (codes ":*") ∷ []) ∷ []) ∷ []
 unfolding sections
 e140 = refl
 

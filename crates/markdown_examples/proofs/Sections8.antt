@@ -3,7 +3,7 @@ use Rattle.std.proofs.Common.{◌≡◌, [], ◌∷◌, codes, true, false, refl
 use Rattle.mad_sections.specs.declared.gutters.Gutter.TheVariants.{Bar, Bullet, Number, Code}
 use Rattle.mad_md.specs.declared.composite.CompositeStyle.TheVariants.{Paragraph, Header}
 use Rattle.mad_md.specs.Lines.{horizontal_rule}
-use Rattle.markdown_examples.specs.Rows.{plain, flagged, row, code_row, behind, blank}
+use Rattle.markdown_examples.specs.Rows.{plain, flagged, pictured, row, code_row, behind, blank}
 use Rattle.markdown_reader.specs.Mapping.{link_at}
 use Rattle.markdown_reader.specs.Markdown.{printable_sections, unmarked_links}
 use Rattle.markdown_examples.specs.Sections8.{AreSections8}
@@ -69,7 +69,7 @@ e188 : printable_sections (codes "\n===\n## \\*!\n```rs\n") ≡ behind [] 0 (row
 unfolding sections
 e188 = refl
 
-e189 : printable_sections (codes "![](/u)<b\n---\n\\*# ") ≡ behind [] 0 (row (Header 2) (plain (codes "<b") ∷ []) ∷ []) ∷ blank [] ∷ behind [] 0 (row Paragraph (plain (codes "*#") ∷ []) ∷ []) ∷ []
+e189 : printable_sections (codes "![](/u)<b\n---\n\\*# ") ≡ behind [] 0 (row (Header 2) (pictured (codes "u") ∷ plain (codes "<b") ∷ []) ∷ []) ∷ blank [] ∷ behind [] 0 (row Paragraph (plain (codes "*#") ∷ []) ∷ []) ∷ []
 unfolding sections
 e189 = refl
 

@@ -3,7 +3,7 @@ use Rattle.std.specs.Prelude.{◌≡◌, [], ◌∷◌, codes, true, false}
 use Rattle.mad_sections.specs.declared.gutters.Gutter.TheVariants.{Bar, Bullet, Number}
 use Rattle.mad_md.specs.declared.composite.CompositeStyle.TheVariants.{Paragraph, Header}
 use Rattle.mad_md.specs.Lines.{horizontal_rule}
-use Rattle.markdown_examples.specs.Rows.{plain, flagged, row, behind, blank}
+use Rattle.markdown_examples.specs.Rows.{plain, flagged, pictured, row, behind, blank}
 use Rattle.markdown_reader.specs.Mapping.{link_at}
 use Rattle.markdown_reader.specs.Markdown.{printable_sections, unmarked_links}
 
@@ -12,7 +12,7 @@ pub record AreSections5 : Type 0 where
   pub e102 : printable_sections (codes "\\*b \n .\n\n-->") ≡ behind [] 0 (row Paragraph (plain (codes "*b .") ∷ []) ∷ []) ∷ blank [] ∷ behind [] 0 (row Paragraph (plain (codes "-->") ∷ []) ∷ []) ∷ []
   pub e103 : printable_sections (codes "``\n\n<!--' \n_") ≡ behind [] 0 (row Paragraph (plain (codes "``") ∷ []) ∷ []) ∷ []
   pub e104 : printable_sections (226 ∷ 128 ∷ 156 ∷ 95 ∷ 95 ∷ 96 ∷ 96 ∷ 96 ∷ 114 ∷ 115 ∷ 10 ∷ 96 ∷ 96 ∷ 96 ∷ []) ≡ behind [] 0 (row Paragraph (plain (226 ∷ 128 ∷ 156 ∷ 95 ∷ 95 ∷ 96 ∷ 96 ∷ 96 ∷ 114 ∷ 115 ∷ []) ∷ []) ∷ []) ∷ []
-  pub e105 : printable_sections (codes "![```rs\n](/u)") ≡ behind [] 0 (row Paragraph (plain (codes "```rs") ∷ []) ∷ []) ∷ []
+  pub e105 : printable_sections (codes "![```rs\n](/u)") ≡ behind [] 0 (row Paragraph (pictured (codes "```rs") ∷ []) ∷ []) ∷ []
   pub e106 : printable_sections (codes "*  <!--\\\n\na* ") ≡ behind (Bullet ∷ []) 1 (row Paragraph ([]) ∷ []) ∷ behind [] 0 (row Paragraph (plain (codes "a*") ∷ []) ∷ []) ∷ []
   pub e107 : printable_sections (codes "* ```__```'\na") ≡ behind (Bullet ∷ []) 1 (row Paragraph (flagged false false true false false (codes "__") ∷ plain (codes "' a") ∷ []) ∷ []) ∷ []
   pub e108 : printable_sections (codes "+ \n- http://x") ≡ behind (Bullet ∷ []) 1 (row Paragraph ([]) ∷ []) ∷ behind (Bullet ∷ []) 1 (row Paragraph (flagged false false false false true (codes "http://x") ∷ []) ∷ []) ∷ []

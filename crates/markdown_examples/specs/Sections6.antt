@@ -3,7 +3,7 @@ use Rattle.std.specs.Prelude.{◌≡◌, [], ◌∷◌, codes, true, false}
 use Rattle.mad_sections.specs.declared.gutters.Gutter.TheVariants.{Bar, Bullet, Number, Code}
 use Rattle.mad_md.specs.declared.composite.CompositeStyle.TheVariants.{Paragraph, Header}
 use Rattle.mad_md.specs.Lines.{horizontal_rule}
-use Rattle.markdown_examples.specs.Rows.{plain, flagged, row, code_row, behind, blank}
+use Rattle.markdown_examples.specs.Rows.{plain, flagged, pictured, row, code_row, behind, blank}
 use Rattle.markdown_reader.specs.Markdown.{printable_sections}
 
 pub record AreSections6 : Type 0 where
@@ -21,7 +21,7 @@ pub record AreSections6 : Type 0 where
   pub e137 : printable_sections (codes "!\n|-|-|\n> _:![_") ≡ behind [] 0 (row Paragraph (plain (codes "! |-|-|") ∷ []) ∷ []) ∷ behind (Bar ∷ []) 1 (row Paragraph (flagged false true false false false (codes ":![") ∷ []) ∷ []) ∷ []
   pub e138 : printable_sections (codes "* '## ===</a>!|") ≡ behind (Bullet ∷ []) 1 (row Paragraph (plain (codes "'## ===!|") ∷ []) ∷ []) ∷ []
   pub e139 : printable_sections (codes "* ](/u)\\\n    __") ≡ behind (Bullet ∷ []) 1 (row Paragraph (plain (codes "](/u)") ∷ []) ∷ row Paragraph (plain (codes "__") ∷ []) ∷ []) ∷ []
-  pub e140 : printable_sections (codes "---\n.![](/u):\\*") ≡ behind [] 0 (horizontal_rule ∷ []) ∷ blank [] ∷ behind [] 0 (row Paragraph (plain (codes ".:*") ∷ []) ∷ []) ∷ []
+  pub e140 : printable_sections (codes "---\n.![](/u):\\*") ≡ behind [] 0 (horizontal_rule ∷ []) ∷ blank [] ∷ behind [] 0 (row Paragraph (plain (codes ".") ∷ pictured (codes "u") ∷ plain (codes ":*") ∷ []) ∷ []) ∷ []
   pub e141 : printable_sections (codes "1. \n'&#35;\n---\n") ≡ behind (Number 1 ∷ []) 1 (row Paragraph ([]) ∷ []) ∷ blank [] ∷ behind [] 0 (row (Header 2) (plain (codes "'#") ∷ []) ∷ []) ∷ []
   pub e142 : printable_sections (codes "1. <</a>* `</a>") ≡ behind (Number 1 ∷ []) 1 (row Paragraph (plain (codes "<* `") ∷ []) ∷ []) ∷ []
   pub e143 : printable_sections (codes "1. <b\n---\nfoo\\*") ≡ behind (Number 1 ∷ []) 1 (row Paragraph (plain (codes "<b") ∷ []) ∷ []) ∷ blank [] ∷ behind [] 0 (horizontal_rule ∷ []) ∷ blank [] ∷ behind [] 0 (row Paragraph (plain (codes "foo*") ∷ []) ∷ []) ∷ []

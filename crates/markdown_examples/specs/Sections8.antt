@@ -3,7 +3,7 @@ use Rattle.std.specs.Prelude.{◌≡◌, [], ◌∷◌, codes, true, false}
 use Rattle.mad_sections.specs.declared.gutters.Gutter.TheVariants.{Bar, Bullet, Number, Code}
 use Rattle.mad_md.specs.declared.composite.CompositeStyle.TheVariants.{Paragraph, Header}
 use Rattle.mad_md.specs.Lines.{horizontal_rule}
-use Rattle.markdown_examples.specs.Rows.{plain, flagged, row, code_row, behind, blank}
+use Rattle.markdown_examples.specs.Rows.{plain, flagged, pictured, row, code_row, behind, blank}
 use Rattle.markdown_reader.specs.Mapping.{link_at}
 use Rattle.markdown_reader.specs.Markdown.{printable_sections, unmarked_links}
 
@@ -23,7 +23,7 @@ pub record AreSections8 : Type 0 where
   pub e186 : printable_sections (102 ∷ 111 ∷ 111 ∷ 226 ∷ 128 ∷ 156 ∷ 50 ∷ 41 ∷ 32 ∷ 49 ∷ 46 ∷ 32 ∷ 10 ∷ 45 ∷ 45 ∷ 45 ∷ 10 ∷ 43 ∷ 32 ∷ []) ≡ behind [] 0 (row (Header 2) (plain (102 ∷ 111 ∷ 111 ∷ 226 ∷ 128 ∷ 156 ∷ 50 ∷ 41 ∷ 32 ∷ 49 ∷ 46 ∷ []) ∷ []) ∷ []) ∷ blank [] ∷ behind (Bullet ∷ []) 1 (row Paragraph ([]) ∷ []) ∷ []
   pub e187 : printable_sections (10 ∷ 61 ∷ 61 ∷ 61 ∷ 10 ∷ 10 ∷ 45 ∷ 45 ∷ 45 ∷ 10 ∷ 60 ∷ 100 ∷ 105 ∷ 118 ∷ 62 ∷ 230 ∷ 166 ∷ 130 ∷ 46 ∷ 230 ∷ 166 ∷ 130 ∷ []) ≡ behind [] 0 (row Paragraph (plain (codes "===") ∷ []) ∷ []) ∷ blank [] ∷ behind [] 0 (horizontal_rule ∷ []) ∷ blank [] ∷ behind [] 0 (row Paragraph (plain (230 ∷ 166 ∷ 130 ∷ 46 ∷ 230 ∷ 166 ∷ 130 ∷ []) ∷ []) ∷ []) ∷ []
   pub e188 : printable_sections (codes "\n===\n## \\*!\n```rs\n") ≡ behind [] 0 (row Paragraph (plain (codes "===") ∷ []) ∷ []) ∷ blank [] ∷ behind [] 0 (row (Header 2) (plain (codes "*!") ∷ []) ∷ []) ∷ []
-  pub e189 : printable_sections (codes "![](/u)<b\n---\n\\*# ") ≡ behind [] 0 (row (Header 2) (plain (codes "<b") ∷ []) ∷ []) ∷ blank [] ∷ behind [] 0 (row Paragraph (plain (codes "*#") ∷ []) ∷ []) ∷ []
+  pub e189 : printable_sections (codes "![](/u)<b\n---\n\\*# ") ≡ behind [] 0 (row (Header 2) (pictured (codes "u") ∷ plain (codes "<b") ∷ []) ∷ []) ∷ blank [] ∷ behind [] 0 (row Paragraph (plain (codes "*#") ∷ []) ∷ []) ∷ []
   pub e190 : printable_sections (codes "## \n---\n`&#35;[ ] ") ≡ behind [] 0 (horizontal_rule ∷ []) ∷ blank [] ∷ behind [] 0 (row Paragraph (plain (codes "`#[ ]") ∷ []) ∷ []) ∷ []
   pub e191 : printable_sections (codes "'</a>![```rs\n\n\n\n\n*") ≡ behind [] 0 (row Paragraph (plain (codes "'![```rs") ∷ []) ∷ []) ∷ blank [] ∷ behind (Bullet ∷ []) 1 (row Paragraph ([]) ∷ []) ∷ []
   pub e192 : printable_sections (codes "+ \t![<div>foo</a>)") ≡ behind (Bullet ∷ []) 1 (row Paragraph (plain (codes "![foo)") ∷ []) ∷ []) ∷ []

@@ -15,13 +15,13 @@ use Rattle.markdown_headings.specs.Counts.{IsCountedOnce, counted, next}
 use Rattle.markdown_headings.specs.Headings.{TitleSaid}
 use Rattle.markdown_headings.specs.Named.{names_of}
 
--- the text of a heading
+-- the text of a heading without what is said of pictures
 abbrev text_of : TitleSaid → List ℕ
-text_of title = title.text
+text_of title = title.words
 
 -- the names of headings, without numbers
 abbrev pub plain_names : List TitleSaid → List (List ℕ)
-plain_names titles = map (λ (title : TitleSaid). name_bytes title.text) titles
+plain_names titles = map (λ (title : TitleSaid). name_bytes title.words) titles
 
 -- The names so far, and those of the titles that are left, are all. The map has how many of the titles so far have each name.
 pub record NamedSoFar {Y : Type 0} (titles : List TitleSaid) (i : ℕ) (names : List (List ℕ)) (counts : BTreeMap (String Y) ℕ) : Type 0 where
@@ -70,7 +70,7 @@ next_is n small = omega (arith, small)
 
 few_named : (name : List ℕ) (titles : List TitleSaid) (i : ℕ) → times name (plain_names (take i titles)) ≤ i
 few_named name titles i =
-    omega (arith, count_by-le-length (λ (other : List ℕ). bytes_eq other name) (plain_names (take i titles)), length-map (take i titles) (λ (title : TitleSaid). name_bytes title.text), length-take i titles)
+    omega (arith, count_by-le-length (λ (other : List ℕ). bytes_eq other name) (plain_names (take i titles)), length-map (take i titles) (λ (title : TitleSaid). name_bytes title.words), length-take i titles)
 
 module _ {Y : Type 0} where
   -- before the first title
@@ -87,13 +87,13 @@ module _ {Y : Type 0} where
 
   -- one title more
   pub one_named : (titles : List TitleSaid) (i : ℕ) (title : TitleSaid) (names names' : List (List ℕ)) (counts counts' : BTreeMap (String Y) ℕ) → i < length titles → length titles < 2 ^ 64 → get_or titles i title ≡ title
-      → names' ≡ names ++ numbered (name_bytes title.text) (counted counts (name_bytes title.text)) ∷ [] → IsCountedOnce counts counts' (name_bytes title.text) → NamedSoFar titles i names counts → NamedSoFar titles (i + 1) names' counts'
+      → names' ≡ names ++ numbered (name_bytes title.words) (counted counts (name_bytes title.words)) ∷ [] → IsCountedOnce counts counts' (name_bytes title.words) → NamedSoFar titles i names counts → NamedSoFar titles (i + 1) names' counts'
   one_named titles i title names names' counts counts' below few here pushed once h =
-      let own : List ℕ = name_bytes title.text in
+      let own : List ℕ = name_bytes title.words in
       let before : List (List ℕ) = plain_names (take i titles) in
       let rest : List (List ℕ) = map text_of (drop (i + 1) titles) in
       let taken : take (i + 1) titles ≡ take i titles ++ title ∷ [] = take_more titles i title below ∙ ap (λ (t : TitleSaid). take i titles ++ t ∷ []) here in
-      let before_is : plain_names (take (i + 1) titles) ≡ before ++ own ∷ [] = ap plain_names taken ∙ map-append (λ (t : TitleSaid). name_bytes t.text) (take i titles) (title ∷ []) in
+      let before_is : plain_names (take (i + 1) titles) ≡ before ++ own ∷ [] = ap plain_names taken ∙ map-append (λ (t : TitleSaid). name_bytes t.words) (take i titles) (title ∷ []) in
       let left : drop i titles ≡ title ∷ drop (i + 1) titles = drop_more titles i title below ∙ ap (λ (t : TitleSaid). t ∷ drop (i + 1) titles) here in
       let small : counted counts own + 1 < 2 ^ 64 = omega (arith, h.counts_are own, few_named own titles i, below, few) in
       let more : next (counted counts own) ≡ times own before + 1 = next_is (counted counts own) small ∙ ap (λ (n : ℕ). n + 1) (h.counts_are own) in

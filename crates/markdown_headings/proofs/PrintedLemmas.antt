@@ -1,5 +1,5 @@
 -- What headings show has no character that a terminal obeys, where what was read has none.
-use Rattle.std.proofs.Common.{◌≡◌, ℕ, ◌+◌, List, [], ◌∷◌, ◌++◌, Option, Some, None, refl, sym, subst}
+use Rattle.std.proofs.Common.{◌≡◌, ℕ, ◌+◌, true, List, [], ◌∷◌, ◌++◌, Option, Some, None, refl, sym, subst}
 use Rattle.std.specs.List.{AllByRecursion}
 use Rattle.std.specs.Str.{NoCharPasses}
 use Rattle.std.proofs.lemmas.Str.{NoCharPasses-append, NoCharPasses-nil}
@@ -20,11 +20,11 @@ IsPrintedText text = NoCharPasses is_obeyed text
 abbrev ArePrintedTitles : List TitleSaid → Type 0
 ArePrintedTitles titles = AllByRecursion (λ (title : TitleSaid). IsPrintedText title.text) titles
 
-runs_printed : (runs : List Run) → AllByRecursion IsPrintedRun runs → IsPrintedText (runs_text runs)
+runs_printed : (runs : List Run) → AllByRecursion IsPrintedRun runs → IsPrintedText (runs_text true runs)
 runs_printed [] h = NoCharPasses-nil is_obeyed
-runs_printed (run ∷ runs) h = NoCharPasses-append is_obeyed run.text (runs_text runs) h.0 (runs_printed runs h.1)
+runs_printed (run ∷ runs) h = NoCharPasses-append is_obeyed run.text (runs_text true runs) h.0 (runs_printed runs h.1)
 
-row_printed : (line : LineContent) → IsPrintedLine line → IsPrintedText (row_text line)
+row_printed : (line : LineContent) → IsPrintedLine line → IsPrintedText (row_text true line)
 row_printed (normal row) h = runs_printed row.runs h
 row_printed (table_row cells) h = NoCharPasses-nil is_obeyed
 row_printed (table_rule rule) h = NoCharPasses-nil is_obeyed
@@ -35,15 +35,15 @@ space_printed : IsPrintedText (32 ∷ [])
 unfolding lib.Utf8.encode
 space_printed = (32 ∷ [], refl, (refl, tt))
 
-others_printed : (lines : List LineContent) → AllByRecursion IsPrintedLine lines → IsPrintedText (others_text lines)
+others_printed : (lines : List LineContent) → AllByRecursion IsPrintedLine lines → IsPrintedText (others_text true lines)
 others_printed [] h = NoCharPasses-nil is_obeyed
 others_printed (line ∷ lines) h =
-    NoCharPasses-append is_obeyed (32 ∷ row_text line) (others_text lines) (NoCharPasses-append is_obeyed (32 ∷ []) (row_text line) space_printed (row_printed line h.0)) (others_printed lines h.1)
+    NoCharPasses-append is_obeyed (32 ∷ row_text true line) (others_text true lines) (NoCharPasses-append is_obeyed (32 ∷ []) (row_text true line) space_printed (row_printed line h.0)) (others_printed lines h.1)
 
-rows_printed : (lines : List LineContent) → ArePrinted lines → IsPrintedText (rows_text lines)
+rows_printed : (lines : List LineContent) → ArePrinted lines → IsPrintedText (rows_text true lines)
 unfolding ArePrinted
 rows_printed [] h = NoCharPasses-nil is_obeyed
-rows_printed (line ∷ lines) h = NoCharPasses-append is_obeyed (row_text line) (others_text lines) (row_printed line h.0) (others_printed lines h.1)
+rows_printed (line ∷ lines) h = NoCharPasses-append is_obeyed (row_text true line) (others_text true lines) (row_printed line h.0) (others_printed lines h.1)
 
 titled_printed : (level : Option ℕ) (number : ℕ) (lines : List LineContent) (more : List TitleSaid) → ArePrinted lines → ArePrintedTitles more → ArePrintedTitles (titled level number lines ++ more)
 titled_printed None number lines more h k = k

@@ -1,5 +1,5 @@
 -- The headings among the sections of a text.
-use Rattle.std.specs.Prelude.{ℕ, ◌+◌, List, [], ◌∷◌, ◌++◌, Option, Some, None}
+use Rattle.std.specs.Prelude.{ℕ, ◌+◌, ◌||◌, not, Bool, true, false, if◌then◌else◌, List, [], ◌∷◌, ◌++◌, Option, Some, None}
 use Rattle.std.specs.List.{flat_map}
 use Rattle.mad_md.specs.Flagged.{Run}
 use Rattle.mad_md.specs.Lines.{LineContent, normal}
@@ -7,11 +7,12 @@ use Rattle.mad_md.specs.declared.composite.CompositeStyle.{CompositeStyle}
 use Rattle.mad_md.specs.declared.composite.CompositeStyle.TheVariants.{Header}
 use Rattle.mad_sections.specs.Sections.{SectionContent}
 
--- a heading without its name: its level, the number of its section, and what it shows
+-- a heading without its name: its level, the number of its section, what it shows, and the same without what is said of pictures
 pub record TitleSaid : Type 0 where
   pub level : ℕ
   pub section : ℕ
   pub text : List ℕ
+  pub words : List ℕ
 
 -- the level of a line of this kind, if it is a heading's
 abbrev pub style_level : CompositeStyle → Option ℕ
@@ -28,28 +29,32 @@ abbrev pub first_level : List LineContent → Option ℕ
 first_level [] = None
 first_level (line ∷ lines) = level_of line
 
--- the texts of runs, one after the other
-abbrev pub runs_text : List Run → List ℕ
-runs_text runs = flat_map (λ (run : Run). run.text) runs
+-- the text of a run; that of a picture may be left out
+abbrev pub run_text : Bool → Run → List ℕ
+run_text pictures run = if pictures || not run.flags.picture then run.text else []
 
--- what a line says, whatever its flags
-abbrev pub row_text : LineContent → List ℕ
-row_text (normal row) = runs_text row.runs
-row_text line = []
+-- the texts of runs, one after the other, with what is said of pictures or without
+abbrev pub runs_text : Bool → List Run → List ℕ
+runs_text pictures runs = flat_map (run_text pictures) runs
+
+-- what a line says, whatever its other flags
+abbrev pub row_text : Bool → LineContent → List ℕ
+row_text pictures (normal row) = runs_text pictures row.runs
+row_text pictures line = []
 
 -- what lines say, each with a space (32) before it
-abbrev pub others_text : List LineContent → List ℕ
-others_text lines = flat_map (λ (line : LineContent). 32 ∷ row_text line) lines
+abbrev pub others_text : Bool → List LineContent → List ℕ
+others_text pictures lines = flat_map (λ (line : LineContent). 32 ∷ row_text pictures line) lines
 
 -- what lines say, with a space between two
-abbrev pub rows_text : List LineContent → List ℕ
-rows_text [] = []
-rows_text (line ∷ lines) = row_text line ++ others_text lines
+abbrev pub rows_text : Bool → List LineContent → List ℕ
+rows_text pictures [] = []
+rows_text pictures (line ∷ lines) = row_text pictures line ++ others_text pictures lines
 
 -- lines as a heading of this level, if there is one
 abbrev pub titled : Option ℕ → ℕ → List LineContent → List TitleSaid
 titled None section lines = []
-titled (Some level) section lines = record { level = level; section = section; text = rows_text lines } ∷ []
+titled (Some level) section lines = record { level = level; section = section; text = rows_text true lines; words = rows_text false lines } ∷ []
 
 -- a section of this number as a heading, if its first line is one's
 abbrev pub section_titles : ℕ → SectionContent → List TitleSaid

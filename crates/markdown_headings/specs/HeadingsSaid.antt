@@ -7,7 +7,7 @@ use Rattle.markdown_headings.specs.declared.titles.Title.{Title}
 
 -- what a heading without a name says
 abbrev pub title_said : Title → TitleSaid
-title_said title = record { level = title.level; section = title.section; text = string_bytes title.text }
+title_said title = record { level = title.level; section = title.section; text = string_bytes title.text; words = string_bytes title.words }
 
 -- what a heading says
 abbrev pub heading_said : Heading → HeadingSaid

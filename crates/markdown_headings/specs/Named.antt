@@ -21,9 +21,9 @@ named_by [] names = []
 named_by (title ∷ titles) [] = []
 named_by (title ∷ titles) (name ∷ names) = named title name ∷ named_by titles names
 
--- the names of the headings that these are
+-- the names of the headings that these are: what is said of a picture is in none
 abbrev pub names_of : List TitleSaid → List (List ℕ)
-names_of titles = heading_names (map (λ (title : TitleSaid). title.text) titles)
+names_of titles = heading_names (map (λ (title : TitleSaid). title.words) titles)
 
 -- the headings of a text, each with the name that GitHub gives it
 abbrev pub headings_of : List SectionContent → List HeadingSaid

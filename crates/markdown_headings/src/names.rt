@@ -22,7 +22,7 @@ pub fn names_of(alloc: Global, titles: &[Title]) -> Result<Vec<String>, AllocErr
     let mut counts = BTreeMap::new(alloc);
     let mut names = Vec::new(alloc);
     for title in titles {
-        push_name(alloc, &mut names, &mut counts, title.text.as_str())?;
+        push_name(alloc, &mut names, &mut counts, title.words.as_str())?;
     }
     Ok(names)
 }

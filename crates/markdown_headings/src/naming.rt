@@ -19,9 +19,9 @@ pub struct Heading {
     pub level: u8,
     /// The index of its section, as a link has that of its own.
     pub section: usize,
-    /// What it shows: the texts of its rows, with a space between two. An image shows its alternative text.
+    /// What it shows: the texts of its rows, with a space between two. An image shows its alternative text, or the name of its file.
     pub text: String,
-    /// The name that GitHub gives it, to which `#name` goes.
+    /// The name that GitHub gives it, to which `#name` goes. It has nothing of an image.
     pub name: String,
 }
 

@@ -4,7 +4,7 @@ ghost use Rattle.std.specs.Prelude.{◌≡◌, ◌++◌, IfOk, OnOk, map, string
 ghost use Rattle.mad_md.specs.Flagged.{run_of};
 ghost use Rattle.mad_md.specs.Lines.{content_of};
 ghost use Rattle.mad_sections.specs.Sections.{section_content};
-ghost use Rattle.markdown_headings.specs.Headings.{first_level, level_of, others_text, row_text, rows_text, runs_text, section_titles, titles_of};
+ghost use Rattle.markdown_headings.specs.Headings.{first_level, level_of, others_text, row_text, rows_text, run_text, runs_text, section_titles, titles_of};
 ghost use Rattle.markdown_headings.specs.HeadingsSaid.{title_said};
 ghost use Rattle.markdown_reader.specs.MarkdownSays.{markdown_says};
 
@@ -22,6 +22,8 @@ pub struct Title {
     pub section: usize,
     /// What it shows: the texts of its rows, with a space between two.
     pub text: String,
+    /// The same without what is said of pictures.
+    pub words: String,
 }
 
 /// The headings of a text, in order.
@@ -61,11 +63,14 @@ fn push_title(
         return Ok(());
     };
     let mut text = String::new(alloc);
-    push_rows(&mut text, lines)?;
+    push_rows(&mut text, lines, true)?;
+    let mut words = String::new(alloc);
+    push_rows(&mut words, lines, false)?;
     titles.push(Title {
         level,
         section: number,
         text,
+        words,
     })?;
     Ok(())
 }
@@ -93,45 +98,55 @@ fn level_of(line: &Line) -> Option<u8>
     }
 }
 
-// Appends what lines say, with a space between two.
-fn push_rows(text: &mut String, lines: &[Line]) -> Result<(), AllocError>
-    ensures { OnOk result (string_bytes text.new ≡ string_bytes text.old ++ rows_text (map content_of lines.now)) }
+// Appends what lines say, with what is said of pictures or without, and with a space between two.
+fn push_rows(text: &mut String, lines: &[Line], pictures: bool) -> Result<(), AllocError>
+    ensures { OnOk result (string_bytes text.new ≡ string_bytes text.old ++ rows_text pictures (map content_of lines.now)) }
 {
     match lines {
         [first, others @ ..] => {
-            push_row(text, first)?;
-            push_others(text, others)
+            push_row(text, first, pictures)?;
+            push_others(text, others, pictures)
         }
         [] => Ok(()),
     }
 }
 
 // Appends what lines say, each with a space before it.
-fn push_others(text: &mut String, lines: &[Line]) -> Result<(), AllocError>
-    ensures { OnOk result (string_bytes text.new ≡ string_bytes text.old ++ others_text (map content_of lines.now)) }
+fn push_others(text: &mut String, lines: &[Line], pictures: bool) -> Result<(), AllocError>
+    ensures { OnOk result (string_bytes text.new ≡ string_bytes text.old ++ others_text pictures (map content_of lines.now)) }
 {
     for line in lines {
         text.push(' ')?;
-        push_row(text, line)?;
+        push_row(text, line, pictures)?;
     }
     Ok(())
 }
 
 // Appends what a line says.
-fn push_row(text: &mut String, line: &Line) -> Result<(), AllocError>
-    ensures { OnOk result (string_bytes text.new ≡ string_bytes text.old ++ row_text (content_of line.now)) }
+fn push_row(text: &mut String, line: &Line, pictures: bool) -> Result<(), AllocError>
+    ensures { OnOk result (string_bytes text.new ≡ string_bytes text.old ++ row_text pictures (content_of line.now)) }
 {
     match line {
-        Line::Normal(composite) => push_runs(text, composite.compounds.as_slice()),
+        Line::Normal(composite) => push_runs(text, composite.compounds.as_slice(), pictures),
         _ => Ok(()),
     }
 }
 
 // Appends the texts of compounds.
-fn push_runs(text: &mut String, compounds: &[Compound]) -> Result<(), AllocError>
-    ensures { OnOk result (string_bytes text.new ≡ string_bytes text.old ++ runs_text (map run_of compounds.now)) }
+fn push_runs(text: &mut String, compounds: &[Compound], pictures: bool) -> Result<(), AllocError>
+    ensures { OnOk result (string_bytes text.new ≡ string_bytes text.old ++ runs_text pictures (map run_of compounds.now)) }
 {
     for compound in compounds {
+        push_run(text, compound, pictures)?;
+    }
+    Ok(())
+}
+
+// Appends the text of a compound, but not where it is said of a picture and those are left out.
+fn push_run(text: &mut String, compound: &Compound, pictures: bool) -> Result<(), AllocError>
+    ensures { OnOk result (string_bytes text.new ≡ string_bytes text.old ++ run_text pictures (run_of compound.now)) }
+{
+    if pictures || !compound.picture {
         text.push_str(compound.src)?;
     }
     Ok(())

@@ -24,7 +24,7 @@ no_piece = record { kind = Plain; more = 0 }
 
 -- what an index reads of links where there is nothing
 abbrev pub no_over : Over
-no_over = record { link = None; opens = false }
+no_over = record { link = None; picture = None; opens = false; silent = false }
 
 -- the next piece, and those behind it
 pub cut_next : (text : List ℕ) (at i : ℕ) (ps : List Piece) (d : Piece) → i < length ps → AreCut text at (drop i ps)

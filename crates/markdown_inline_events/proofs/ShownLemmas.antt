@@ -12,7 +12,7 @@ use Rattle.markdown_emphasis.specs.declared.runs.Run.{Run}
 use Rattle.markdown_emphasis.specs.Flags.{flags_at, flags_of}
 use Rattle.markdown_brackets.specs.declared.brackets.Link.{Link}
 use Rattle.markdown_pieces.specs.declared.pieces.Kind.{Kind}
-use Rattle.markdown_pieces.specs.declared.pieces.Kind.TheVariants.{Plain, Shown, Code, Address, Bare, Html, Soft, Hard, Run as RunKind, Opening, Closing}
+use Rattle.markdown_pieces.specs.declared.pieces.Kind.TheVariants.{Plain, Shown as ShownKind, Code, Address, Bare, Html, Soft, Hard, Run as RunKind, Opening, Closing}
 use Rattle.markdown_pieces.specs.declared.pieces.Piece.{Piece}
 use Rattle.markdown_pieces.specs.Cut.{CutText, cut_text}
 use Rattle.markdown_inlines.specs.declared.links.Over.{Over}
@@ -22,10 +22,10 @@ use Rattle.markdown_inlines.specs.Left.{left_at}
 use Rattle.markdown_inlines.specs.Links.{links_in, overs_from, overs_of}
 use Rattle.markdown_inlines.specs.Parts.{characters, kind_characters, sign_char}
 use Rattle.markdown_inlines.specs.Printable.{shown_char}
-use Rattle.markdown_inlines.specs.Styled.{shown_with}
+use Rattle.markdown_inlines.specs.Styled.{Shown, shown_with}
 use Rattle.markdown_inline_events.specs.declared.spans.Span.{Span}
 use Rattle.markdown_inline_events.specs.Contents.{InlineContent, start, end, text, character, marks, code, html, soft_break, hard_break}
-use Rattle.markdown_inline_events.specs.Laws.{EventsAreShown, event_shown, inline_shown}
+use Rattle.markdown_inline_events.specs.Laws.{EventsAreShown, event_shown, inline_shown, nameless}
 use Rattle.markdown_inline_events.specs.Reading.{events_from, piece_events}
 use Rattle.markdown_inline_events.specs.Shares.{ShareContent, around_after, closing_shares, end_share, marks_shares, opening_shares, own_shares, piece_shares, placed, share, start_share}
 use Rattle.markdown_inline_events.specs.Spans.{begun, ended, spans_of}
@@ -139,7 +139,7 @@ piece_shown : (kind : Kind) (t : List ℕ) (at stop more n : ℕ) (opens : Bool)
     → flat_map (event_shown t) (placed at stop (piece_shares kind ended (own_shares kind t at more n opens) begun)) ≡ kind_characters kind t at more n opens
 unfolding placed
 piece_shown Plain t at stop more n opens ended begun = append-nil _
-piece_shown (Shown c second) t at stop more n opens ended begun = append-nil _
+piece_shown (ShownKind c second) t at stop more n opens ended begun = append-nil _
 piece_shown (Code span) t at stop more n opens ended begun = append-nil _
 piece_shown (Address len scheme) t at stop more n opens ended begun = append-nil _
 piece_shown (Bare scheme) t at stop more n opens ended begun = append-nil _
@@ -163,7 +163,7 @@ same_rest : (n m : ℕ) → suc n ≡ suc m → n ≡ m
 same_rest n m e = omega (arith, e)
 
 events_shown : (t : List ℕ) (spans around : List Span) (at index : ℕ) (ps : List Piece) (fs : List Flags) (ns : List ℕ) (os : List Over) → length fs ≡ length ps → length ns ≡ length ps → length os ≡ length ps
-    → flat_map (event_shown t) (events_from t spans around at index ps ns os) ≡ map char_of (shown_from t at ps fs ns os)
+    → flat_map (event_shown t) (events_from t spans around at index ps ns os) ≡ map char_of (shown_from t at ps fs ns (map nameless os))
 unfolding events_from shown_from
 events_shown t spans around at index [] fs ns os f n o = placed_shown t at at (map end_share around) (all_spoken around) ∙ ends_nothing around
 events_shown t spans around at index (p ∷ ps) [] ns os f n o = absurd (no_more (length ps) f)
@@ -172,13 +172,15 @@ events_shown t spans around at index (p ∷ ps) (x ∷ fs) (m ∷ ns) [] f n o =
 events_shown t spans around at index (p ∷ ps) (x ∷ fs) (m ∷ ns) (v ∷ os) f n o =
     let next : List Span = around_after p.kind index (begun spans index) around in
     let behind : ℕ = at + (p.more + 1) in
-    let look : Look = look_at x p v in
+    let look : Look = look_at x p (nameless v) in
+    let rest : List Shown = shown_from t behind ps fs ns (map nameless os) in
     let own : List ℕ = characters t at p m v.opens in
-    let later : List ℕ = map char_of (shown_from t behind ps fs ns os) in
+    let later : List ℕ = map char_of rest in
     flat_map-append (event_shown t) (piece_events t spans around at index p m v) (events_from t spans next behind (index + 1) ps ns os)
     ∙ ap (λ (l : List ℕ). l ++ flat_map (event_shown t) (events_from t spans next behind (index + 1) ps ns os)) (piece_shown p.kind t at behind p.more m v.opens (ended index around) (begun spans index))
     ∙ ap (λ (l : List ℕ). own ++ l) (events_shown t spans next behind (index + 1) ps fs ns os (same_rest (length fs) (length ps) f) (same_rest (length ns) (length ps) n) (same_rest (length os) (length ps) o))
-    ∙ sym (map-append char_of (map (shown_with look) own) (shown_from t behind ps fs ns os) ∙ ap (λ (l : List ℕ). l ++ later) (chars_only look own))
+    ∙ ap (λ (l : List ℕ). l ++ later) (sym (append-nil own))
+    ∙ sym (map-append char_of (map (shown_with look) (own ++ [])) rest ∙ ap (λ (l : List ℕ). l ++ later) (chars_only look (own ++ [])))
 
 -- what links have to do with a piece is said once of each
 pub overs_length : (index number : ℕ) (ps : List Piece) → length (overs_from index number ps).overs ≡ length ps
@@ -186,7 +188,7 @@ unfolding overs_from
 overs_length index number [] = refl
 overs_length index number (p ∷ ps) = ap suc (overs_length (index + 1) (number + links_in p.kind) ps)
 
--- the texts of the events are what is shown
+-- the texts of the events are what is shown, without the names of files
 pub all_shown : EventsAreShown
 all_shown labels t =
     let cut : CutText = cut_text labels t in

@@ -1,7 +1,12 @@
 -- What holds of the events of every text.
-use Rattle.std.specs.Prelude.{◌≡◌, ℕ, ◌+◌, ◌≤◌, List, [], ◌∷◌, drop, length, map, replicate, Option, Some, None}
+use Rattle.std.specs.Prelude.{◌≡◌, ℕ, ◌+◌, ◌≤◌, false, List, [], ◌∷◌, drop, length, map, replicate, Option, Some, None}
 use Rattle.std.specs.List.{flat_map}
-use Rattle.markdown_inlines.specs.Inlines.{char_of, leaf_text}
+use Rattle.markdown_emphasis.specs.Flags.{flags_of}
+use Rattle.markdown_pieces.specs.Cut.{CutText, cut_text}
+use Rattle.markdown_inlines.specs.declared.links.Over.{Over}
+use Rattle.markdown_inlines.specs.Inlines.{char_of, left_of, shown_from}
+use Rattle.markdown_inlines.specs.Links.{overs_of}
+use Rattle.markdown_inlines.specs.Styled.{Shown}
 use Rattle.markdown_inlines.specs.Parts.{character_shown, html_shown, shown_text}
 use Rattle.markdown_inline_events.specs.Contents.{InlineContent, start, end, text, character, marks, code, html, soft_break, hard_break, EventContent}
 use Rattle.markdown_inline_events.specs.Reading.{inline_events}
@@ -25,9 +30,17 @@ inline_shown t place hard_break = 10 ∷ []
 abbrev pub event_shown : List ℕ → EventContent → List ℕ
 event_shown t event = inline_shown t event.place event.inline
 
--- The texts of the events, one after another, are what is shown of the leaf.
+-- a piece that shows no name of a file: where an image has nothing between its brackets, nothing is shown of it
+abbrev pub nameless : Over → Over
+nameless over = record over { silent = false }
+
+-- what is shown of a text that was cut, without the names of images that have nothing between their brackets
+abbrev pub nameless_cut : CutText → List ℕ → List Shown
+nameless_cut cut t = shown_from t 0 cut.pieces (flags_of (length cut.pieces) cut.pairs) (left_of cut.pairs cut.pieces) (map nameless (overs_of cut.pieces))
+
+-- The texts of the events, one after another, are what is shown of the leaf, without such names: an event of an image has its target.
 abbrev pub EventsAreShown : Type 0
-EventsAreShown = (labels : List (List ℕ)) (t : List ℕ) → flat_map (event_shown t) (inline_events labels t) ≡ map char_of (leaf_text labels t)
+EventsAreShown = (labels : List (List ℕ)) (t : List ℕ) → flat_map (event_shown t) (inline_events labels t) ≡ map char_of (nameless_cut (cut_text labels t) t)
 
 -- ---- places
 

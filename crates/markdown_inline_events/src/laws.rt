@@ -2,7 +2,8 @@
 
 ghost use Rattle.markdown_inline_events.specs.Laws.{EventsAreShown, InlinesNest, PlacesRise};
 
-/// The texts of the events, one after another, are what is shown of the leaf.
+/// The texts of the events, one after another, are what is shown of the leaf, but for the names of files of images that have nothing between their
+/// brackets.
 #[tactic(auto, using(crate::proofs::ShownLemmas::all_shown))]
 pub fn events_are_shown()
     ensures { EventsAreShown }

@@ -19,7 +19,7 @@ use Rattle.markdown_inlines.specs.declared.looks.Look.{Look}
 use Rattle.markdown_inlines.specs.declared.links.Over.{Over}
 use Rattle.mad_characters.specs.Pictures.{is_printable_char, picture}
 use Rattle.markdown_inlines.specs.Printable.{is_printable, shown_char, is_shown}
-use Rattle.markdown_inlines.specs.Parts.{sign_char, part, alternative_text, html_shown, opening_shown, closing_shown, kind_characters}
+use Rattle.markdown_inlines.specs.Parts.{sign_char, part, alternative_text, html_shown, opening_shown, closing_shown, kind_characters, target_name, name_shown, piece_shown}
 use Rattle.markdown_inlines.specs.Styled.{Shown, shown_with}
 use Rattle.markdown_inlines.specs.Inlines.{look_at, shown_piece, shown_from, char_of, are_shown}
 
@@ -94,6 +94,27 @@ kind_shown (RunKind run) text at more left opens = times_shown left (sign_char r
 kind_shown (Opening image) text at more left opens = opening_is image opens
 kind_shown (Closing link) text at more left opens = closing_is link
 
+name_is : (silent : Bool) (kind : Kind) (text : List ℕ) (at : ℕ) → list_all is_shown (name_shown silent kind text at) ≡ true
+name_is false kind text at = refl
+name_is true Plain text at = refl
+name_is true (ShownKind c second) text at = refl
+name_is true (CodeKind code) text at = refl
+name_is true (Address len scheme) text at = refl
+name_is true (Bare scheme) text at = refl
+name_is true (HtmlKind html) text at = refl
+name_is true Soft text at = refl
+name_is true Hard text at = refl
+name_is true (RunKind run) text at = refl
+name_is true (Opening image) text at = refl
+name_is true (Closing None) text at = refl
+name_is true (Closing (Some link)) text at = text_shown (chars (target_name link.target text (at + 1)))
+
+piece_is : (text : List ℕ) (at : ℕ) (p : Piece) (left : ℕ) (over : Over) → list_all is_shown (piece_shown text at p left over) ≡ true
+piece_is text at p left over =
+    let own : List ℕ = kind_characters p.kind text at p.more left over.opens in
+    let name : List ℕ = name_shown over.silent p.kind text at in
+    list_all-append is_shown own name ∙ and_from (list_all is_shown own) (list_all is_shown name) (kind_shown p.kind text at p.more left over.opens) (name_is over.silent p.kind text at)
+
 -- ---- all of them
 
 chars_with : (look : Look) (cs : List ℕ) → map char_of (map (shown_with look) cs) ≡ cs
@@ -112,5 +133,5 @@ from_shown text at (p ∷ ps) (f ∷ fs) [] os = refl
 from_shown text at (p ∷ ps) (f ∷ fs) (n ∷ ns) [] = refl
 from_shown text at (p ∷ ps) (f ∷ fs) (n ∷ ns) (o ∷ os) =
     shown_append (shown_piece text at p f n o) (shown_from text (at + (p.more + 1)) ps fs ns os)
-    (ap (list_all is_shown) (chars_with (look_at f p o) (kind_characters p.kind text at p.more n o.opens)) ∙ kind_shown p.kind text at p.more n o.opens)
+    (ap (list_all is_shown) (chars_with (look_at f p o) (piece_shown text at p n o)) ∙ piece_is text at p n o)
     (from_shown text (at + (p.more + 1)) ps fs ns os)

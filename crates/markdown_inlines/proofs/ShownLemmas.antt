@@ -1,7 +1,7 @@
 -- One piece after another.
-use Rattle.std.proofs.Common.{◌≡◌, ℕ, ◌+◌, ◌<◌, ◌≤◌, false, List, ◌∷◌, ◌++◌, length, drop, get_or, refl, sym, ap, subst, ◌∙◌, append_assoc, None}
+use Rattle.std.proofs.Common.{◌≡◌, ℕ, ◌+◌, ◌<◌, ◌≤◌, false, List, ◌∷◌, ◌++◌, length, drop, get_or, map, refl, sym, ap, subst, ◌∙◌, append_assoc, None}
 use Rattle.std.specs.Str.{IsCharBoundary}
-use Rattle.std.proofs.lemmas.List.{drop_more, drop_all, append-nil}
+use Rattle.std.proofs.lemmas.List.{drop_more, drop_all, append-nil, map-append}
 use Rattle.std.proofs.lemmas.List.FromFn.{fill_by_all}
 use Rattle.markdown_emphasis.specs.declared.flags.Flags.{Flags}
 use Rattle.markdown_emphasis.specs.declared.runs.Pair.{Pair}
@@ -10,7 +10,8 @@ use Rattle.markdown_pieces.specs.declared.pieces.Piece.{Piece}
 use Rattle.markdown_pieces.specs.Places.{IsInside, AreCut}
 use Rattle.markdown_inlines.specs.declared.links.Over.{Over}
 use Rattle.markdown_inlines.specs.declared.inlines.LinkTarget.{LinkTarget}
-use Rattle.markdown_inlines.specs.Styled.{Shown}
+use Rattle.markdown_inlines.specs.declared.looks.Look.{Look}
+use Rattle.markdown_inlines.specs.Styled.{Shown, shown_with}
 use Rattle.markdown_pieces.specs.Cut.{CutText}
 use Rattle.markdown_inlines.specs.Links.{overs_of}
 use Rattle.markdown_inlines.specs.Left.{left_at}
@@ -35,6 +36,12 @@ shown_next text at i ps fs ns os dp df dn dv hp hf hn ho =
 -- what one part shows joins what is shown so far, and all stays the same
 pub shown_step : (now next part rest whole all : List Shown) → whole ≡ part ++ rest → next ≡ now ++ part → now ++ whole ≡ all → next ++ rest ≡ all
 shown_step now next part rest whole all w n h = ap (λ (l : List Shown). l ++ rest) n ∙ append_assoc now part rest ∙ ap (λ (l : List Shown). now ++ l) (sym w) ∙ h
+
+-- two texts of one look that are shown one after the other are shown as one
+pub one_more : (look : Look) (now next last : List Shown) (own name : List ℕ) → next ≡ now ++ map (shown_with look) own → last ≡ next ++ map (shown_with look) name → last ≡ now ++ map (shown_with look) (own ++ name)
+one_more look now next last own name n l =
+    l ∙ ap (λ (s : List Shown). s ++ map (shown_with look) name) n ∙ append_assoc now (map (shown_with look) own) (map (shown_with look) name)
+    ∙ ap (λ (s : List Shown). now ++ s) (sym (map-append (shown_with look) own name))
 
 -- past the last piece all is shown
 pub shown_end : (text : List ℕ) (at i : ℕ) (ps : List Piece) (fs : List Flags) (ns : List ℕ) (os : List Over) (now all : List Shown) → length ps ≤ i → now ++ shown_from text at (drop i ps) fs ns os ≡ all → now ≡ all
@@ -62,7 +69,7 @@ no_flags = record { bold = false; italic = false; strikeout = false }
 
 -- what an index reads of links where there is nothing
 abbrev pub no_over : Over
-no_over = record { link = None; opens = false }
+no_over = record { link = None; picture = None; opens = false; silent = false }
 
 -- the lists that go with the pieces of a cut
 pub shown_all : (text : List ℕ) (cut : CutText) (ps : List Piece) (fs : List Flags) (ns : List ℕ) (os : List Over) → ps ≡ cut.pieces → fs ≡ flags_of (length cut.pieces) cut.pairs → ns ≡ left_of cut.pairs cut.pieces → os ≡ overs_of cut.pieces

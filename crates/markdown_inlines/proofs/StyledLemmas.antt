@@ -7,7 +7,7 @@ use Rattle.std.proofs.lemmas.List.{length-append, append-nil, map-append, take-a
 use Rattle.std.proofs.lemmas.Str.{chars-nil, chars-append, chars_past_char, IsUtf8-drop, IsUtf8-append, IsCharBoundary-from_take, length-encode, len_utf8_bounds}
 use Rattle.markdown_inlines.specs.declared.looks.Look.{Look}
 use Rattle.markdown_inlines.specs.declared.styled.TextRun.{TextRun}
-use Rattle.markdown_inlines.specs.Looks.{is_same, is_same_link, is_same_look}
+use Rattle.markdown_inlines.specs.Looks.{is_same, is_same_number, is_same_look}
 use Rattle.markdown_inlines.specs.Styled.{Shown, shown_with, spelled, goes_on, AreRuns}
 
 -- ---- looks
@@ -17,14 +17,14 @@ same_bool true b e = sym e
 same_bool false true e = e
 same_bool false false e = refl
 
-same_link : (a b : Option ℕ) → is_same_link a b ≡ true → a ≡ b
-same_link None None e = refl
-same_link (Some a) (Some b) e = ap Some (eqb-true a b e)
-same_link None (Some b) e = absurd (no e)
+same_number : (a b : Option ℕ) → is_same_number a b ≡ true → a ≡ b
+same_number None None e = refl
+same_number (Some a) (Some b) e = ap Some (eqb-true a b e)
+same_number None (Some b) e = absurd (no e)
   where
     no : false ≡ true → ⊥
     no e = cc
-same_link (Some a) None e = absurd (no e)
+same_number (Some a) None e = absurd (no e)
   where
     no : false ≡ true → ⊥
     no e = cc
@@ -35,7 +35,9 @@ same_look a b e =
     let italics : Bool = is_same a.italic b.italic in
     let strikeouts : Bool = is_same a.strikeout b.strikeout in
     let codes : Bool = is_same a.code b.code in
-    let p = and_parts (bolds && italics && strikeouts && codes) (is_same_link a.link b.link) e in
+    let links : Bool = is_same_number a.link b.link in
+    let o = and_parts (bolds && italics && strikeouts && codes && links) (is_same_number a.picture b.picture) e in
+    let p = and_parts (bolds && italics && strikeouts && codes) links o.0 in
     let q = and_parts (bolds && italics && strikeouts) codes p.0 in
     let r = and_parts (bolds && italics) strikeouts q.0 in
     let s = and_parts bolds italics r.0 in
@@ -43,12 +45,14 @@ same_look a b e =
     let italic : a.italic ≡ b.italic = same_bool a.italic b.italic s.1 in
     let strikeout : a.strikeout ≡ b.strikeout = same_bool a.strikeout b.strikeout r.1 in
     let code : a.code ≡ b.code = same_bool a.code b.code q.1 in
-    let link : a.link ≡ b.link = same_link a.link b.link p.1 in
-    ap (λ (x : Bool). record { bold = x; italic = a.italic; strikeout = a.strikeout; code = a.code; link = a.link }) bold
-    ∙ ap (λ (x : Bool). record { bold = b.bold; italic = x; strikeout = a.strikeout; code = a.code; link = a.link }) italic
-    ∙ ap (λ (x : Bool). record { bold = b.bold; italic = b.italic; strikeout = x; code = a.code; link = a.link }) strikeout
-    ∙ ap (λ (x : Bool). record { bold = b.bold; italic = b.italic; strikeout = b.strikeout; code = x; link = a.link }) code
-    ∙ ap (λ (x : Option ℕ). record { bold = b.bold; italic = b.italic; strikeout = b.strikeout; code = b.code; link = x }) link
+    let link : a.link ≡ b.link = same_number a.link b.link p.1 in
+    let picture : a.picture ≡ b.picture = same_number a.picture b.picture o.1 in
+    ap (λ (x : Bool). record { bold = x; italic = a.italic; strikeout = a.strikeout; code = a.code; link = a.link; picture = a.picture }) bold
+    ∙ ap (λ (x : Bool). record { bold = b.bold; italic = x; strikeout = a.strikeout; code = a.code; link = a.link; picture = a.picture }) italic
+    ∙ ap (λ (x : Bool). record { bold = b.bold; italic = b.italic; strikeout = x; code = a.code; link = a.link; picture = a.picture }) strikeout
+    ∙ ap (λ (x : Bool). record { bold = b.bold; italic = b.italic; strikeout = b.strikeout; code = x; link = a.link; picture = a.picture }) code
+    ∙ ap (λ (x : Option ℕ). record { bold = b.bold; italic = b.italic; strikeout = b.strikeout; code = b.code; link = x; picture = a.picture }) link
+    ∙ ap (λ (x : Option ℕ). record { bold = b.bold; italic = b.italic; strikeout = b.strikeout; code = b.code; link = b.link; picture = x }) picture
 
 -- ---- a character alone
 

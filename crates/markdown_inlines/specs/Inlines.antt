@@ -17,7 +17,7 @@ use Rattle.markdown_inlines.specs.Looks.{look_of}
 use Rattle.markdown_inlines.specs.Links.{overs_of}
 use Rattle.markdown_inlines.specs.Left.{left_at}
 use Rattle.markdown_inlines.specs.Printable.{is_shown}
-use Rattle.markdown_inlines.specs.Parts.{characters}
+use Rattle.markdown_inlines.specs.Parts.{piece_shown}
 use Rattle.markdown_inlines.specs.Styled.{Shown, shown_with}
 
 -- the piece is a code span
@@ -25,13 +25,13 @@ abbrev pub is_code : Kind → Bool
 is_code (CodeKind code) = true
 is_code _ = false
 
--- bold, italic and struck out as pairs are over the piece; code; the nearest link over it
+-- bold, italic and struck out as pairs are over the piece; code; the nearest link over it; the picture that says it, in which none of the first four holds
 abbrev pub look_at : Flags → Piece → Over → Look
-look_at flags p over = look_of flags (is_code p.kind) over.link
+look_at flags p over = look_of flags (is_code p.kind) over.link over.picture
 
 -- the characters of a piece, which all look the same
 abbrev pub shown_piece : List ℕ → ℕ → Piece → Flags → ℕ → Over → List Shown
-shown_piece text at p flags left over = map (shown_with (look_at flags p over)) (characters text at p left over.opens)
+shown_piece text at p flags left over = map (shown_with (look_at flags p over)) (piece_shown text at p left over)
 
 -- Of the pieces from a place on: each with its flags, how many of its marks are left, and what links have to do with it.
 unfoldable pub shown_from : List ℕ → ℕ → List Piece → List Flags → List ℕ → List Over → List Shown

@@ -1,5 +1,5 @@
--- Over which pieces links are. A link goes from its opening bracket to its closing one.
-use Rattle.std.specs.Prelude.{ℕ, ◌+◌, ◌==◌, ◌&&◌, not, Bool, true, false, if◌then◌else◌, List, [], ◌∷◌, drop, Option, Some, None}
+-- Over which pieces links and pictures are. Each goes from its opening bracket to its closing one.
+use Rattle.std.specs.Prelude.{ℕ, ◌+◌, ◌==◌, ◌&&◌, ◌||◌, not, Bool, true, false, if◌then◌else◌, List, [], ◌∷◌, drop, Option, Some, None, is_some}
 use Rattle.markdown_brackets.specs.declared.brackets.Link.{Link}
 use Rattle.markdown_pieces.specs.declared.pieces.Kind.{Kind}
 use Rattle.markdown_pieces.specs.declared.pieces.Kind.TheVariants.{Address, Bare, Opening, Closing}
@@ -28,6 +28,11 @@ abbrev pub nearest : List Ahead → Option ℕ
 nearest [] = None
 nearest (a ∷ others) = a.number
 
+-- the outermost picture that is over a piece, by the same
+abbrev pub nearest_picture : List Ahead → Option ℕ
+nearest_picture [] = None
+nearest_picture (a ∷ others) = a.picture
+
 -- whether the nearest of them begins at a piece
 abbrev pub opens_at : ℕ → List Ahead → Bool
 opens_at index [] = false
@@ -44,18 +49,46 @@ own_link number (Address len scheme) = Some number
 own_link number (Bare scheme) = Some number
 own_link number _ = None
 
--- the first link, if there is one, or else the second
-abbrev pub or_link : Option ℕ → Option ℕ → Option ℕ
-or_link None otherwise = otherwise
-or_link (Some number) otherwise = Some number
+-- the picture that a closing bracket ends: the index of the piece with which it begins
+abbrev pub picture_by : Link → Option ℕ
+picture_by link = if link.image then Some link.opener else None
 
--- the link that is over a piece, and whether a link or an image begins at it
+-- the picture that ends with a piece of this kind
+abbrev pub own_picture : Kind → Option ℕ
+own_picture (Closing (Some link)) = picture_by link
+own_picture _ = None
+
+-- the first number, if there is one, or else the second
+abbrev pub or_number : Option ℕ → Option ℕ → Option ℕ
+or_number None otherwise = otherwise
+or_number (Some number) otherwise = Some number
+
+-- the link that is over a piece; in a picture it is the one around that, and an address is none
+abbrev pub link_over : ℕ → Kind → List Ahead → Option ℕ
+link_over number kind ahead = if is_some (nearest_picture ahead) then nearest ahead else or_number (nearest ahead) (own_link number kind)
+
+-- a piece is the closing bracket of an image that has nothing between its brackets
+abbrev pub is_silent : ℕ → Kind → Bool
+is_silent index (Closing (Some link)) = link.image && (link.opener + 1 == index)
+is_silent index _ = false
+
+-- the link and the picture that are over a piece, whether a link or an image begins at it, and whether an image with nothing between its brackets ends
 abbrev pub over_of : ℕ → ℕ → Kind → List Ahead → Over
-over_of index number kind ahead = record { link = or_link (nearest ahead) (own_link number kind); opens = is_opening kind && opens_at index ahead }
+over_of index number kind ahead =
+    record {
+      link = link_over number kind ahead;
+      picture = or_number (nearest_picture ahead) (own_picture kind);
+      opens = is_opening kind && opens_at index ahead;
+      silent = is_silent index kind;
+    }
 
--- an image is no link: what it holds is of the link around it
+-- an image is no link, and in one there is none: what it holds is of the link around it
+abbrev pub number_by : ℕ → Link → List Ahead → Option ℕ
+number_by number link ahead = if link.image || is_some (nearest_picture ahead) then nearest ahead else Some number
+
+-- the link or the image of which this is the closing bracket, ahead of what is before it; of images in one another the outermost counts
 abbrev pub ahead_by : ℕ → Link → List Ahead → Ahead
-ahead_by number link ahead = record { number = if link.image then nearest ahead else Some number; opener = link.opener }
+ahead_by number link ahead = record { number = number_by number link ahead; picture = or_number (nearest_picture ahead) (picture_by link); opener = link.opener }
 
 -- one piece back: a link's closing bracket comes ahead, and goes at its opening bracket
 abbrev pub stepped_back : ℕ → ℕ → Kind → List Ahead → List Ahead
@@ -63,7 +96,7 @@ stepped_back index number (Closing (Some link)) ahead = ahead_by number link ahe
 stepped_back index number (Opening image) ahead = if opens_at index ahead then drop 1 ahead else ahead
 stepped_back index number _ ahead = ahead
 
--- of some pieces: what links have to do with each, and the links that are ahead of all of them, the nearest first
+-- of some pieces: what links and pictures have to do with each, and the links and images that are ahead of all of them, the nearest first
 pub record Overs : Type 0 where
   pub overs : List Over
   pub ahead : List Ahead
@@ -77,6 +110,6 @@ unfoldable pub overs_from : (index number : ℕ) → List Piece → Overs
 overs_from index number [] = record { overs = []; ahead = [] }
 overs_from index number (p ∷ ps) = one_back index number p.kind (overs_from (index + 1) (number + links_in p.kind) ps)
 
--- what links have to do with each piece of a text
+-- what links and pictures have to do with each piece of a text
 abbrev pub overs_of : List Piece → List Over
 overs_of pieces = (overs_from 0 0 pieces).overs

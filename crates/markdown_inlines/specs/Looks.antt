@@ -1,5 +1,5 @@
 -- How a text looks.
-use Rattle.std.specs.Prelude.{ℕ, ◌==◌, ◌&&◌, not, Bool, true, false, if◌then◌else◌, Option, Some, None}
+use Rattle.std.specs.Prelude.{ℕ, ◌==◌, ◌&&◌, not, Bool, true, false, if◌then◌else◌, Option, Some, None, is_some}
 use Rattle.markdown_emphasis.specs.declared.flags.Flags.{Flags}
 use Rattle.markdown_inlines.specs.declared.looks.Look.{Look}
 
@@ -7,16 +7,20 @@ use Rattle.markdown_inlines.specs.declared.looks.Look.{Look}
 abbrev pub is_same : Bool → Bool → Bool
 is_same a b = if a then b else not b
 
--- both are the same link, or none
-abbrev pub is_same_link : Option ℕ → Option ℕ → Bool
-is_same_link None None = true
-is_same_link (Some a) (Some b) = a == b
-is_same_link _ _ = false
+-- both are the same number, or none
+abbrev pub is_same_number : Option ℕ → Option ℕ → Bool
+is_same_number None None = true
+is_same_number (Some a) (Some b) = a == b
+is_same_number _ _ = false
 
--- both look the same, and belong to the same link
+-- both look the same, belong to the same link, and are said by the same picture
 abbrev pub is_same_look : Look → Look → Bool
-is_same_look a b = is_same a.bold b.bold && is_same a.italic b.italic && is_same a.strikeout b.strikeout && is_same a.code b.code && is_same_link a.link b.link
+is_same_look a b =
+    is_same a.bold b.bold && is_same a.italic b.italic && is_same a.strikeout b.strikeout && is_same a.code b.code && is_same_number a.link b.link
+    && is_same_number a.picture b.picture
 
--- how a text looks that has these flags, is code or isn't, and belongs to this link
-abbrev pub look_of : Flags → Bool → Option ℕ → Look
-look_of flags code link = record { bold = flags.bold; italic = flags.italic; strikeout = flags.strikeout; code = code; link = link }
+-- How a text looks that has these flags, is code or isn't, belongs to this link, and is said by this picture. What a picture says is of its link alone.
+abbrev pub look_of : Flags → Bool → (link picture : Option ℕ) → Look
+look_of flags code link picture =
+    let own = not (is_some picture) in
+    record { bold = flags.bold && own; italic = flags.italic && own; strikeout = flags.strikeout && own; code = code && own; link = link; picture = picture }

@@ -1,8 +1,9 @@
 -- What is shown of one piece.
-use Rattle.std.specs.Prelude.{ℕ, ◌+◌, Bool, if◌then◌else◌, List, [], ◌∷◌, take, drop, map, replicate, chars, Option, Some, None}
+use Rattle.std.specs.Prelude.{ℕ, ◌+◌, Bool, true, if◌then◌else◌, List, [], ◌∷◌, ◌++◌, take, drop, map, replicate, chars, Option, Some, None}
 use Rattle.markdown_emphasis.specs.declared.runs.Sign.{Sign}
 use Rattle.markdown_emphasis.specs.declared.runs.Sign.TheVariants.{Star, Underscore, Tilde}
 use Rattle.markdown_brackets.specs.declared.brackets.Link.{Link}
+use Rattle.markdown_brackets.specs.declared.targets.Target.{Target}
 use Rattle.std.specs.Str.Lossy.{utf8_lossy}
 use Rattle.markdown_spans.specs.Code.{unpadded}
 use Rattle.markdown_spans.specs.Attributes.{alternative}
@@ -12,6 +13,8 @@ use Rattle.markdown_spans.specs.declared.attributes.Html.TheVariants.{Nothing, B
 use Rattle.markdown_pieces.specs.declared.pieces.Kind.{Kind}
 use Rattle.markdown_pieces.specs.declared.pieces.Kind.TheVariants.{Plain, Shown, Code as CodeKind, Address, Bare, Html as HtmlKind, Soft, Hard, Run as RunKind, Opening, Closing}
 use Rattle.markdown_pieces.specs.declared.pieces.Piece.{Piece}
+use Rattle.markdown_link_parts.specs.Texts.{file_name}
+use Rattle.markdown_inlines.specs.declared.links.Over.{Over}
 use Rattle.markdown_inlines.specs.Printable.{shown_char}
 
 -- the character that each mark of a run is
@@ -66,6 +69,26 @@ kind_characters (RunKind run) text at more left opens = replicate left (sign_cha
 kind_characters (Opening image) text at more left opens = opening_shown image opens
 kind_characters (Closing link) text at more left opens = closing_shown link
 
--- the characters that are shown of a piece
+-- the characters that a piece says itself
 abbrev pub characters : List ℕ → ℕ → Piece → ℕ → Bool → List ℕ
 characters text at p left opens = kind_characters p.kind text at p.more left opens
+
+-- ---- names of pictures
+
+-- the name of the file to which these parentheses lead; a definition says none
+abbrev pub name_by : Option ℕ → List ℕ → List ℕ
+name_by None link = file_name link
+name_by (Some index) link = []
+
+-- of what follows a closing bracket from a place on
+abbrev pub target_name : Target → List ℕ → ℕ → List ℕ
+target_name target text at = name_by target.definition (part text at target.len)
+
+-- of the image that is closed at a place, if it has nothing between its brackets
+abbrev pub name_shown : Bool → Kind → List ℕ → ℕ → List ℕ
+name_shown true (Closing (Some link)) text at = shown_text (target_name link.target text (at + 1))
+name_shown _ _ text at = []
+
+-- the characters that are shown of a piece: what it says itself, and the name of an image's file that has nothing between its brackets
+abbrev pub piece_shown : List ℕ → ℕ → Piece → ℕ → Over → List ℕ
+piece_shown text at p left over = characters text at p left over.opens ++ name_shown over.silent p.kind text at

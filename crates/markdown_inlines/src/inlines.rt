@@ -67,10 +67,15 @@ fn link_target(kind: &Kind, at: usize, more: usize) -> Option<LinkTarget>
     }
 }
 
-fn look_at(flags: &Flags, kind: &Kind, link: Option<usize>) -> Look
-    ensures { result ≡ look_of flags.now (is_code kind.now) link }
+fn look_at(flags: &Flags, kind: &Kind, over: &Over) -> Look
+    ensures { result ≡ look_of flags.now (is_code kind.now) over.now.link over.now.picture }
 {
-    look_of(flags, matches!(kind, Kind::Code(_)), link)
+    look_of(
+        flags,
+        matches!(kind, Kind::Code(_)),
+        over.link,
+        over.picture,
+    )
 }
 
 // Writes down the link that a piece closes.
@@ -112,7 +117,7 @@ fn shown_pieces(
     let mut at = 0;
     for index in 0..pieces.len() {
         let piece = pieces[index];
-        let look = look_at(&flags[index], &piece.kind, overs[index].link);
+        let look = look_at(&flags[index], &piece.kind, &overs[index]);
         push_piece(
             alloc,
             &mut styled,
@@ -120,7 +125,7 @@ fn shown_pieces(
             at,
             &piece,
             left[index],
-            overs[index].opens,
+            &overs[index],
             &look,
         )?;
         add_link(&mut links, &piece.kind, at, piece.more)?;

@@ -1,26 +1,32 @@
-//! Over which pieces links are.
+//! Over which pieces links and pictures are.
 
 ghost use Rattle.std.specs.Prelude.{◌≡◌, ◌≤◌, IfOk, OnOk, reverse};
-ghost use Rattle.markdown_inlines.specs.Links.{is_link, links_in, link_count, nearest, opens_at, own_link, or_link, over_of, ahead_by, stepped_back, overs_of};
+ghost use Rattle.markdown_inlines.specs.Links.{is_link, links_in, link_count, nearest, nearest_picture, opens_at, own_link, picture_by, own_picture, or_number, link_over, is_silent, over_of, number_by, ahead_by, stepped_back, overs_of};
 
 use markdown_brackets::brackets::Link;
 use markdown_pieces::pieces::{Kind, Piece};
 use std::alloc::{AllocError, Global};
 
-/// What links have to do with a piece.
+/// What links and pictures have to do with a piece.
 #[derive(Debug, Clone, Copy)]
 pub struct Over {
-    /// The number of the link over the piece.
+    /// The number of the link over the piece. In a picture it is the one that is around the picture.
     pub link: Option<usize>,
+    /// The picture over the piece, the outermost of those that are: the index of its opening bracket's piece. Its brackets are of it.
+    pub picture: Option<usize>,
     /// Whether it is the opening bracket of a link or an image.
     pub opens: bool,
+    /// Whether it is the closing bracket of an image that has nothing between its brackets.
+    pub silent: bool,
 }
 
 /// A link or an image whose closing bracket is ahead.
 #[derive(Debug, Clone, Copy)]
 pub struct Ahead {
-    /// The number of the link, or of that around the image.
+    /// The number of the link, or of that around the image; in an image, of that around it.
     pub number: Option<usize>,
+    /// The outermost image that is there, this one included: the index of its opening bracket's piece.
+    pub picture: Option<usize>,
     /// The index of the piece of its opening bracket.
     pub opener: usize,
 }
@@ -65,6 +71,16 @@ fn nearest(ahead: &[Ahead]) -> Option<usize>
     ahead[count - 1].number
 }
 
+fn nearest_picture(ahead: &[Ahead]) -> Option<usize>
+    ensures { result ≡ nearest_picture (reverse ahead.now) }
+{
+    let count = ahead.len();
+    if count == 0 {
+        return None;
+    }
+    ahead[count - 1].picture
+}
+
 // Whether the nearest link begins at a piece.
 fn opens_at(ahead: &[Ahead], index: usize) -> bool
     ensures { result ≡ opens_at index (reverse ahead.now) }
@@ -86,8 +102,24 @@ fn own_link(number: usize, kind: &Kind) -> Option<usize>
     }
 }
 
-fn or_link(first: Option<usize>, otherwise: Option<usize>) -> Option<usize>
-    ensures { result ≡ or_link first otherwise }
+// The picture that a closing bracket ends: where it begins.
+fn picture_by(link: &Link) -> Option<usize>
+    ensures { result ≡ picture_by link.now }
+{
+    if link.image { Some(link.opener) } else { None }
+}
+
+fn own_picture(kind: &Kind) -> Option<usize>
+    ensures { result ≡ own_picture kind.now }
+{
+    match kind {
+        Kind::Closing(Some(link)) => picture_by(link),
+        _ => None,
+    }
+}
+
+fn or_number(first: Option<usize>, otherwise: Option<usize>) -> Option<usize>
+    ensures { result ≡ or_number first otherwise }
 {
     match first {
         Some(number) => Some(number),
@@ -95,12 +127,47 @@ fn or_link(first: Option<usize>, otherwise: Option<usize>) -> Option<usize>
     }
 }
 
+// The link over a piece. In a picture an address is none.
+fn link_over(ahead: &[Ahead], number: usize, kind: &Kind) -> Option<usize>
+    ensures { result ≡ link_over number kind.now (reverse ahead.now) }
+{
+    if nearest_picture(ahead).is_some() {
+        return nearest(ahead);
+    }
+    or_number(nearest(ahead), own_link(number, kind))
+}
+
+// Whether a piece is the closing bracket of an image with nothing between its brackets.
+fn is_silent(index: usize, kind: &Kind) -> bool
+    ensures { result ≡ is_silent index kind.now }
+{
+    match kind {
+        Kind::Closing(Some(link)) => {
+            link.image && link.opener < index && index - link.opener == 1
+        }
+        _ => false,
+    }
+}
+
 fn over_of(ahead: &[Ahead], index: usize, number: usize, kind: &Kind) -> Over
     ensures { result ≡ over_of index number kind.now (reverse ahead.now) }
 {
     Over {
-        link: or_link(nearest(ahead), own_link(number, kind)),
+        link: link_over(ahead, number, kind),
+        picture: or_number(nearest_picture(ahead), own_picture(kind)),
         opens: matches!(kind, Kind::Opening(_)) && opens_at(ahead, index),
+        silent: is_silent(index, kind),
+    }
+}
+
+// The number of what lies before a closing bracket.
+fn number_by(ahead: &[Ahead], number: usize, link: &Link) -> Option<usize>
+    ensures { result ≡ number_by number link.now (reverse ahead.now) }
+{
+    if link.image || nearest_picture(ahead).is_some() {
+        nearest(ahead)
+    } else {
+        Some(number)
     }
 }
 
@@ -108,11 +175,8 @@ fn ahead_by(ahead: &[Ahead], number: usize, link: &Link) -> Ahead
     ensures { result ≡ ahead_by number link.now (reverse ahead.now) }
 {
     Ahead {
-        number: if link.image {
-            nearest(ahead)
-        } else {
-            Some(number)
-        },
+        number: number_by(ahead, number, link),
+        picture: or_number(nearest_picture(ahead), picture_by(link)),
         opener: link.opener,
     }
 }
@@ -142,7 +206,7 @@ fn step_back(
     }
 }
 
-/// What links have to do with each piece.
+/// What links and pictures have to do with each piece.
 ///
 /// # Errors
 ///

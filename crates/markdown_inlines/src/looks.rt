@@ -1,7 +1,7 @@
 //! How a text looks.
 
 ghost use Rattle.std.specs.Prelude.{◌≡◌};
-ghost use Rattle.markdown_inlines.specs.Looks.{is_same, is_same_link, is_same_look, look_of};
+ghost use Rattle.markdown_inlines.specs.Looks.{is_same, is_same_number, is_same_look, look_of};
 
 use markdown_emphasis::Flags;
 
@@ -14,6 +14,8 @@ pub struct Look {
     pub code: bool,
     /// The number of the link that it belongs to.
     pub link: Option<usize>,
+    /// The picture that says it: the index of the piece with which that begins. Then nothing is bold, italic, struck out or code.
+    pub picture: Option<usize>,
 }
 
 // Whether both hold, or none.
@@ -23,8 +25,9 @@ fn is_same(a: bool, b: bool) -> bool
     if a { b } else { !b }
 }
 
-fn is_same_link(a: Option<usize>, b: Option<usize>) -> bool
-    ensures { result ≡ is_same_link a b }
+// Whether both are the same number, or none.
+fn is_same_number(a: Option<usize>, b: Option<usize>) -> bool
+    ensures { result ≡ is_same_number a b }
 {
     match (a, b) {
         (Some(a), Some(b)) => a == b,
@@ -41,18 +44,21 @@ pub fn is_same_look(a: &Look, b: &Look) -> bool
         && is_same(a.italic, b.italic)
         && is_same(a.strikeout, b.strikeout)
         && is_same(a.code, b.code)
-        && is_same_link(a.link, b.link)
+        && is_same_number(a.link, b.link)
+        && is_same_number(a.picture, b.picture)
 }
 
-/// The look of a text with these flags.
-pub fn look_of(flags: &Flags, code: bool, link: Option<usize>) -> Look
-    ensures { result ≡ look_of flags.now code link }
+/// The look of a text with these flags, which belongs to this link, and which this picture says. What a picture says is of its link alone.
+pub fn look_of(flags: &Flags, code: bool, link: Option<usize>, picture: Option<usize>) -> Look
+    ensures { result ≡ look_of flags.now code link picture }
 {
+    let said = picture.is_some();
     Look {
-        bold: flags.bold,
-        italic: flags.italic,
-        strikeout: flags.strikeout,
-        code,
+        bold: flags.bold && !said,
+        italic: flags.italic && !said,
+        strikeout: flags.strikeout && !said,
+        code: code && !said,
         link,
+        picture,
     }
 }

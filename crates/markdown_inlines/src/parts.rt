@@ -4,18 +4,21 @@ ghost use Rattle.std.specs.Prelude.{◌≡◌, ◌+◌, ◌<◌, ◌++◌, IfOk,
 ghost use Rattle.std.specs.Str.{IsCharBoundary};
 ghost use Rattle.markdown_spans.specs.Code.{unpadded};
 ghost use Rattle.markdown_pieces.specs.Places.{IsInside};
-ghost use Rattle.markdown_inlines.specs.Parts.{sign_char, shown_text, character_shown, part, alternative_text, html_shown, opening_shown, closing_shown, characters};
+ghost use Rattle.markdown_inlines.specs.Parts.{sign_char, shown_text, character_shown, part, alternative_text, html_shown, opening_shown, closing_shown, characters, target_name, name_shown, piece_shown};
 ghost use Rattle.markdown_inlines.specs.Styled.{shown_with, spelled_of, IsStyled};
 
+use crate::links::Over;
 use crate::looks::Look;
 use crate::printable::shown_char;
 use crate::styled::Styled;
 use markdown_brackets::brackets::Link;
+use markdown_brackets::targets::Target;
 use markdown_emphasis::Sign;
+use markdown_link_parts::texts::file_name;
 use markdown_pieces::pieces::{Kind, Piece};
 use markdown_spans::attributes::{Html, Value, alternative};
 use markdown_spans::code::{Code, is_padded};
-use markdown_spans::words::bytes_from;
+use markdown_spans::words::{bytes_from, bytes_up_to};
 use std::alloc::{AllocError, Global};
 
 fn sign_char(sign: Sign) -> char
@@ -210,12 +213,52 @@ fn push_closing(styled: &mut Styled, link: Option<Link>, look: &Look) -> Result<
     }
 }
 
-/// What is shown of a piece, of which so many marks are left, and which is the opening bracket of a link or isn't.
-///
-/// # Errors
-///
-/// Out of memory is the only error.
-pub fn push_piece(
+fn part(text: &[u8], at: usize, len: usize) -> &[u8]
+    ensures { result.now ≡ part text.now at len }
+{
+    bytes_up_to(bytes_from(text, at), len)
+}
+
+// The name of the file to which a target leads that stands at a place; none of a definition.
+fn target_name(alloc: Global, target: &Target, text: &[u8], at: usize) -> Result<String, AllocError>
+    ensures { IfOk result (λ name. string_bytes name ≡ target_name target.now text.now at) }
+{
+    match target.definition {
+        Some(_) => Ok(String::new(alloc)),
+        None => file_name(alloc, part(text, at, target.len)),
+    }
+}
+
+// The name of the file of an image that is closed at a place and has nothing between its brackets.
+fn push_name(
+    alloc: Global,
+    styled: &mut Styled,
+    text: &str,
+    at: usize,
+    kind: &Kind,
+    silent: bool,
+    look: &Look,
+) -> Result<(), AllocError>
+    requires styled { IsStyled styled.old }
+    requires within { at < length text.now }
+    ensures pushed { OnOk result (spelled_of styled.new ≡ spelled_of styled.old ++ map (shown_with look.now) (name_shown silent kind.now text.now at)) }
+    ensures styled { OnOk result (IsStyled styled.new) }
+{
+    if !silent {
+        return Ok(());
+    }
+    match kind {
+        Kind::Closing(Some(link)) => {
+            let name = target_name(alloc, &link.target, text.as_bytes(), at + 1)?;
+            styled.push_text(name.as_str(), look)?;
+            Ok(())
+        }
+        _ => Ok(()),
+    }
+}
+
+// What a piece says itself, of which so many marks are left, and which is the opening bracket of a link or isn't.
+fn push_own(
     alloc: Global,
     styled: &mut Styled,
     text: &str,
@@ -247,4 +290,33 @@ pub fn push_piece(
         Kind::Closing(link) => push_closing(styled, link, look)?,
     }
     Ok(())
+}
+
+/// What is shown of a piece, of which so many marks are left. An image with nothing between its brackets shows the name of its file, if its
+/// destination stands behind it.
+///
+/// # Errors
+///
+/// Out of memory is the only error.
+#[tactic(auto, using(crate::proofs::ShownLemmas::one_more))]
+pub fn push_piece(
+    alloc: Global,
+    styled: &mut Styled,
+    text: &str,
+    at: usize,
+    piece: &Piece,
+    left: usize,
+    over: &Over,
+    look: &Look,
+) -> Result<(), AllocError>
+    requires styled { IsStyled styled.old }
+    requires within { at + piece.now.more < length text.now }
+    requires begin { IsCharBoundary text.now at }
+    requires end { IsCharBoundary text.now (at + (piece.now.more + 1)) }
+    requires inside { IsInside text.now at piece.now.kind }
+    ensures pushed { OnOk result (spelled_of styled.new ≡ spelled_of styled.old ++ map (shown_with look.now) (piece_shown text.now at piece.now left over.now)) }
+    ensures styled { OnOk result (IsStyled styled.new) }
+{
+    push_own(alloc, styled, text, at, piece, left, over.opens, look)?;
+    push_name(alloc, styled, text, at, &piece.kind, over.silent, look)
 }

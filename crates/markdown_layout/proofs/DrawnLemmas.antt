@@ -2,6 +2,7 @@
 use Rattle.std.proofs.Common.{◌≡◌, ℕ, zero, suc, ◌-◌, ◌^◌, ◌<◌, ◌≤◌, List, [], ◌∷◌, map, Result, Ok, Err, OnOk, sym, subst}
 use Rattle.std.specs.List.{AllByRecursion}
 use Rattle.mad_term.specs.Trace.{Trace, TookWith}
+use Rattle.mad_draw.specs.Pieces.{IsColumnChar}
 use Rattle.mad_measure.specs.declared.area.Area.{Area}
 use Rattle.mad_draw.specs.DrawnRows.{AreRowsShown, FillArea}
 use Rattle.mad_draw.specs.Pieces.{FillsRow}
@@ -29,11 +30,11 @@ shown_kept {T} {E} (Ok x) skin page area rows old new bound laid h = λ three fa
     (rows, laid, h (λ y inside. fills_at skin area.width rows y fill))
 shown_kept {T} {E} (Err x) skin page area rows old new bound laid h = tt
 
--- Markdown that was read is shown
-pub shown_read : {T E : Type 0} (r : Result T E) (skin : RowSkin) (source said page : List SectionContent) (area : Area) (old new : Trace) → said ≡ source → page ≡ said → KeepPremises said → AllByRecursion IsTypedSection page
-    → OnOk r (3 ≤ area.width → ShowsKept skin page area old new) → OnOk r (3 ≤ area.width → ShowsMarkdown skin source area old new)
-shown_read {T} {E} (Ok x) skin source said page area old new says same keeps typed h = λ three.
+-- Markdown that was read is shown, where the sign of its pictures takes one column
+pub shown_read : {T E : Type 0} (r : Result T E) (skin : RowSkin) (sign : ℕ) (source said page : List SectionContent) (area : Area) (old new : Trace) → said ≡ source → page ≡ said → (IsColumnChar sign → KeepPremises said) → AllByRecursion IsTypedSection page
+    → OnOk r (3 ≤ area.width → ShowsKept skin page area old new) → OnOk r (3 ≤ area.width → IsColumnChar sign → ShowsMarkdown skin source area old new)
+shown_read {T} {E} (Ok x) skin sign source said page area old new says same keeps typed h = λ three column.
     subst (λ (s : List SectionContent). ShowsMarkdown skin s area old new) says
     (subst (λ (s : List SectionContent). ShowsMarkdown skin s area old new) same
-    (λ marks. h three marks.faces (subst KeepPremises (sym same) keeps typed skin area.width three marks)))
-shown_read {T} {E} (Err x) skin source said page area old new says same keeps typed h = tt
+    (λ marks. h three marks.faces (subst KeepPremises (sym same) (keeps column) typed skin area.width three marks)))
+shown_read {T} {E} (Err x) skin sign source said page area old new says same keeps typed h = tt

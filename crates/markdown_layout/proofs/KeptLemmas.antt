@@ -1,11 +1,11 @@
 -- Steady and printed sections keep what drawing asks of texts.
-use Rattle.std.proofs.Common.{◌≡◌, ◌⊎◌, ℕ, ◌<◌, ◌≤◌, min, nat_lt, nat_le, not, ◌&&◌, ◌==◌, Bool, true, false, cond, if◌then◌else◌, List, [], ◌∷◌, ◌++◌, map, drop, length, Option, Some, None, ⊎_elim, refl, sym, subst, arith, append-nil}
+use Rattle.std.proofs.Common.{◌≡◌, ◌⊎◌, ℕ, ◌<◌, ◌≤◌, min, nat_lt, nat_le, not, ◌&&◌, ◌==◌, Bool, true, false, cond, if◌then◌else◌, List, [], ◌∷◌, ◌++◌, map, drop, length, Option, Some, None, ⊎_elim, refl, sym, subst, arith, append-nil, ap, ◌∙◌}
 use Rattle.std.specs.Char.{IsScalar, is_control, is_whitespace}
 use Rattle.std.specs.List.{AllByRecursion, list_all}
 use Rattle.std.specs.Str.{IsUtf8, NonePass, NoCharPasses}
 use Rattle.std.proofs.lemmas.Bool.{and_from}
 use Rattle.std.proofs.lemmas.Bool.Decides.{nat_tests}
-use Rattle.std.proofs.lemmas.Str.{chars-IsAscii, chars_from_encodes}
+use Rattle.std.proofs.lemmas.Str.{IsUtf8-encode, chars-IsAscii, chars-append, chars_from_encodes}
 use Rattle.std.proofs.lemmas.Str.Ascii.{IsAscii-cons, IsAscii-nil}
 use Rattle.unicode_width.specs.Width.{char_width}
 use Rattle.mad_characters.proofs.CharColumns.{char_columns-three}
@@ -22,11 +22,13 @@ use Rattle.mad_layout.specs.TableColumns.{kept_widths}
 use Rattle.mad_layout.proofs.ReadParts.{lines_are}
 use Rattle.markdown_lines.specs.Printed.{is_obeyed, IsPrintedRun, IsPrintedCell, IsPrintedLine, ArePrinted}
 use Rattle.markdown_lines.specs.Steady.{IsSteadyRun, AreSteadyRuns, IsSteadyCell, IsSteadyLine, AreSteadyLines}
-use Rattle.std.specs.Prelude.{chars, codes, IfSome, IsSome}
+use Rattle.std.specs.Prelude.{chars, codes, encode_utf8, IfSome, IsSome}
 use Rattle.mad_md.specs.TypedLines.{IsTypedRun, IsTypedText, IsTypedLine}
 use Rattle.mad_layout.specs.Premises.{AreJoined, IsPrintableRun, IsPrintableText, ArePrintableIn, IsPrintableContent, KeepsPremises, inner_width, runs_text}
 use Rattle.mad_layout.proofs.SourceLemmas.{three-le}
 use Rattle.mad_blocks.specs.TextParts.{LineInPart, lines_in_parts}
+use Rattle.mad_draw.proofs.ColumnChars.{one_char, printed_char}
+use Rattle.mad_draw.specs.Pieces.{IsColumnChar}
 use Rattle.mad_layout.proofs.ColumnChars.{ascii_column}
 use Rattle.mad_measure.proofs.AllLemmas.{all_joined}
 use Rattle.mad_sections.specs.Gutters.{room_at}
@@ -37,9 +39,10 @@ use Rattle.mad_sections.specs.Unfolded.{lacks_room, list_sections, as_list, unfo
 use Rattle.mad_sections.specs.declared.gutters.Gutter.{Gutter}
 use Rattle.mad_sections.proofs.Choices.{by_bool}
 use Rattle.mad_sections.proofs.RoomLemmas.{rooms_last}
-use Rattle.mad_dressing.specs.Dressed.{Beside, Put, nothing, rule_below, signs_before, dressed, dressed_by, dressed_page, placed_by, put_with}
+use Rattle.mad_dressing.specs.Dressed.{Beside, Put, nothing, rule_below, signs_before, dressed, dressed_by, dressed_page, filled_by, placed_by, put_with}
+use Rattle.mad_dressing.specs.PictureSigns.{have_pictures, pictured, pictured_line, pictured_runs, pictured_text, sign_flags, sign_if, sign_text}
 use Rattle.mad_dressing.specs.WordMarks.{begin_code, beginnings, begins_strong, end_flags, endings, first_flags, is_rule, mark_if, marked_flags, marked_line, marked_lines, marked_runs, marked_text, start_flags, worded, worded_if}
-use Rattle.mad_dressing.specs.declared.heading_marks.HeadingMarks.{HeadingMarks}
+use Rattle.mad_dressing.specs.declared.page_marks.PageMarks.{PageMarks}
 use Rattle.mad_page_rows.specs.FaceLaws.{IsTypedGutter}
 use Rattle.mad_page_rows.specs.Faces.{has_ascii_boxes}
 use Rattle.mad_page_rows.specs.PageFits.{KeepsRoom, sections_at}
@@ -72,15 +75,15 @@ width_by false wide false w f g = absurd (no (g refl))
     no : false ≡ true → ⊥
     no e = cc
 
-printed_char : (c : ℕ) → is_obeyed c ≡ false → IsSome (char_width false c)
+unobeyed_char : (c : ℕ) → is_obeyed c ≡ false → IsSome (char_width false c)
 unfolding char_width
-printed_char c h =
+unobeyed_char c h =
     let range = is_no_control c h in
     width_by (nat_lt c 0x7F) (nat_le 0x20 c) (nat_le 0xA0 c) _ (λ low. ⊎_elim (λ r. grind (arith, nat_tests, r.0)) (λ r. grind (arith, nat_tests, r, low)) range) (λ high. ⊎_elim (λ r. grind (arith, nat_tests, r.1, high)) (λ r. grind (arith, nat_tests, r)) range)
 
 printed : (cs : List ℕ) → NonePass is_obeyed cs → IsPrinted cs
 printed [] h = tt
-printed (c ∷ cs) h = (printed_char c h.0, printed cs h.1)
+printed (c ∷ cs) h = (unobeyed_char c h.0, printed cs h.1)
 
 plain_char : (c : ℕ) → is_obeyed c ≡ false → not (is_control c) ≡ true
 plain_char c h = grind (arith, nat_tests)
@@ -320,19 +323,100 @@ marked_typed : (strong : Bool) (before : Flags) (lines : List LineContent) → A
 marked_typed strong before [] h = tt
 marked_typed strong before (line ∷ lines) h = (line_typed strong before lines line h.0, marked_typed (strong && is_rule line) (end_flags strong line) lines h.1)
 
+-- ---- signs in front of pictures
+
+-- the sign and the space behind it are printable
+sign_fine : (sign : ℕ) → IsColumnChar sign → IsPrintableRun (record { flags = sign_flags; text = sign_text sign })
+sign_fine sign column =
+    let last : chars (32 ∷ []) ≡ 32 ∷ [] = chars-IsAscii (32 ∷ []) (IsAscii-cons 32 [] (omega arith) IsAscii-nil) in
+    let cs : chars (sign_text sign) ≡ sign ∷ 32 ∷ [] =
+    chars-append (encode_utf8 sign) (32 ∷ []) (IsUtf8-encode sign column.scalar) ∙ ap (λ (l : List ℕ). l ++ chars (32 ∷ [])) (one_char sign column.scalar) ∙ ap (λ (l : List ℕ). sign ∷ l) last in
+    let space = ascii_column 32 refl (omega arith) (omega arith) in
+    record {
+      printed = subst IsPrinted (sym cs) (printed_char sign column.one, (printed_char 32 space.one, tt));
+      joined = subst (λ (text : List ℕ). AreJoined false (flagged sign_flags text)) (sym cs)
+          ((λ none. absurd (omega (arith, none, column.one))), ((λ none. absurd (omega (arith, none, space.one))), tt));
+    }
+
+-- what is there in front of pictures
+abbrev IsFineSign : Option (List ℕ) → Type 0
+IsFineSign None = Unit {0}
+IsFineSign (Some sign) = IsPrintableRun (record { flags = sign_flags; text = sign })
+
+sign_by : (sign : ℕ) (code have : Bool) → IsColumnChar sign → IsFineSign (if code then None else if have then Some (sign_text sign) else None)
+sign_by sign true have column = tt
+sign_by sign false true column = sign_fine sign column
+sign_by sign false false column = tt
+
+if_signed : (there : Bool) (sign : List ℕ) → IsPrintableRun (record { flags = sign_flags; text = sign }) → AllByRecursion IsPrintableRun (sign_if there sign)
+if_signed true sign k = (k, tt)
+if_signed false sign k = tt
+
+pictured_runs_fine : (sign : List ℕ) (runs : List Run) → IsPrintableRun (record { flags = sign_flags; text = sign }) → AllByRecursion IsPrintableRun runs → AllByRecursion IsPrintableRun (pictured_runs sign runs)
+pictured_runs_fine sign [] k h = tt
+pictured_runs_fine sign (run ∷ runs) k h =
+    all_joined IsPrintableRun (sign_if run.flags.picture sign) (run ∷ pictured_runs sign runs) (if_signed run.flags.picture sign k) (h.0, pictured_runs_fine sign runs k h.1)
+
+pictured_cells_fine : (sign : List ℕ) (cells : List StyledRuns) → IsPrintableRun (record { flags = sign_flags; text = sign }) → AllByRecursion IsFineCell cells → AllByRecursion IsFineCell (map (pictured_text sign) cells)
+pictured_cells_fine sign [] k h = tt
+pictured_cells_fine sign (cell ∷ cells) k h = (record { style = h.0.style; runs = pictured_runs_fine sign cell.runs k h.0.runs }, pictured_cells_fine sign cells k h.1)
+
+pictured_line_fine : (sign : List ℕ) (line : LineContent) → IsPrintableRun (record { flags = sign_flags; text = sign }) → IsFine line → IsFine (pictured_line sign line)
+pictured_line_fine sign (normal said) k h = record { style = h.style; runs = pictured_runs_fine sign said.runs k h.runs }
+pictured_line_fine sign (table_row cells) k h = pictured_cells_fine sign cells k h
+pictured_line_fine sign (table_rule aligns) k h = tt
+pictured_line_fine sign horizontal_rule k h = tt
+
+pictured_lines_fine : (sign : List ℕ) (lines : List LineContent) → IsPrintableRun (record { flags = sign_flags; text = sign }) → AllByRecursion IsFine lines → AllByRecursion IsFine (map (pictured_line sign) lines)
+pictured_lines_fine sign [] k h = tt
+pictured_lines_fine sign (line ∷ lines) k h = (pictured_line_fine sign line k h.0, pictured_lines_fine sign lines k h.1)
+
+pictured_fine : (sign : Option (List ℕ)) (s : SectionContent) → IsFineSign sign → AllByRecursion IsFine s.lines → AllByRecursion IsFine (pictured sign s).lines
+pictured_fine None s k h = h
+pictured_fine (Some sign) s k h = pictured_lines_fine sign s.lines k h
+
+-- what is typed with signs is so without them
+pictured_runs_typed : (sign : List ℕ) (runs : List Run) → AllByRecursion IsTypedRun (pictured_runs sign runs) → AllByRecursion IsTypedRun runs
+pictured_runs_typed sign [] h = tt
+pictured_runs_typed sign (run ∷ runs) h = let own = (all_parted IsTypedRun (sign_if run.flags.picture sign) (run ∷ pictured_runs sign runs) h).1 in (own.0, pictured_runs_typed sign runs own.1)
+
+pictured_cells_typed : (sign : List ℕ) (cells : List StyledRuns) → AllByRecursion IsTypedText (map (pictured_text sign) cells) → AllByRecursion IsTypedText cells
+pictured_cells_typed sign [] h = tt
+pictured_cells_typed sign (cell ∷ cells) h = (record { style = h.0.style; runs = pictured_runs_typed sign cell.runs h.0.runs }, pictured_cells_typed sign cells h.1)
+
+pictured_line_typed : (sign : List ℕ) (line : LineContent) → IsTypedLine (pictured_line sign line) → IsTypedLine line
+pictured_line_typed sign (normal said) h = record { style = h.style; runs = pictured_runs_typed sign said.runs h.runs }
+pictured_line_typed sign (table_row cells) h = pictured_cells_typed sign cells h
+pictured_line_typed sign (table_rule aligns) h = tt
+pictured_line_typed sign horizontal_rule h = tt
+
+pictured_lines_typed : (sign : List ℕ) (lines : List LineContent) → AllByRecursion IsTypedLine (map (pictured_line sign) lines) → AllByRecursion IsTypedLine lines
+pictured_lines_typed sign [] h = tt
+pictured_lines_typed sign (line ∷ lines) h = (pictured_line_typed sign line h.0, pictured_lines_typed sign lines h.1)
+
+pictured_typed : (sign : Option (List ℕ)) (s : SectionContent) → AllByRecursion IsTypedLine (pictured sign s).lines → AllByRecursion IsTypedLine s.lines
+pictured_typed None s h = h
+pictured_typed (Some sign) s h = pictured_lines_typed sign s.lines h
+
+-- ---- sections
+
 worded_fine : (there : Bool) (s : SectionContent) → AllByRecursion IsTypedLine (worded_if there s).lines → ArePrinted s.lines → AreSteadyLines s.lines → ArePlainLines s.lines → AllByRecursion IsFine (worded_if there s).lines
 worded_fine true s t p steady own = all_marked_fine (begins_strong s) unflagged s.lines (all_fine s.lines (marked_typed (begins_strong s) unflagged s.lines t) p steady own)
 worded_fine false s t p steady own = all_fine s.lines t p steady own
 
-put_fine : (put : Put) (s : SectionContent) → AllByRecursion IsTypedSection (dressed_by put s) → ArePrinted s.lines → AreSteadyLines s.lines → ArePlainLines s.lines → AllByRecursion IsFineSection (dressed_by put s)
-put_fine put s t p steady own = beside_fine put.beside (worded put.words s) t (worded_fine (put.words && not (begin_code s.lines)) s (lines_typed put.beside (worded put.words s) t) p steady own)
+put_fine : (put : Put) (s : SectionContent) → IsFineSign put.sign → AllByRecursion IsTypedSection (dressed_by put s) → ArePrinted s.lines → AreSteadyLines s.lines → ArePlainLines s.lines → AllByRecursion IsFineSection (dressed_by put s)
+put_fine put s sign t p steady own =
+    let marked : SectionContent = worded put.words s in
+    let typed = pictured_typed put.sign marked (lines_typed put.beside (filled_by put s) t) in
+    beside_fine put.beside (filled_by put s) t (pictured_fine put.sign marked sign (worded_fine (put.words && not (begin_code s.lines)) s typed p steady own))
 
-fine_sections : (marks : HeadingMarks) (page : List SectionContent) → AllByRecursion IsTypedSection (dressed_page marks page) → ArePrintedSections page → AreSteadySections page → ArePlainSections page → AllByRecursion IsFineSection (dressed_page marks page)
+fine_sections : (marks : PageMarks) (page : List SectionContent) → IsColumnChar marks.sign → AllByRecursion IsTypedSection (dressed_page marks page) → ArePrintedSections page → AreSteadySections page → ArePlainSections page → AllByRecursion IsFineSection (dressed_page marks page)
 unfolding ArePrintedSections AreSteadySections
-fine_sections marks [] t p s plain = tt
-fine_sections marks (section ∷ page) t p s plain =
+fine_sections marks [] column t p s plain = tt
+fine_sections marks (section ∷ page) column t p s plain =
     let typed = all_parted IsTypedSection (dressed marks section) (dressed_page marks page) t in
-    all_joined IsFineSection (dressed marks section) (dressed_page marks page) (put_fine (put_with marks section) section typed.0 p.0 s.0 plain.0) (fine_sections marks page typed.1 p.1 s.1 plain.1)
+    all_joined IsFineSection (dressed marks section) (dressed_page marks page) (put_fine (put_with marks section) section (sign_by marks.sign (begin_code section.lines) (have_pictures section.lines) column) typed.0 p.0 s.0 plain.0)
+    (fine_sections marks page column typed.1 p.1 s.1 plain.1)
 
 -- ---- tables as lists
 
@@ -421,12 +505,12 @@ page_fine skin width (s ∷ page) h =
     let ascii : Bool = has_ascii_boxes skin in
     all_joined IsFineSection (unfolded (line_rules skin).whole_words ascii (Some width) s) (sections_at skin width page) (shown_fine (line_rules skin).whole_words (room_at ascii width s.gutters) s.list s h.0 h.0.list) (page_fine skin width page h.1)
 
--- steady and printed sections, whose lines have no sign of their own, keep what drawing asks of texts, whatever stands beside headings
-keep : (marks : HeadingMarks) (page : List SectionContent) → ArePrintedSections page → AreSteadySections page → ArePlainSections page → KeepPremises (dressed_page marks page)
-keep marks page p s plain typed skin width wide shown =
+-- steady and printed sections, whose lines have no sign of their own, keep what drawing asks of texts, whatever stands beside headings and in front of pictures
+keep : (marks : PageMarks) (page : List SectionContent) → IsColumnChar marks.sign → ArePrintedSections page → AreSteadySections page → ArePlainSections page → KeepPremises (dressed_page marks page)
+keep marks page column p s plain typed skin width wide shown =
     let shown_page : List SectionContent = dressed_page marks page in
-    sections_keep skin width (sections_at skin width shown_page) wide shown (page_fine skin width shown_page (fine_sections marks page typed p s plain))
+    sections_keep skin width (sections_at skin width shown_page) wide shown (page_fine skin width shown_page (fine_sections marks page column typed p s plain))
 
 -- so do the sections of a text that was read
-pub read_keeps : (source : List ℕ) (page : List SectionContent) → page ≡ markdown_sections source → ArePrintedSections page → AreSteadySections page → (marks : HeadingMarks) → KeepPremises (dressed_page marks page)
-read_keeps source page is p s marks = keep marks page p s (subst ArePlainSections (sym is) (sections_are_plain source))
+pub read_keeps : (source : List ℕ) (page : List SectionContent) → page ≡ markdown_sections source → ArePrintedSections page → AreSteadySections page → (marks : PageMarks) → IsColumnChar marks.sign → KeepPremises (dressed_page marks page)
+read_keeps source page is p s marks column = keep marks page column p s (subst ArePlainSections (sym is) (sections_are_plain source))

@@ -7,7 +7,7 @@ use Rattle.mad_pages.specs.PageLayouts.{BecomesAt, IsPageAt}
 use Rattle.mad_pages.specs.PageRows.{RowContent}
 use Rattle.mad_format.proofs.ListLemmas.{both_become}
 use Rattle.mad_dressing.specs.Dressed.{dressed, dressed_page}
-use Rattle.mad_dressing.specs.declared.heading_marks.HeadingMarks.{HeadingMarks}
+use Rattle.mad_dressing.specs.declared.page_marks.PageMarks.{PageMarks}
 use Rattle.mad_pages.proofs.PageLemmas.{LaidSoFar, laid_none, laid_on, laid_whole}
 use Rattle.mad_page_rows.specs.Faces.{has_ascii_boxes}
 use Rattle.markdown_layout.specs.WrittenPages.{row_bytes, rows_bytes}
@@ -66,7 +66,7 @@ rule_laid {T} {E} (Ok x) skin width shown s rule before mid now is (own, laid, f
 rule_laid {T} {E} (Err x) skin width shown s rule before mid now is h k = tt
 
 -- the rows of what is shown of one more section of a text are put behind the others
-pub dressed_on : (skin : RowSkin) (marks : HeadingMarks) (width : Option ℕ) (all left after : List SectionContent) (s : SectionContent) (start before now : List ℕ) (own : List RowContent)
+pub dressed_on : (skin : RowSkin) (marks : PageMarks) (width : Option ℕ) (all left after : List SectionContent) (s : SectionContent) (start before now : List ℕ) (own : List RowContent)
     → WrittenSoFar skin width (dressed_page marks all) (dressed_page marks left) start before → left ≡ s ∷ after → IsPageAt (line_rules skin) (has_ascii_boxes skin) width (dressed marks s) own → now ≡ before ++ rows_bytes skin width own
     → WrittenSoFar skin width (dressed_page marks all) (dressed_page marks after) start now
 dressed_on skin marks width all left after s start before now own h joins page bytes =

@@ -8,7 +8,7 @@ use Rattle.mad_pages.specs.PageLayouts.{IsPageAt}
 use Rattle.mad_pages.specs.PageRows.{RowContent}
 use Rattle.mad_page_rows.specs.Faces.{has_ascii_boxes, page_row_bytes}
 use Rattle.mad_dressing.specs.Dressed.{dressed_page}
-use Rattle.mad_page_skin.specs.PageSkins.{page_row_skin}
+use Rattle.mad_page_skin.specs.PageSkins.{page_marks, page_row_skin}
 use Rattle.mad_page_skin.specs.declared.page_skin.PageSkin.{PageSkin}
 use Rattle.markdown_layout.specs.RowEnds.{ended}
 use Rattle.mad_term.specs.Draws.{DrawsSome}
@@ -27,9 +27,9 @@ rows_bytes skin width rows = flat_map (row_bytes skin width) rows
 abbrev pub WritesPage : {T : Type 0} → RowSkin → Option ℕ → List SectionContent → Trace → Result T Error → Trace → Type 0
 WritesPage skin width page old r new = DrawsSome (IsPageAt (line_rules skin) (has_ascii_boxes skin) width page) (rows_bytes skin width) old r new
 
--- the rows are those of a page of a text in its skin: of these sections, with the rules and signs of headings
+-- the rows are those of a page of a text in its skin: of these sections, with what stands in such a page and isn't their own
 abbrev pub IsDressedAt : PageSkin → Option ℕ → List SectionContent → List RowContent → Type 0
-IsDressedAt skin width page rows = IsPageAt (line_rules (page_row_skin skin)) (has_ascii_boxes (page_row_skin skin)) width (dressed_page skin.headings page) rows
+IsDressedAt skin width page rows = IsPageAt (line_rules (page_row_skin skin)) (has_ascii_boxes (page_row_skin skin)) width (dressed_page (page_marks skin) page) rows
 
 -- the bytes of these rows
 abbrev pub dressed_bytes : PageSkin → Option ℕ → List RowContent → List ℕ

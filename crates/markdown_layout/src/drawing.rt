@@ -13,8 +13,9 @@ ghost use Rattle.markdown_layout.specs.DressedTexts.{dressed_says};
 ghost use Rattle.markdown_layout.specs.DrawnMarkdown.{DrawsPage, ShowsKept, ShowsMarkdown};
 ghost use Rattle.markdown_layout.specs.KeptPremises.{KeepPremises};
 ghost use Rattle.mad_dressing.specs.Dressed.{dressed_page};
-ghost use Rattle.mad_dressing.specs.declared.heading_marks.HeadingMarks.{HeadingMarks};
-ghost use Rattle.mad_page_skin.specs.PageSkins.{page_row_skin};
+ghost use Rattle.mad_draw.specs.Pieces.{IsColumnChar};
+ghost use Rattle.mad_dressing.specs.declared.page_marks.PageMarks.{PageMarks};
+ghost use Rattle.mad_page_skin.specs.PageSkins.{page_marks, page_row_skin};
 
 use crate::dressed_markdown::DressedMarkdown;
 use crate::typed_pages::typed_page;
@@ -29,7 +30,8 @@ use mad_term::{Error, Out};
 use markdown_reader::Markdown;
 use std::alloc::{AllocError, Global};
 
-/// Reads a text as [`Markdown::read`] does. Its sections keep the premises of drawing that speak of texts, whatever stands beside its headings: no
+/// Reads a text as [`Markdown::read`] does. Its sections keep the premises of drawing that speak of texts, whatever stands beside its headings and in
+/// front of its pictures, if that takes one column: no
 /// control character, each widthless character is no whitespace and follows a non-blank one in its compound, and from three columns on all have room.
 ///
 /// # Errors
@@ -38,7 +40,7 @@ use std::alloc::{AllocError, Global};
 #[tactic(auto, using(crate::proofs::KeptLemmas::read_keeps))]
 pub fn read_drawable(alloc: Global, source: &str) -> Result<Markdown, AllocError>
     ensures sections { IfOk result (λ read. markdown_says read ≡ markdown_sections source.now) }
-    ensures premises { IfOk result (λ read. (marks : HeadingMarks) → KeepPremises (dressed_page marks (markdown_says read))) }
+    ensures premises { IfOk result (λ read. (marks : PageMarks) → IsColumnChar marks.sign → KeepPremises (dressed_page marks (markdown_says read))) }
 {
     let read = Markdown::read(alloc, source)?;
     Ok(read)
@@ -79,13 +81,13 @@ pub fn draw_markdown<O: Out>(
     area: &Area,
 ) -> Result<(), Error>
     requires { IsWithinLimits area.now }
-    ensures writes { DrawsPage (page_row_skin skin.now) (dressed_page skin.now.headings (markdown_sections markdown.now)) area.now (O.seen out.old) result (O.seen out.new) }
+    ensures writes { DrawsPage (page_row_skin skin.now) (dressed_page (page_marks skin.now) (markdown_sections markdown.now)) area.now (O.seen out.old) result (O.seen out.new) }
 
-    // What a plain terminal shows that reads it. Nothing is asked of the text.
-    ensures shown { OnOk result (3 ≤ area.now.width → ShowsMarkdown (page_row_skin skin.now) (dressed_page skin.now.headings (markdown_sections markdown.now)) area.now (O.seen out.old) (O.seen out.new)) }
+    // What a plain terminal shows that reads it, where the sign of pictures takes one column. Nothing is asked of the text.
+    ensures shown { OnOk result (3 ≤ area.now.width → IsColumnChar (page_marks skin.now).sign → ShowsMarkdown (page_row_skin skin.now) (dressed_page (page_marks skin.now) (markdown_sections markdown.now)) area.now (O.seen out.old) (O.seen out.new)) }
 {
     let read = read_drawable(alloc, markdown)?;
-    let dressed = DressedMarkdown::new(alloc, read, skin.headings)?;
+    let dressed = DressedMarkdown::new(alloc, read, skin.marks())?;
     let page = dressed.page(alloc)?;
     typed_page(&page);
     draw_page(alloc, out, &skin.row_skin(), page, area)

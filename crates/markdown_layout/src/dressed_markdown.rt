@@ -1,4 +1,4 @@
-//! A text that was read, with what stands beside its headings.
+//! A text that was read, with what stands in its page and isn't its own.
 
 ghost use Rattle.std.specs.Prelude.{◌≡◌, IfOk, map};
 ghost use Rattle.mad_sections.specs.Sections.{page_content};
@@ -6,12 +6,12 @@ ghost use Rattle.mad_dressing.specs.Dressed.{dressed_page, put_of, put_with};
 ghost use Rattle.markdown_reader.specs.MarkdownSays.{markdown_says};
 ghost use Rattle.markdown_layout.specs.DressedTexts.{dressed_says};
 
-use mad_dressing::{Dressing, HeadingMarks, dress_page, dressings_of};
+use mad_dressing::{Dressing, PageMarks, dress_page, dressings_of};
 use mad_sections::Page;
 use markdown_reader::Markdown;
 use std::alloc::{AllocError, Global};
 
-/// A text that was read, with the rules below its headings and the signs in front of them. Rows of it may be kept as long as it lasts.
+/// A text that was read, with the rules below its headings, the signs in front of them and of its pictures, and marks at its words. Rows of it may be kept as long as it lasts.
 #[derive(Debug, Drop)]
 pub struct DressedMarkdown {
     markdown: Markdown,
@@ -20,12 +20,12 @@ pub struct DressedMarkdown {
 }
 
 impl DressedMarkdown {
-    /// A text that was read, where these stand beside its headings: those of the skin that it is to be shown in.
+    /// A text that was read, where these stand in its page: those of the skin that it is to be shown in, `PageSkin::marks`.
     ///
     /// # Errors
     ///
     /// Out of memory is the only error.
-    pub fn new(alloc: Global, markdown: Markdown, marks: HeadingMarks) -> Result<Self, AllocError>
+    pub fn new(alloc: Global, markdown: Markdown, marks: PageMarks) -> Result<Self, AllocError>
         ensures { IfOk result (λ dressed. dressed_says dressed ≡ dressed_page marks (markdown_says markdown)) }
     {
         let dressings = dressings_for(alloc, &markdown, marks)?;
@@ -59,7 +59,7 @@ impl DressedMarkdown {
 fn dressings_for(
     alloc: Global,
     markdown: &Markdown,
-    marks: HeadingMarks,
+    marks: PageMarks,
 ) -> Result<Vec<Dressing>, AllocError>
     ensures { IfOk result (λ dressings. map put_of dressings.items ≡ map (put_with marks) (markdown_says markdown.now)) }
 {

@@ -13,7 +13,7 @@ ghost use Rattle.mad_dressing.specs.Dressed.{dressed};
 ghost use Rattle.markdown_layout.specs.WrittenPages.{dressed_bytes, rows_bytes, IsDressedAt, WritesDressed, WritesPage};
 
 use crate::page_writing::append_section;
-use mad_dressing::{HeadingMarks, dress, dressing_of};
+use mad_dressing::{PageMarks, dress, dressing_of};
 use mad_page_skin::PageSkin;
 use mad_rows::{RowSkin, StyleCommands};
 use mad_sections::{Page, Section};
@@ -24,7 +24,7 @@ use std::alloc::{AllocError, Global};
 /// Writes a text of Markdown as people write it, as a page at a width, in columns, if there is one: each row and a newline. Nothing is flushed.
 ///
 /// The text is read by [`Markdown::read`], as CommonMark has it, and laid out with whole words. Where the skin says so, headings have a rule below
-/// or signs in front. No character of the text reaches the device that a terminal obeys.
+/// or signs in front, and words have marks. In front of an image's words is the skin's sign. No character of the text reaches the device that a terminal obeys.
 ///
 /// # Errors
 ///
@@ -77,8 +77,8 @@ fn markdown_rows(
     Ok(rows)
 }
 
-/// Puts the rows of sections, with the rules and signs of headings, each with a newline, after the rows that are there, at a width in columns, if
-/// there is one.
+/// Puts the rows of sections, with what stands in their page and isn't their own, each with a newline, after the rows that are there, at a width in
+/// columns, if there is one.
 ///
 /// # Errors
 ///
@@ -102,7 +102,7 @@ pub fn append_sections(
             section,
             width,
             &row_skin,
-            skin.headings,
+            skin.marks(),
             &mut commands,
         )?;
     }
@@ -116,7 +116,7 @@ fn append_dressed(
     section: Section<'_>,
     width: Option<usize>,
     skin: &RowSkin,
-    marks: HeadingMarks,
+    marks: PageMarks,
     commands: &mut StyleCommands,
 ) -> Result<(), AllocError>
     ensures { OnOk result ((own : List RowContent) × IsPageAt (line_rules skin.now) (has_ascii_boxes skin.now) width (dressed marks (section_content section.entry)) own × (string_bytes rows.new ≡ string_bytes rows.old ++ rows_bytes skin.now width own)) }

@@ -9,8 +9,8 @@ use Rattle.std.proofs.StrCases.{chars_of_empty}
 use Rattle.memchr.specs.Find.{Nowhere, NoneBefore, Passes, is_byte}
 use Rattle.mad_md.specs.Flagged.{Run}
 use Rattle.mad_md.specs.Lines.{LineContent}
-use Rattle.markdown_inlines.specs.Looks.{is_same, is_same_link}
-use Rattle.markdown_lines.specs.Glyphs.{is_same_run, runs_from, runs_of, run_with}
+use Rattle.markdown_inlines.specs.Looks.{is_same, is_same_number}
+use Rattle.markdown_lines.specs.Glyphs.{is_same_flags, is_same_run, runs_from, runs_of, run_with}
 use Rattle.markdown_lines.specs.LinkNumbers.{one_number, numbers_from, numbers_of}
 use Rattle.markdown_lines.specs.CutRows.{like, in_front, cut_rows, runs_row, whole_row, begun_rows, cut_numbers, BeginsApart, piece_runs, piece_numbers}
 use Rattle.markdown_lines.specs.declared.glyphs.Glyph.{Glyph}
@@ -58,18 +58,23 @@ same_bool : (b : Bool) → is_same b b ≡ true
 same_bool true = refl
 same_bool false = refl
 
-same_link : (l : Option ℕ) → is_same_link l l ≡ true
-same_link None = refl
-same_link (Some n) = eq-eqb n n refl
+same_number : (n : Option ℕ) → is_same_number n n ≡ true
+same_number None = refl
+same_number (Some n) = eq-eqb n n refl
 
-six : (a b c d e f : Bool) → a ≡ true → b ≡ true → c ≡ true → d ≡ true → e ≡ true → f ≡ true → ((a && b && c && d && e) && f) ≡ true
-six a b c d e f p q r s t u =
-    ap (λ x. (x && b && c && d && e) && f) p ∙ ap (λ x. (true && x && c && d && e) && f) q ∙ ap (λ x. (true && true && x && d && e) && f) r
-    ∙ ap (λ x. (true && true && true && x && e) && f) s ∙ ap (λ x. (true && true && true && true && x) && f) t ∙ ap (λ x. (true && true && true && true && true) && x) u
+both : (a b : Bool) → a ≡ true → b ≡ true → (a && b) ≡ true
+both a b h k = ap (λ x. x && b) h ∙ ap (λ x. true && x) k
+
+seven : (a b c d e f g : Bool) → a ≡ true → b ≡ true → c ≡ true → d ≡ true → e ≡ true → f ≡ true → g ≡ true → (a && b && c && d && e && f && g) ≡ true
+seven a b c d e f g p q r s t u v =
+    both (a && b && c && d && e && f) g (both (a && b && c && d && e) f (both (a && b && c && d) e (both (a && b && c) d (both (a && b) c (both a b p q) r) s) t) u) v
 
 same_run : (g : Glyph) (d c : ℕ) → is_same_run (like g d) (like g c) ≡ true
 same_run g d c =
-    six _ _ _ _ _ _ (same_bool g.flags.bold) (same_bool g.flags.italic) (same_bool g.flags.code) (same_bool g.flags.strikeout) (same_bool g.flags.link) (same_link g.link)
+    let flags : is_same_flags g.flags g.flags ≡ true =
+    seven _ _ _ _ _ _ _ (same_bool g.flags.bold) (same_bool g.flags.italic) (same_bool g.flags.code) (same_bool g.flags.strikeout) (same_bool g.flags.link) (same_bool g.flags.picture) (same_bool g.flags.picture_sign) in
+    let linked : (is_same_flags g.flags g.flags && is_same_number g.link g.link) ≡ true = both (is_same_flags g.flags g.flags) (is_same_number g.link g.link) flags (same_number g.link) in
+    both (is_same_flags g.flags g.flags && is_same_number g.link g.link) (is_same_number g.picture g.picture) linked (same_number g.picture)
 
 pub run_front : (g : Glyph) (d : ℕ) (text cs : List ℕ) (row : List Glyph) → BeginsApart g row → runs_from (like g d) text (map (like g) cs ++ row) ≡ run_with g.flags (text ++ encode_utf8_all cs) ∷ runs_of row
 unfolding runs_from

@@ -17,7 +17,7 @@ use Rattle.markdown_lines.specs.declared.glyphs.Glyph.{Glyph}
 
 -- what an index reads where there is none
 abbrev pub no_glyph : Glyph
-no_glyph = record { c = 0; flags = record { bold = false; italic = false; code = false; strikeout = false; link = false }; link = None }
+no_glyph = record { c = 0; flags = record { bold = false; italic = false; code = false; strikeout = false; link = false; picture = false; picture_sign = false }; link = None; picture = None }
 
 -- So many characters are left, after this number at the edge: as many as in all but those at the edge.
 abbrev pub LeavesSame : List Glyph → ℕ → Type 0

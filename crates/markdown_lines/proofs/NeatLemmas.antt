@@ -1,10 +1,11 @@
 -- Rows of a text of which no row begins or ends with a blank.
-use Rattle.std.proofs.Common.{◌≡◌, ℕ, zero, suc, ⊎_elim, ◌+◌, ◌-◌, ◌<◌, ◌≤◌, Bool, true, false, cond, eqb, not, ◌||◌, ◌&&◌, List, [], ◌∷◌, ◌++◌, map, length, take, drop, get_or, refl, sym, ap, subst, ◌∙◌, arith, append-nil, if◌then◌else◌}
+use Rattle.std.proofs.Common.{◌≡◌, ℕ, zero, suc, ⊎_elim, ◌+◌, ◌-◌, ◌<◌, ◌≤◌, Bool, true, false, cond, eqb, not, ◌||◌, ◌&&◌, List, [], ◌∷◌, ◌++◌, map, reverse, length, take, drop, get_or, is_some, refl, sym, ap, subst, ◌∙◌, arith, append-nil, if◌then◌else◌}
 use Rattle.std.specs.Prelude.{chars, encode_utf8, encode_utf8_all}
-use Rattle.std.specs.List.{suffix_len, AllByRecursion}
+use Rattle.std.specs.List.{list_any, suffix_len, AllByRecursion}
 use Rattle.std.specs.Str.{IsUtf8}
 use Rattle.std.proofs.lemmas.Bool.{cases_lt, eqb-true, eq-eqb, ne_eqb}
-use Rattle.std.proofs.lemmas.List.{get_or_past, get_or-drop, length-drop, length-append, take_all, map-append, take-append-drop}
+use Rattle.std.proofs.lemmas.List.{get_or_past, get_or-drop, length-drop, length-append, take_all, map-append, take-append-drop, reverse-append}
+use Rattle.std.proofs.lemmas.List.Folds.{list_any-append}
 use Rattle.std.proofs.lemmas.List.Sums.{suffix_len_is}
 use Rattle.std.proofs.lemmas.Str.{encodes-chars, encode_ascii, chars-append, IsUtf8-take}
 use Rattle.std.proofs.StrCases.{chars_of_empty}
@@ -13,10 +14,10 @@ use Rattle.mad_md.specs.Lines.{LineContent}
 use Rattle.markdown_inlines.specs.Styled.{Shown, shown_with, spelled, AreRuns}
 use Rattle.markdown_inlines.specs.declared.looks.Look.{Look}
 use Rattle.markdown_inlines.specs.declared.styled.TextRun.{TextRun}
-use Rattle.markdown_lines.specs.Glyphs.{glyph_of, is_edge, without_front, without_back, trimmed}
+use Rattle.markdown_lines.specs.Glyphs.{shown_in, glyph_of, is_edge, without_front, without_back, trimmed}
 use Rattle.markdown_lines.specs.Leaf.{row_of, rows_from, rows_of}
 use Rattle.markdown_lines.specs.LinkNumbers.{numbers_of, row_numbers, rows_numbers_from, rows_numbers}
-use Rattle.markdown_lines.specs.CutRows.{is_blank, IsAlone, IsNeat, in_front, cut_rows, whole_row, cut_numbers}
+use Rattle.markdown_lines.specs.CutRows.{is_blank, is_pictured, AreUnpictured, IsAlone, IsNeat, in_front, cut_rows, whole_row, cut_numbers}
 use Rattle.markdown_lines.specs.declared.glyphs.Glyph.{Glyph}
 use Rattle.markdown_lines.proofs.GlyphLemmas.{no_glyph, border_of}
 use Rattle.markdown_lines.proofs.CutLemmas.{not_true, apart, all_in_front, front_behind, front_none, get_or_behind, ascii_first, ascii_second, first_no}
@@ -252,38 +253,52 @@ neat_chars (c ∷ cs) h =
 
 -- ---- the characters of runs
 
-look_chars : (look : Look) (cs : List ℕ) → map char_of (map (glyph_of false) (map (shown_with look) cs)) ≡ cs
-look_chars look [] = refl
-look_chars look (c ∷ cs) = ap (λ (l : List ℕ). c ∷ l) (look_chars look cs)
+look_chars : (look : Look) (cs : List ℕ) → is_some look.picture ≡ false → map char_of (map (glyph_of false) (map (shown_with look) cs)) ≡ cs
+look_chars look [] h = refl
+look_chars look (c ∷ cs) h =
+    ap (λ (t : Bool). shown_in t c ∷ map char_of (map (glyph_of false) (map (shown_with look) cs))) h ∙ ap (λ (l : List ℕ). c ∷ l) (look_chars look cs h)
 
-spelled_chars : (rs : List TextRun) (text : List ℕ) → IsUtf8 text → AreRuns rs text → map char_of (map (glyph_of false) (spelled rs text)) ≡ chars text
+turned_unpictured : (rs : List TextRun) → AreUnpictured rs → AreUnpictured (reverse rs)
+turned_unpictured [] h = refl
+turned_unpictured (r ∷ rs) h =
+    ap (list_any is_pictured) (reverse-append (r ∷ []) rs) ∙ list_any-append is_pictured (reverse rs) (r ∷ [])
+    ∙ either_no (list_any is_pictured (reverse rs)) (is_pictured r || false) (turned_unpictured rs (no_second (is_pictured r) (list_any is_pictured rs) h))
+    (either_no (is_pictured r) false (no_first (is_pictured r) (list_any is_pictured rs) h) refl)
+
+-- what a test says that finds no picture
+pub none_pictured : (runs seen : List TextRun) (t : Bool) → t ≡ list_any is_pictured seen → t ≡ false → seen ≡ runs → AreUnpictured runs
+none_pictured runs seen t e f is = ap (list_any is_pictured) (sym is) ∙ sym e ∙ f
+
+spelled_chars : (rs : List TextRun) (text : List ℕ) → IsUtf8 text → AreRuns rs text → AreUnpictured rs → map char_of (map (glyph_of false) (spelled rs text)) ≡ chars text
 unfolding spelled
-spelled_chars [] text utf8 h = sym (chars_of_empty text h)
-spelled_chars (r ∷ rs) text utf8 h =
+spelled_chars [] text utf8 h plain = sym (chars_of_empty text h)
+spelled_chars (r ∷ rs) text utf8 h plain =
     let front : IsUtf8 (take r.start text) = IsUtf8-take text r.start utf8 (border_of rs r text h) in
     let before : List Shown = spelled rs (take r.start text) in
     let here : List Shown = map (shown_with r.look) (chars (drop r.start text)) in
     ap (map char_of) (map-append (glyph_of false) before here) ∙ map-append char_of (map (glyph_of false) before) (map (glyph_of false) here)
-    ∙ ap (λ (cs : List ℕ). cs ++ map char_of (map (glyph_of false) here)) (spelled_chars rs (take r.start text) front h.3)
-    ∙ ap (λ (cs : List ℕ). chars (take r.start text) ++ cs) (look_chars r.look (chars (drop r.start text)))
+    ∙ ap (λ (cs : List ℕ). cs ++ map char_of (map (glyph_of false) here)) (spelled_chars rs (take r.start text) front h.3 (no_second (is_pictured r) (list_any is_pictured rs) plain))
+    ∙ ap (λ (cs : List ℕ). chars (take r.start text) ++ cs) (look_chars r.look (chars (drop r.start text)) (no_first (is_pictured r) (list_any is_pictured rs) plain))
     ∙ sym (chars-append (take r.start text) (drop r.start text) front) ∙ ap chars (take-append-drop r.start text)
 
-neat_glyphs : (rs : List TextRun) (text : List ℕ) → IsUtf8 text → AreRuns rs text → IsNeat text → IsNeatFrom 10 (map char_of (map (glyph_of false) (spelled rs text)))
-neat_glyphs rs text utf8 are neat =
-    subst (IsNeatFrom 10) (sym (spelled_chars rs text utf8 are)) (neat_chars (chars text) (subst IsNeat (sym (encodes-chars text utf8)) neat))
+neat_glyphs : (rs : List TextRun) (text : List ℕ) → IsUtf8 text → AreRuns rs text → AreUnpictured rs → IsNeat text → IsNeatFrom 10 (map char_of (map (glyph_of false) (spelled rs text)))
+neat_glyphs rs text utf8 are plain neat =
+    subst (IsNeatFrom 10) (sym (spelled_chars rs text utf8 are plain)) (neat_chars (chars text) (subst IsNeat (sym (encodes-chars text utf8)) neat))
 
--- the rows of a neat text are those that breaks cut
-pub neat_rows : (rs : List TextRun) (text : List ℕ) → IsUtf8 text → AreRuns rs text → IsNeat text → rows_of (trimmed (map (glyph_of false) (spelled rs text))) ≡ map whole_row (cut_rows (map (glyph_of false) (spelled rs text)))
-neat_rows rs text utf8 are neat =
-    let gs : List Glyph = map (glyph_of false) (spelled rs text) in
-    let h : IsNeatFrom 10 (map char_of gs) = neat_glyphs rs text utf8 are neat in
+-- the rows of a neat text without pictures are those that breaks cut
+pub neat_rows : (runs : List TextRun) (text : List ℕ) → IsUtf8 text → AreRuns (reverse runs) text → AreUnpictured runs → IsNeat text
+    → rows_of (trimmed (map (glyph_of false) (spelled (reverse runs) text))) ≡ map whole_row (cut_rows (map (glyph_of false) (spelled (reverse runs) text)))
+neat_rows runs text utf8 are plain neat =
+    let gs : List Glyph = map (glyph_of false) (spelled (reverse runs) text) in
+    let h : IsNeatFrom 10 (map char_of gs) = neat_glyphs (reverse runs) text utf8 are (turned_unpictured runs plain) neat in
     ap rows_of (neat_trimmed gs h) ∙ rows_all gs h
 
 -- so are the numbers of its links
-pub neat_numbers : (rs : List TextRun) (text : List ℕ) → IsUtf8 text → AreRuns rs text → IsNeat text → rows_numbers (trimmed (map (glyph_of false) (spelled rs text))) ≡ cut_numbers (cut_rows (map (glyph_of false) (spelled rs text)))
-neat_numbers rs text utf8 are neat =
-    let gs : List Glyph = map (glyph_of false) (spelled rs text) in
-    let h : IsNeatFrom 10 (map char_of gs) = neat_glyphs rs text utf8 are neat in
+pub neat_numbers : (runs : List TextRun) (text : List ℕ) → IsUtf8 text → AreRuns (reverse runs) text → AreUnpictured runs → IsNeat text
+    → rows_numbers (trimmed (map (glyph_of false) (spelled (reverse runs) text))) ≡ cut_numbers (cut_rows (map (glyph_of false) (spelled (reverse runs) text)))
+neat_numbers runs text utf8 are plain neat =
+    let gs : List Glyph = map (glyph_of false) (spelled (reverse runs) text) in
+    let h : IsNeatFrom 10 (map char_of gs) = neat_glyphs (reverse runs) text utf8 are (turned_unpictured runs plain) neat in
     ap rows_numbers (neat_trimmed gs h) ∙ numbers_all gs h
 
 -- ---- as a search finds it

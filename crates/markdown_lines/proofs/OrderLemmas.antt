@@ -5,15 +5,16 @@ use Rattle.std.specs.List.{AllByRecursion}
 use Rattle.std.specs.Str.{IsUtf8, IsCharBoundary}
 use Rattle.std.proofs.lemmas.List.{length-append, length-take, take_all, drop_all, drop_more, map-append, take-append-drop, reverse-append, reverse-reverse}
 use Rattle.std.proofs.lemmas.Str.{IsUtf8-take, IsCharBoundary-at_seam, IsCharBoundary-end}
+use Rattle.std.proofs.lemmas.List.Folds.{list_any_at}
 use Rattle.std.proofs.Math.Seq.{drop-append_seam}
-use Rattle.markdown_inlines.specs.Looks.{is_same, is_same_link, is_same_look}
+use Rattle.markdown_inlines.specs.Looks.{is_same, is_same_number, is_same_look}
 use Rattle.markdown_inlines.specs.Styled.{Shown, shown_with, spelled, goes_on, AreRuns}
 use Rattle.markdown_inlines.specs.declared.looks.Look.{Look}
 use Rattle.markdown_inlines.specs.declared.styled.TextRun.{TextRun}
-use Rattle.markdown_lines.specs.Glyphs.{glyph_of, is_same_run}
+use Rattle.markdown_lines.specs.Glyphs.{shown_in, glyph_of, is_same_run}
 use Rattle.mad_md.specs.Flagged.{Run}
 use Rattle.mad_md.specs.Lines.{LineContent}
-use Rattle.markdown_lines.specs.CutRows.{like, cut_rows, runs_row, whole_row, begun_rows, cut_numbers, BeginsApart, end_before, ahead, LooksApart, AreAhead}
+use Rattle.markdown_lines.specs.CutRows.{like, cut_rows, runs_row, whole_row, begun_rows, cut_numbers, BeginsApart, is_pictured, AreUnpictured, end_before, ahead, LooksApart, AreAhead}
 use Rattle.markdown_lines.specs.declared.glyphs.Glyph.{Glyph}
 use Rattle.markdown_lines.proofs.GlyphLemmas.{border_of}
 use Rattle.markdown_lines.proofs.RunLemmas.{slice_same, boundary_grows}
@@ -151,34 +152,46 @@ pub end_border : (runs : List TextRun) (text : List ℕ) → AreAhead runs text 
 end_border [] text h = IsCharBoundary-end text
 end_border (r ∷ rs) text h = h.1
 
--- characters of one look are like one of it
-pub look_glyphs : (bold : Bool) (look : Look) (d : ℕ) (cs : List ℕ) → map (glyph_of bold) (map (shown_with look) cs) ≡ map (like (glyph_of bold (shown_with look d))) cs
-look_glyphs bold look d [] = refl
-look_glyphs bold look d (c ∷ cs) = ap (λ (gs : List Glyph). glyph_of bold (shown_with look c) ∷ gs) (look_glyphs bold look d cs)
+look_glyph : (bold : Bool) (look : Look) (d c : ℕ) → is_some look.picture ≡ false → glyph_of bold (shown_with look c) ≡ like (glyph_of bold (shown_with look d)) c
+look_glyph bold look d c h = ap (λ (t : Bool). like (glyph_of bold (shown_with look d)) (shown_in t c)) h
 
-pub ahead_cons : (r : TextRun) (rs : List TextRun) (text : List ℕ) (d : ℕ)
+-- characters of one look are like one of it, where no picture says them
+pub look_glyphs : (bold : Bool) (look : Look) (d : ℕ) (cs : List ℕ) → is_some look.picture ≡ false → map (glyph_of bold) (map (shown_with look) cs) ≡ map (like (glyph_of bold (shown_with look d))) cs
+look_glyphs bold look d [] h = refl
+look_glyphs bold look d (c ∷ cs) h =
+    let g : Glyph = glyph_of bold (shown_with look d) in
+    ap (λ (x : Glyph). x ∷ map (glyph_of bold) (map (shown_with look) cs)) (look_glyph bold look d c h) ∙ ap (λ (gs : List Glyph). like g c ∷ gs) (look_glyphs bold look d cs h)
+
+-- a run of them is of no picture
+pub unpictured_at : (runs : List TextRun) (index : ℕ) (r : TextRun) → index < length runs → r ≡ get_or runs index r → AreUnpictured runs → is_pictured r ≡ false
+unpictured_at runs index r within is h = not_true (is_pictured r) (λ e. apart (sym (list_any_at is_pictured runs index r within (ap is_pictured (sym is) ∙ e)) ∙ h))
+
+pub ahead_cons : (r : TextRun) (rs : List TextRun) (text : List ℕ) (d : ℕ) → is_pictured r ≡ false
     → map (glyph_of false) (ahead (r ∷ rs) text) ≡ map (like (glyph_of false (shown_with r.look d))) (chars (slice_range text r.start (end_before rs text))) ++ map (glyph_of false) (ahead rs text)
 unfolding ahead
-ahead_cons r rs text d =
+ahead_cons r rs text d plain =
     let here : List ℕ = chars (slice_range text r.start (end_before rs text)) in
-    map-append (glyph_of false) (map (shown_with r.look) here) (ahead rs text) ∙ ap (λ (gs : List Glyph). gs ++ map (glyph_of false) (ahead rs text)) (look_glyphs false r.look d here)
+    map-append (glyph_of false) (map (shown_with r.look) here) (ahead rs text) ∙ ap (λ (gs : List Glyph). gs ++ map (glyph_of false) (ahead rs text)) (look_glyphs false r.look d here plain)
 
 pub ahead_nil : (text : List ℕ) → ahead [] text ≡ []
 unfolding ahead
 ahead_nil text = refl
 
-look_by : (b i c s l k : Bool) → ((b && i && c && s && l) && k) ≡ true → (b && i && s && c && k) ≡ true
-look_by true true true true true true h = refl
-look_by false i c s l k h = absurd (apart (sym h))
-look_by true false c s l k h = absurd (apart (sym h))
-look_by true true false s l k h = absurd (apart (sym h))
-look_by true true true false l k h = absurd (apart (sym h))
-look_by true true true true false k h = absurd (apart (sym h))
-look_by true true true true true false h = absurd (apart (sym h))
+look_by : (b i c s l p k n : Bool) → ((b && i && c && s && l && p && true) && k && n) ≡ true → (b && i && s && c && k && n) ≡ true
+look_by true true true true true true true true h = refl
+look_by false i c s l p k n h = absurd (apart (sym h))
+look_by true false c s l p k n h = absurd (apart (sym h))
+look_by true true false s l p k n h = absurd (apart (sym h))
+look_by true true true false l p k n h = absurd (apart (sym h))
+look_by true true true true false p k n h = absurd (apart (sym h))
+look_by true true true true true false k n h = absurd (apart (sym h))
+look_by true true true true true true false n h = absurd (apart (sym h))
+look_by true true true true true true true false h = absurd (apart (sym h))
 
 other_run : (a b : Look) (c d : ℕ) → is_same_look a b ≡ false → is_same_run (glyph_of false (shown_with a c)) (glyph_of false (shown_with b d)) ≡ false
 other_run a b c d h =
-    not_true _ (λ e. apart (sym (look_by (is_same a.bold b.bold) (is_same a.italic b.italic) (is_same a.code b.code) (is_same a.strikeout b.strikeout) (is_same (is_some a.link) (is_some b.link)) (is_same_link a.link b.link) e) ∙ h))
+    not_true _ (λ e. apart (sym (look_by (is_same a.bold b.bold) (is_same a.italic b.italic) (is_same a.code b.code) (is_same a.strikeout b.strikeout) (is_same (is_some a.link) (is_some b.link)) (is_same (is_some a.picture) (is_some b.picture)) (is_same_number a.link b.link)
+    (is_same_number a.picture b.picture) e) ∙ h))
 
 first_other : (g : Glyph) (look : Look) (cs : List ℕ) (more : List Glyph) → (0 < length cs) → ((c : ℕ) → is_same_run g (glyph_of false (shown_with look c)) ≡ false)
     → BeginsApart g (map (glyph_of false) (map (shown_with look) cs) ++ more)
@@ -212,16 +225,16 @@ at_ahead runs index r text within is utf8 h = subst (λ (l : List TextRun). AreA
 
 -- the characters of a run are put, and those of the runs behind it are to come
 pub run_step : {Z : Type 0} (A B : List Glyph → Z) (whole : Z) (runs : List TextRun) (index : ℕ) (r : TextRun) (g : Glyph) (text piece : List ℕ) → index < length runs → r ≡ get_or runs index r
-    → AreAhead (r ∷ drop (index + 1) runs) text → g ≡ glyph_of false (shown_with r.look 32) → piece ≡ slice_range text r.start (end_before (drop (index + 1) runs) text)
+    → is_pictured r ≡ false → AreAhead (r ∷ drop (index + 1) runs) text → g ≡ glyph_of false (shown_with r.look 32) → piece ≡ slice_range text r.start (end_before (drop (index + 1) runs) text)
     → ((rest : List Glyph) → BeginsApart g rest → A rest ≡ B (map (like g) (chars piece) ++ rest)) → B (map (glyph_of false) (ahead (drop index runs) text)) ≡ whole
     → A (map (glyph_of false) (ahead (drop (index + 1) runs) text)) ≡ whole
-run_step A B whole runs index r g text piece within is are g_is piece_is step h =
+run_step A B whole runs index r g text piece within is plain are g_is piece_is step h =
     let behind : List TextRun = drop (index + 1) runs in
     let rest : List Glyph = map (glyph_of false) (ahead behind text) in
     let first : BeginsApart g rest = subst (λ (x : Glyph). BeginsApart x rest) (sym g_is) (behind_apart r.look 32 behind text are.3 are.4) in
     step rest first ∙ ap (λ (t : List ℕ). B (map (like g) (chars t) ++ rest)) piece_is
     ∙ ap (λ (x : Glyph). B (map (like x) (chars (slice_range text r.start (end_before behind text))) ++ rest)) g_is
-    ∙ ap B (sym (ahead_cons r behind text 32) ∙ ap (λ (l : List TextRun). map (glyph_of false) (ahead l text)) (sym (run_at runs index r within is))) ∙ h
+    ∙ ap B (sym (ahead_cons r behind text 32 plain) ∙ ap (λ (l : List TextRun). map (glyph_of false) (ahead l text)) (sym (run_at runs index r within is))) ∙ h
 
 none_ahead : (runs : List TextRun) (index : ℕ) (text : List ℕ) → length runs ≤ index → map (glyph_of false) (ahead (drop index runs) text) ≡ []
 none_ahead runs index text past = ap (λ (l : List TextRun). map (glyph_of false) (ahead l text)) (drop_all index runs past) ∙ ap (map (glyph_of false)) (ahead_nil text)

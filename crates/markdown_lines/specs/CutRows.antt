@@ -1,5 +1,6 @@
 -- Rows straight from the runs of a text.
-use Rattle.std.specs.Prelude.{◌≡◌, ℕ, ◌-◌, ◌+◌, ◌<◌, Bool, true, false, ◌||◌, ◌==◌, List, [], ◌∷◌, ◌++◌, map, length, chars, get_or, slice_range, if◌then◌else◌}
+use Rattle.std.specs.Prelude.{◌≡◌, ℕ, ◌-◌, ◌+◌, ◌<◌, Bool, true, false, ◌||◌, ◌==◌, List, [], ◌∷◌, ◌++◌, map, length, chars, get_or, is_some, slice_range, if◌then◌else◌}
+use Rattle.std.specs.List.{list_any}
 use Rattle.std.specs.Str.{IsUtf8, IsCharBoundary}
 use Rattle.mad_md.specs.Flagged.{Run}
 use Rattle.mad_md.specs.Lines.{LineContent, normal}
@@ -31,7 +32,7 @@ pub record IsNeat (text : List ℕ) : Type 0 where
 
 -- a character that looks like this one
 abbrev pub like : Glyph → ℕ → Glyph
-like g c = record { c = c; flags = g.flags; link = g.link }
+like g c = record { c = c; flags = g.flags; link = g.link; picture = g.picture }
 
 -- rows, the first of which has one more character in front
 abbrev pub in_front : Glyph → List (List Glyph) → List (List Glyph)
@@ -75,6 +76,14 @@ abbrev pub piece_numbers : Glyph → List ℕ → List ℕ
 piece_numbers g text = if length text == 0 then [] else one_number g.link
 
 -- ---- runs in order
+
+-- a picture says the characters of a run
+abbrev pub is_pictured : TextRun → Bool
+is_pictured run = is_some run.look.picture
+
+-- no picture says characters of these runs
+abbrev pub AreUnpictured : List TextRun → Type 0
+AreUnpictured runs = list_any is_pictured runs ≡ false
 
 -- where the text before some runs ends
 abbrev pub end_before : List TextRun → List ℕ → ℕ

@@ -1,7 +1,7 @@
 -- Characters of a leaf, each with its flags.
 use Rattle.std.specs.Prelude.{ℕ, ◌-◌, Bool, false, not, ◌||◌, ◌&&◌, ◌==◌, List, [], ◌∷◌, ◌++◌, length, take, map, None, is_some, encode_utf8, if◌then◌else◌}
 use Rattle.std.specs.List.{suffix_len}
-use Rattle.markdown_inlines.specs.Looks.{is_same, is_same_link}
+use Rattle.markdown_inlines.specs.Looks.{is_same, is_same_number}
 use Rattle.markdown_inlines.specs.Styled.{Shown}
 use Rattle.markdown_inlines.specs.Inlines.{leaf_text}
 use Rattle.mad_md.specs.Flagged.{Run}
@@ -9,9 +9,16 @@ use Rattle.markdown_lines.specs.Runs.{flags_said}
 use Rattle.markdown_lines.specs.declared.glyphs.Glyph.{Glyph}
 use Rattle.markdown_lines.specs.declared.places.RunFlags.{RunFlags}
 
--- a character that is shown, bold where all are, and with the flag of a link and its number where it belongs to one
+-- a character as it is shown: in a picture a space for a break
+abbrev pub shown_in : Bool → ℕ → ℕ
+shown_in picture c = if picture && (c == 10) then 32 else c
+
+-- a character that is shown, bold where all are, with the flag of a link and its number where it belongs to one, and with those of a picture where one says it
 abbrev pub glyph_of : Bool → Shown → Glyph
-glyph_of bold s = record { c = s.char; flags = record { bold = bold || s.look.bold; italic = s.look.italic; code = s.look.code; strikeout = s.look.strikeout; link = is_some s.look.link }; link = s.look.link }
+glyph_of bold s =
+    let said : Bool = is_some s.look.picture in
+    let flags : RunFlags = record { bold = bold || s.look.bold; italic = s.look.italic; code = s.look.code; strikeout = s.look.strikeout; link = is_some s.look.link; picture = said; picture_sign = false } in
+    record { c = shown_in said s.char; flags = flags; link = s.look.link; picture = s.look.picture }
 
 -- the characters that are shown of a leaf with this text, with links to definitions with these labels
 abbrev pub leaf_glyphs : List (List ℕ) → Bool → List ℕ → List Glyph
@@ -36,7 +43,7 @@ trimmed gs = without_back (without_front gs)
 
 -- a space that has no flag, but is bold where all are
 abbrev pub space : Bool → Glyph
-space bold = record { c = 32; flags = record { bold = bold; italic = false; code = false; strikeout = false; link = false }; link = None }
+space bold = record { c = 32; flags = record { bold = bold; italic = false; code = false; strikeout = false; link = false; picture = false; picture_sign = false }; link = None; picture = None }
 
 -- some characters, those of a row that has begun, and then these, with a space for each break
 unfoldable pub spaced_from : Bool → List Glyph → List Glyph → List Glyph → List Glyph
@@ -47,11 +54,13 @@ spaced_from bold shown row (g ∷ gs) = if g.c == 10 then spaced_from bold ((sho
 
 -- both have the same flags
 abbrev pub is_same_flags : RunFlags → RunFlags → Bool
-is_same_flags a b = is_same a.bold b.bold && is_same a.italic b.italic && is_same a.code b.code && is_same a.strikeout b.strikeout && is_same a.link b.link
+is_same_flags a b =
+    is_same a.bold b.bold && is_same a.italic b.italic && is_same a.code b.code && is_same a.strikeout b.strikeout && is_same a.link b.link && is_same a.picture b.picture
+    && is_same a.picture_sign b.picture_sign
 
--- both have the same flags, and belong to the same link or to none
+-- both have the same flags, belong to the same link or to none, and are said by the same picture or by none
 abbrev pub is_same_run : Glyph → Glyph → Bool
-is_same_run a b = is_same_flags a.flags b.flags && is_same_link a.link b.link
+is_same_run a b = is_same_flags a.flags b.flags && is_same_number a.link b.link && is_same_number a.picture b.picture
 
 -- a run that has these flags and this text
 abbrev pub run_with : RunFlags → List ℕ → Run
@@ -62,7 +71,7 @@ unfoldable pub runs_from : Glyph → List ℕ → List Glyph → List Run
 runs_from first text [] = run_with first.flags text ∷ []
 runs_from first text (g ∷ gs) = if is_same_run first g then runs_from first (text ++ encode_utf8 g.c) gs else run_with first.flags text ∷ runs_from g (encode_utf8 g.c) gs
 
--- characters as runs: neighbours that have the same flags and are of one link are one
+-- characters as runs: neighbours that have the same flags, are of one link and of one picture are one
 abbrev pub runs_of : List Glyph → List Run
 runs_of [] = []
 runs_of (g ∷ gs) = runs_from g (encode_utf8 g.c) gs

@@ -3,8 +3,9 @@ use Rattle.std.specs.Prelude.{ℕ, List, [], map, Option, Some, None, slice_get}
 use Rattle.markdown_inlines.specs.Inlines.{leaf_links}
 use Rattle.markdown_inlines.specs.declared.inlines.LinkTarget.{LinkTarget}
 use Rattle.markdown_inlines.specs.declared.inlines.LinkTarget.TheVariants.{Definition, Inline, Address}
-use Rattle.markdown_destinations.specs.Destinations.{Leads, link_leads, text_of}
-use Rattle.markdown_destinations.specs.Parts.{defined_destination}
+use Rattle.markdown_destinations.specs.Destinations.{Leads, link_leads}
+use Rattle.markdown_link_parts.specs.Parts.{defined_destination}
+use Rattle.markdown_link_parts.specs.Texts.{text_of}
 use Rattle.markdown_lines.specs.Leaf.{shown_text}
 
 -- the labels of definitions, as they are compared, and where each of these leads

@@ -7,7 +7,7 @@ use Rattle.markdown_lines.specs.declared.places.RunPlace.{RunPlace}
 
 -- the flags that a run has
 abbrev pub flags_said : RunFlags → Flags
-flags_said flags = record { bold = flags.bold; italic = flags.italic; code = flags.code; strikeout = flags.strikeout; link = flags.link }
+flags_said flags = record { bold = flags.bold; italic = flags.italic; code = flags.code; strikeout = flags.strikeout; link = flags.link; picture = flags.picture; picture_sign = flags.picture_sign }
 
 -- the run at its place in a text
 abbrev pub run_said : List ℕ → RunPlace → Run

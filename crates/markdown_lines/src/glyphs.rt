@@ -2,9 +2,9 @@
 
 ghost use Rattle.std.specs.Prelude.{◌≡◌, ◌++◌, ◌∷◌, [], IfOk, OnOk, map, chars, reverse};
 ghost use Rattle.markdown_inlines.specs.Styled.{shown_with, spelled_of, IsStyled};
-ghost use Rattle.markdown_lines.specs.Glyphs.{glyph_of, is_edge, is_same_run, without_front, without_back, trimmed, space, spaced_from};
+ghost use Rattle.markdown_lines.specs.Glyphs.{glyph_of, is_edge, shown_in, is_same_run, without_front, without_back, trimmed, space, spaced_from};
 
-use crate::places::{RunFlags, is_same_flags, is_same_link};
+use crate::places::{RunFlags, is_same_flags, is_same_number};
 use markdown_inlines::looks::Look;
 use markdown_inlines::styled::Styled;
 use std::alloc::{AllocError, Global};
@@ -16,22 +16,35 @@ pub struct Glyph {
     pub flags: RunFlags,
     /// The number of the link that it belongs to, among those of its leaf.
     pub link: Option<usize>,
+    /// The number of the picture that says it, among those of its leaf.
+    pub picture: Option<usize>,
 }
 
-// A character of this look, bold where all are. Where it belongs to a link, it has that flag and the link's number.
+// The character as it is shown: in a picture a space for a break.
+fn shown_in(picture: bool, c: char) -> char
+    ensures { result ≡ shown_in picture c }
+{
+    if picture && c == '\n' { ' ' } else { c }
+}
+
+// A character of this look, bold where all are. Where it belongs to a link, it has that flag and the link's number; where a picture says it, that of
+// the picture and its number.
 pub(crate) fn glyph_of(bold: bool, look: &Look, c: char) -> Glyph
     ensures { result ≡ glyph_of bold (shown_with look.now c) }
 {
     Glyph {
-        c,
+        c: shown_in(look.picture.is_some(), c),
         flags: RunFlags {
             bold: bold || look.bold,
             italic: look.italic,
             code: look.code,
             strikeout: look.strikeout,
             link: look.link.is_some(),
+            picture: look.picture.is_some(),
+            picture_sign: false,
         },
         link: look.link,
+        picture: look.picture,
     }
 }
 
@@ -66,11 +79,13 @@ pub fn glyphs_of(alloc: Global, bold: bool, styled: &Styled) -> Result<Vec<Glyph
     Ok(glyphs)
 }
 
-// Whether both characters have the same flags, and belong to the same link or to none.
+// Whether both characters have the same flags, belong to the same link or to none, and are said by the same picture or by none.
 pub(crate) fn is_same_run(a: Glyph, b: Glyph) -> bool
     ensures { result ≡ is_same_run a b }
 {
-    is_same_flags(a.flags, b.flags) && is_same_link(a.link, b.link)
+    is_same_flags(a.flags, b.flags)
+        && is_same_number(a.link, b.link)
+        && is_same_number(a.picture, b.picture)
 }
 
 // Whether it isn't shown at the ends of a row: a break, and a space but in code.
@@ -118,12 +133,10 @@ fn space(bold: bool) -> Glyph
         c: ' ',
         flags: RunFlags {
             bold,
-            italic: false,
-            code: false,
-            strikeout: false,
-            link: false,
+            ..RunFlags::NONE
         },
         link: None,
+        picture: None,
     }
 }
 

@@ -1,9 +1,10 @@
 //! What is shown of a leaf's text.
 
 ghost use Rattle.std.specs.Prelude.{◌≡◌, ◌<◌, ◌+◌, [], ◌∷◌, ◌++◌, IfOk, OnOk, IsTrue, false, length, map, string_bytes};
+ghost use Rattle.std.specs.List.{list_any};
 ghost use Rattle.markdown_inlines.specs.Styled.{spelled_of, IsStyled};
 ghost use Rattle.markdown_lines.specs.Glyphs.{glyph_of, trimmed};
-ghost use Rattle.markdown_lines.specs.CutRows.{is_blank, IsAlone, IsNeat, whole_row, cut_rows, cut_numbers};
+ghost use Rattle.markdown_lines.specs.CutRows.{is_blank, is_pictured, AreUnpictured, IsAlone, IsNeat, whole_row, cut_rows, cut_numbers};
 ghost use Rattle.markdown_lines.specs.Leaf.{shown_text, plain_row, row_of, rows_of, leaf_rows, cell_runs, html_row, html_lines};
 ghost use Rattle.markdown_lines.specs.LinkNumbers.{after_links, cell_numbers, leaf_numbers, row_numbers, rows_numbers};
 ghost use Rattle.markdown_lines.specs.Links.{leaf_addresses};
@@ -20,7 +21,7 @@ use mad_md::CompositeStyle;
 use markdown_html_text::rows::html_rows;
 use markdown_inlines::inlines::leaf_text;
 use markdown_inlines::printable::shown_char;
-use markdown_inlines::styled::Styled;
+use markdown_inlines::styled::{Styled, TextRun};
 use memchr::memchr;
 use std::alloc::{AllocError, Global};
 
@@ -125,12 +126,23 @@ fn is_neat(text: &[u8]) -> bool
     true
 }
 
-// Whether the rows of a text are those that breaks cut, and nothing is trimmed.
+// Whether a picture says characters of these runs.
+fn have_pictures(runs: &[TextRun]) -> bool
+    ensures { result ≡ list_any is_pictured runs.now }
+{
+    runs.iter().any(|run| run.look.picture.is_some())
+}
+
+// Whether the rows of a text are those that breaks cut, and nothing is trimmed. No picture says any of it: there a break is a space.
 fn is_cut(styled: &Styled) -> bool
     requires { IsStyled styled.now }
+    ensures unpictured { IsTrue result → AreUnpictured styled.now.runs.items }
     ensures rows { IsTrue result → rows_of (trimmed (map (glyph_of false) (spelled_of styled.now))) ≡ map whole_row (cut_rows (map (glyph_of false) (spelled_of styled.now))) }
     ensures numbers { IsTrue result → rows_numbers (trimmed (map (glyph_of false) (spelled_of styled.now))) ≡ cut_numbers (cut_rows (map (glyph_of false) (spelled_of styled.now))) }
 {
+    if have_pictures(styled.runs.as_slice()) {
+        return false;
+    }
     is_neat(styled.text.as_str().as_bytes())
 }
 

@@ -12,7 +12,7 @@ ghost use Rattle.markdown_lines.specs.LinksOf.{defined_of};
 ghost use Rattle.markdown_lines.specs.Lines.{line_said, range_of, line_within, all_within};
 ghost use Rattle.std.specs.Prelude.{List, chars, drop};
 ghost use Rattle.markdown_inlines.specs.Styled.{spelled_of, IsStyled};
-ghost use Rattle.markdown_lines.specs.CutRows.{like, cut_rows, runs_row, whole_row, begun_rows, cut_numbers, piece_runs, piece_numbers, end_before, BeginsApart};
+ghost use Rattle.markdown_lines.specs.CutRows.{AreUnpictured, like, cut_rows, runs_row, whole_row, begun_rows, cut_numbers, piece_runs, piece_numbers, end_before, BeginsApart};
 ghost use Rattle.markdown_lines.specs.declared.glyphs.Glyph.{Glyph};
 ghost use Rattle.markdown_lines.specs.Restyled.{restyled};
 ghost use Rattle.markdown_lines.specs.Printed.{ArePrinted};
@@ -211,13 +211,14 @@ impl Lines {
         Ok(from)
     }
 
-    /// Adds a paragraph's line for each row of a text of runs.
+    /// Adds a paragraph's line for each row of a text of runs. No picture says any of it.
     pub(crate) fn push_styled(
         &mut self,
         numbers: &mut Vec<usize>,
         styled: &Styled,
     ) -> Result<(), AllocError>
-        requires { IsStyled styled.now }
+        requires styled { IsStyled styled.now }
+        requires unpictured { AreUnpictured styled.now.runs.items }
         ensures rows { OnOk result (shown self.new ≡ shown self.old ++ map whole_row (cut_rows (map (glyph_of false) (spelled_of styled.now)))) }
         ensures numbers { OnOk result (numbers.new.items ≡ numbers.old.items ++ cut_numbers (cut_rows (map (glyph_of false) (spelled_of styled.now)))) }
     {

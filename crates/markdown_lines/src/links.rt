@@ -6,9 +6,10 @@ ghost use Rattle.markdown_lines.specs.LinksOf.{link_of};
 
 use crate::leaf::shown_text;
 use markdown_brackets::labels::Labels;
-use markdown_destinations::destinations::{link_leads, text_of};
-use markdown_destinations::parts::defined_destination;
+use markdown_destinations::destinations::link_leads;
 use markdown_inlines::inlines::LinkTarget;
+use markdown_link_parts::parts::defined_destination;
+use markdown_link_parts::texts::text_of;
 use std::alloc::{AllocError, Global};
 
 /// The definitions of a text.

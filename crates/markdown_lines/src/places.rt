@@ -2,7 +2,7 @@
 
 ghost use Rattle.std.specs.Prelude.{◌≡◌};
 ghost use Rattle.mad_md.specs.Flagged;
-ghost use Rattle.markdown_inlines.specs.Looks.{is_same, is_same_link};
+ghost use Rattle.markdown_inlines.specs.Looks.{is_same, is_same_number};
 ghost use Rattle.markdown_lines.specs.Glyphs.{is_same_flags};
 ghost use Rattle.markdown_lines.specs.Runs.{flags_said};
 
@@ -16,6 +16,10 @@ pub struct RunFlags {
     pub code: bool,
     pub strikeout: bool,
     pub link: bool,
+    /// Whether it is what is said of a picture.
+    pub picture: bool,
+    /// Whether it is the sign in front of that. No run of Markdown is.
+    pub picture_sign: bool,
 }
 
 impl RunFlags {
@@ -26,6 +30,8 @@ impl RunFlags {
         code: false,
         strikeout: false,
         link: false,
+        picture: false,
+        picture_sign: false,
     };
 }
 
@@ -54,6 +60,8 @@ pub(crate) fn flags_of(compound: Compound<'_>) -> RunFlags
         code: compound.code,
         strikeout: compound.strikeout,
         link: compound.link,
+        picture: compound.picture,
+        picture_sign: compound.picture_sign,
     }
 }
 
@@ -73,11 +81,13 @@ pub(crate) fn is_same_flags(a: RunFlags, b: RunFlags) -> bool
         && is_same(a.code, b.code)
         && is_same(a.strikeout, b.strikeout)
         && is_same(a.link, b.link)
+        && is_same(a.picture, b.picture)
+        && is_same(a.picture_sign, b.picture_sign)
 }
 
-// Whether both are the same link, or none.
-pub(crate) fn is_same_link(a: Option<usize>, b: Option<usize>) -> bool
-    ensures { result ≡ is_same_link a b }
+// Whether both are the same number, or none.
+pub(crate) fn is_same_number(a: Option<usize>, b: Option<usize>) -> bool
+    ensures { result ≡ is_same_number a b }
 {
     match (a, b) {
         (Some(a), Some(b)) => a == b,

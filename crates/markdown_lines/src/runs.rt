@@ -68,6 +68,8 @@ impl Runs {
             code: place.flags.code,
             strikeout: place.flags.strikeout,
             link: place.flags.link,
+            picture: place.flags.picture,
+            picture_sign: place.flags.picture_sign,
         })
     }
 

@@ -14,7 +14,7 @@ use Rattle.markdown_reader.specs.Mapping.{LinkSaid}
 use Rattle.markdown_layout.specs.WrittenPages.{IsDressedAt}
 use Rattle.markdown_linked_pages.specs.LinkedPages.{addresses_of, linked_page, linked_rows_bytes, linked_text_bytes}
 use Rattle.mad_dressing.specs.Dressed.{dressed, dressed_page}
-use Rattle.mad_dressing.specs.declared.heading_marks.HeadingMarks.{HeadingMarks}
+use Rattle.mad_dressing.specs.declared.page_marks.PageMarks.{PageMarks}
 use Rattle.mad_pages.proofs.PageLemmas.{LaidSoFar, laid_none, laid_on, laid_whole}
 use Rattle.mad_page_rows.specs.Faces.{has_ascii_boxes}
 
@@ -70,7 +70,7 @@ rule_laid {T} {E} (Ok x) written skin width shown s rule before mid now is (own,
 rule_laid {T} {E} (Err x) written skin width shown s rule before mid now is h k = tt
 
 -- the rows of what is shown of one more section of a text are put behind the others
-pub dressed_on : (written : RowContent → List ℕ) (skin : RowSkin) (marks : HeadingMarks) (width : Option ℕ) (all left after : List SectionContent) (s : SectionContent) (start before now : List ℕ) (own : List RowContent)
+pub dressed_on : (written : RowContent → List ℕ) (skin : RowSkin) (marks : PageMarks) (width : Option ℕ) (all left after : List SectionContent) (s : SectionContent) (start before now : List ℕ) (own : List RowContent)
     → WrittenSoFar written skin width (dressed_page marks all) (dressed_page marks left) start before → left ≡ s ∷ after → IsPageAt (line_rules skin) (has_ascii_boxes skin) width (dressed marks s) own → now ≡ before ++ flat_map written own
     → WrittenSoFar written skin width (dressed_page marks all) (dressed_page marks after) start now
 dressed_on written skin marks width all left after s start before now own h joins page bytes =

@@ -13,7 +13,7 @@ ghost use Rattle.markdown_linked_pages.specs.LinkedPages.{ended_pieces, linked_r
 use crate::link_marks::with_link_marks;
 use crate::linked_rows::{LinkedSkin, append_linked_row, lead};
 use crate::row_ends::take_ends;
-use mad_dressing::{HeadingMarks, dress, dressing_of};
+use mad_dressing::{PageMarks, dress, dressing_of};
 use mad_links::push_end;
 use mad_mark_runs::MarkRun;
 use mad_page_rows::has_ascii_boxes;
@@ -115,8 +115,8 @@ pub fn append_linked_section(
 pub(crate) struct LinkedText<'a> {
     /// What its rows are drawn in.
     pub skin: LinkedSkin<'a>,
-    /// What stands beside its headings.
-    pub headings: HeadingMarks,
+    /// What stands in its page and isn't its own.
+    pub marks: PageMarks,
     /// The columns of its rows, if there is a width.
     pub width: Option<usize>,
 }
@@ -129,9 +129,9 @@ fn append_linked_dressed(
     text: LinkedText<'_>,
     commands: &mut StyleCommands,
 ) -> Result<(), AllocError>
-    ensures { OnOk result ((own : List RowContent) × IsPageAt (line_rules text.entry.skin.skin.now) (has_ascii_boxes text.entry.skin.skin.now) text.entry.width (dressed text.entry.headings (section_content section.entry)) own × (string_bytes rows.new ≡ string_bytes rows.old ++ linked_rows_bytes text.entry.skin.addresses.now text.entry.skin.skin.now text.entry.width own)) }
+    ensures { OnOk result ((own : List RowContent) × IsPageAt (line_rules text.entry.skin.skin.now) (has_ascii_boxes text.entry.skin.skin.now) text.entry.width (dressed text.entry.marks (section_content section.entry)) own × (string_bytes rows.new ≡ string_bytes rows.old ++ linked_rows_bytes text.entry.skin.addresses.now text.entry.skin.skin.now text.entry.width own)) }
 {
-    let dressing = dressing_of(alloc, &section, text.headings)?;
+    let dressing = dressing_of(alloc, &section, text.marks)?;
     let dressed = dress(alloc, section, &dressing)?;
     append_linked_section(
         alloc,
@@ -156,7 +156,7 @@ pub(crate) fn append_marked_section(
     text: LinkedText<'_>,
     commands: &mut StyleCommands,
 ) -> Result<(), AllocError>
-    ensures { OnOk result ((own : List RowContent) × IsPageAt (line_rules text.entry.skin.skin.now) (has_ascii_boxes text.entry.skin.skin.now) text.entry.width (dressed text.entry.headings (with_link_marks marks.now (section_content section.entry))) own × (string_bytes rows.new ≡ string_bytes rows.old ++ linked_rows_bytes text.entry.skin.addresses.now text.entry.skin.skin.now text.entry.width own)) }
+    ensures { OnOk result ((own : List RowContent) × IsPageAt (line_rules text.entry.skin.skin.now) (has_ascii_boxes text.entry.skin.skin.now) text.entry.width (dressed text.entry.marks (with_link_marks marks.now (section_content section.entry))) own × (string_bytes rows.new ≡ string_bytes rows.old ++ linked_rows_bytes text.entry.skin.addresses.now text.entry.skin.skin.now text.entry.width own)) }
 {
     let marked = with_link_marks(section, marks);
     append_linked_dressed(alloc, rows, marked, text, commands)

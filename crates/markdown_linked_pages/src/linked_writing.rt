@@ -78,7 +78,7 @@ fn append_linked_text(
             skin: &row_skin,
             addresses,
         },
-        headings: skin.headings,
+        marks: skin.marks(),
         width,
     };
     let links = read.links();

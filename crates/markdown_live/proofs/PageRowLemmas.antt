@@ -4,14 +4,14 @@ use Rattle.std.specs.List.{AllByRecursion, flat_map}
 use Rattle.std.proofs.lemmas.Grind.{flat_map-append}
 use Rattle.std.proofs.lemmas.List.{take_all}
 use Rattle.mad_dressing.specs.Dressed.{dressed_page}
-use Rattle.mad_dressing.specs.declared.heading_marks.HeadingMarks.{HeadingMarks}
+use Rattle.mad_dressing.specs.declared.page_marks.PageMarks.{PageMarks}
 use Rattle.mad_dressing.proofs.DressLemmas.{pages_dressed}
 use Rattle.mad_format.proofs.ListLemmas.{both_become, become_apart}
 use Rattle.mad_live.specs.LiveRows.{AreRows, AreWhole, IsRow, rows_in}
 use Rattle.mad_live.proofs.RowLemmas.{all_both, last-append, last_after, rows_after, whole_both, whole_nothing}
 use Rattle.mad_live.proofs.StepLemmas.{row_nothing}
 use Rattle.mad_page_rows.specs.Faces.{has_ascii_boxes, page_row_bytes}
-use Rattle.mad_page_skin.specs.PageSkins.{page_row_skin}
+use Rattle.mad_page_skin.specs.PageSkins.{page_marks, page_row_skin}
 use Rattle.mad_page_skin.specs.declared.page_skin.PageSkin.{PageSkin}
 use Rattle.mad_pages.specs.PageLayouts.{BecomesAt, IsPageAt}
 use Rattle.mad_pages.specs.PageRows.{RowContent}
@@ -32,7 +32,7 @@ no_rows skin width = ([], refl, refl)
 pub rows_joined : (skin : PageSkin) (width : Option ℕ) (a b : List SectionContent) (x y : List ℕ) → ArePageRows skin width a x → ArePageRows skin width b y → ArePageRows skin width (a ++ b) (x ++ y)
 rows_joined skin width a b x y h k =
     let row_skin : RowSkin = page_row_skin skin in
-    let marks : HeadingMarks = skin.headings in (
+    let marks : PageMarks = page_marks skin in (
       h.0 ++ k.0,
       subst (λ (page : List SectionContent). IsPageAt (line_rules row_skin) (has_ascii_boxes row_skin) width page (h.0 ++ k.0)) (sym (pages_dressed marks a b))
           (both_become (BecomesAt (line_rules row_skin) (has_ascii_boxes row_skin) width) (dressed_page marks a) (dressed_page marks b) h.0 k.0 h.1 k.1),
@@ -43,7 +43,7 @@ rows_joined skin width a b x y h k =
 pub rows_apart : (skin : PageSkin) (width : Option ℕ) (a b : List SectionContent) (z : List ℕ) → ArePageRows skin width (a ++ b) z → (x : List ℕ) × (y : List ℕ) × (z ≡ x ++ y) × ArePageRows skin width a x × ArePageRows skin width b y
 rows_apart skin width a b z h =
     let row_skin : RowSkin = page_row_skin skin in
-    let marks : HeadingMarks = skin.headings in
+    let marks : PageMarks = page_marks skin in
     let parts = become_apart (BecomesAt (line_rules row_skin) (has_ascii_boxes row_skin) width) (dressed_page marks a) (dressed_page marks b) h.0
     (subst (λ (page : List SectionContent). IsPageAt (line_rules row_skin) (has_ascii_boxes row_skin) width page h.0) (pages_dressed marks a b) h.1) in (
       dressed_bytes skin width parts.0,

@@ -1,4 +1,4 @@
--- The rows of Markdown, with the rules and signs of its headings and with marks at its words, show its sections.
+-- The rows of Markdown, with the rules and signs of its headings, with marks at its words and signs in front of its pictures, show its sections.
 use Rattle.std.proofs.Common.{◌≡◌, inl, inr, ℕ, ◌-◌, ◌^◌, ◌<◌, ◌≤◌, nat_lt, ◌==◌, Bool, true, false, not, ◌&&◌, List, [], ◌∷◌, ◌++◌, map, length, Option, Some, None, if◌then◌else◌, refl, ap, sym, ◌∙◌, subst, append-nil, append_assoc, ⊎_elim}
 use Rattle.std.specs.List.{AllByRecursion, flat_map}
 use Rattle.std.proofs.lemmas.List.{map-append}
@@ -18,11 +18,13 @@ use Rattle.mad_sections.specs.declared.gutters.Gutter.TheVariants.{Below, Signs}
 use Rattle.mad_sections.proofs.Choices.{by_bool}
 use Rattle.mad_sections.proofs.KeptLemmas.{stays_when}
 use Rattle.mad_dressing.specs.DressLaws.{IsRuled, IsSigned}
-use Rattle.mad_dressing.specs.Dressed.{Beside, nothing, rule_below, signs_before, beside_at, dressed, dressed_page, heading_level, placed_by, rule_behind, signed}
+use Rattle.mad_dressing.specs.Dressed.{Beside, nothing, rule_below, signs_before, beside_at, dressed, dressed_page, filled, heading_level, placed_by, rule_behind, signed}
+use Rattle.mad_dressing.specs.PictureSigns.{pictured, pictured_line, sign_for}
 use Rattle.mad_dressing.specs.WordMarks.{begin_code, begins_strong, end_flags, marked_lines, worded, worded_if}
 use Rattle.mad_dressing.specs.declared.heading_marks.HeadingMarks.{HeadingMarks}
+use Rattle.mad_dressing.specs.declared.page_marks.PageMarks.{PageMarks}
 use Rattle.mad_dressing.proofs.DressLemmas.{adds_marks_alone}
-use Rattle.mad_dressing.proofs.MarkLemmas.{worded_lines}
+use Rattle.mad_dressing.proofs.SignLemmas.{filled_lines}
 use Rattle.mad_pages.specs.PageLayouts.{IsPageAt}
 use Rattle.mad_pages.specs.PageRows.{RowContent}
 use Rattle.markdown_reader.specs.Markdown.{markdown_sections}
@@ -74,6 +76,46 @@ table_by false s h = h
 worded_table : (words : Bool) (s : SectionContent) → IsTableOrNone s → IsTableOrNone (worded words s)
 worded_table words s h = table_by (words && not (begin_code s.lines)) s h
 
+-- ---- signs in front of pictures
+
+pictured_level : (sign : Option (List ℕ)) (s : SectionContent) → heading_level (pictured sign s).lines ≡ heading_level s.lines
+pictured_level None s = refl
+pictured_level (Some sign) s = level_of_lines s.lines
+  where
+    level_of_lines : (lines : List LineContent) → heading_level (map (pictured_line sign) lines) ≡ heading_level lines
+    level_of_lines [] = refl
+    level_of_lines (normal said ∷ lines) = refl
+    level_of_lines (table_row cells ∷ lines) = refl
+    level_of_lines (table_rule aligns ∷ lines) = refl
+    level_of_lines (horizontal_rule ∷ lines) = refl
+
+-- a heading is one of the same level with marks and signs
+filled_level : (marks : PageMarks) (s : SectionContent) → heading_level (filled marks s).lines ≡ heading_level s.lines
+filled_level marks s = pictured_level (sign_for marks.sign s.lines) (worded marks.headings.words s) ∙ worded_level marks.headings.words s
+
+signed_table : (sign : List ℕ) (lines : List LineContent) → are_table (map (pictured_line sign) lines) ≡ are_table lines
+signed_table sign [] = refl
+signed_table sign (normal said ∷ lines) = refl
+signed_table sign (table_row cells ∷ lines) = signed_table sign lines
+signed_table sign (table_rule aligns ∷ lines) = signed_table sign lines
+signed_table sign (horizontal_rule ∷ lines) = refl
+
+signed_none : (sign : List ℕ) (lines : List LineContent) → HaveNoRow lines → HaveNoRow (map (pictured_line sign) lines)
+signed_none sign [] h = tt
+signed_none sign (normal said ∷ lines) h = (tt, signed_none sign lines h.1)
+signed_none sign (table_row cells ∷ lines) h = absurd h.0
+signed_none sign (table_rule aligns ∷ lines) h = (tt, signed_none sign lines h.1)
+signed_none sign (horizontal_rule ∷ lines) h = (tt, signed_none sign lines h.1)
+
+pictured_table : (sign : Option (List ℕ)) (s : SectionContent) → IsTableOrNone s → IsTableOrNone (pictured sign s)
+pictured_table None s h = h
+pictured_table (Some sign) s (inl none) = inl (signed_none sign s.lines none)
+pictured_table (Some sign) s (inr (table, list)) = inr (signed_table sign s.lines ∙ table, list)
+
+-- a table is one with marks and signs, and what has no row of one has none with them
+filled_table : (marks : PageMarks) (s : SectionContent) → IsTableOrNone s → IsTableOrNone (filled marks s)
+filled_table marks s h = pictured_table (sign_for marks.sign s.lines) (worded marks.headings.words s) (worded_table marks.headings.words s h)
+
 -- ---- rules below headings
 
 -- the rows of a rule are one rule
@@ -109,15 +151,15 @@ put_shown rules ascii width (rule_below gutters) s rows h (own, others, joins, k
 put_shown rules ascii width (signs_before gutters) s rows h (own, others, joins, kept, none) = (own, others, joins, (section_shows rules ascii width (signed gutters s) own h kept).0, ap lines_of_rows none)
 
 -- what becomes of a section with its rule or signs
-abbrev KeepsDressed : LineRules → Bool → ℕ → HeadingMarks → SectionContent → List RowContent → Type 0
+abbrev KeepsDressed : LineRules → Bool → ℕ → PageMarks → SectionContent → List RowContent → Type 0
 KeepsDressed rules ascii width marks s rows = EachBecomes (KeepsShown rules ascii width) (dressed marks s) rows
 
-dressed_shown : (rules : LineRules) (ascii : Bool) (width : ℕ) (marks : HeadingMarks) (s : SectionContent) (rows : List RowContent) → IsTableOrNone s → KeepsDressed rules ascii width marks s rows → ShowDressed marks s rows
+dressed_shown : (rules : LineRules) (ascii : Bool) (width : ℕ) (marks : PageMarks) (s : SectionContent) (rows : List RowContent) → IsTableOrNone s → KeepsDressed rules ascii width marks s rows → ShowDressed marks s rows
 dressed_shown rules ascii width marks s rows h kept =
-    let own : SectionContent = worded marks.words s in
-    let beside : Beside = beside_at marks s.gutters (heading_level s.lines) in
-    let above : ShowAbove (lines_put beside) own rows = put_shown rules ascii width beside own rows (worded_table marks.words s h) kept in
-    (above.0, above.1, above.2, above.3, worded_lines marks.words s, above.4 ∙ put_is marks s.gutters (heading_level s.lines))
+    let own : SectionContent = filled marks s in
+    let beside : Beside = beside_at marks.headings s.gutters (heading_level s.lines) in
+    let above : ShowAbove (lines_put beside) own rows = put_shown rules ascii width beside own rows (filled_table marks s h) kept in
+    (above.0, above.1, above.2, above.3, filled_lines marks.sign marks.headings.words s, above.4 ∙ put_is marks.headings s.gutters (heading_level s.lines))
 
 -- what becomes of each section has what follows of it, where each is a table that may be a list, or has no row of one
 each_shown : (becomes shows : SectionContent → List RowContent → Type 0) → ((s : SectionContent) (own : List RowContent) → IsTableOrNone s → becomes s own → shows s own)
@@ -126,7 +168,7 @@ each_shown becomes shows each [] rows h kept = kept
 each_shown becomes shows each (s ∷ sections) rows h (here, there, joins, one, more) = (here, there, joins, each s here h.0 one, each_shown becomes shows each sections there h.1 more)
 
 -- what follows of the rows of each section of a text, with its rule or signs
-pub source_shows : (marks : HeadingMarks) (source : List ℕ) (rules : LineRules) (ascii : Bool) (width : ℕ) (shows : SectionContent → List RowContent → Type 0)
+pub source_shows : (marks : PageMarks) (source : List ℕ) (rules : LineRules) (ascii : Bool) (width : ℕ) (shows : SectionContent → List RowContent → Type 0)
     → ((s : SectionContent) (own : List RowContent) → IsTableOrNone s → KeepsDressed rules ascii width marks s own → shows s own)
     → (rows : List RowContent) → EachBecomes (KeepsShown rules ascii width) (dressed_page marks (markdown_sections source)) rows → EachBecomes shows (markdown_sections source) rows
 source_shows marks source rules ascii width shows each rows kept =
@@ -175,37 +217,37 @@ headed_rule (line ∷ lines) level rows h shown = rule_below_last line lines row
 abbrev Tells : LineRules → Bool → ℕ → SectionContent → List RowContent → Type 0
 Tells rules ascii width s rows = EachBecomes IsShownBy (lines_of (unfolded rules.whole_words ascii (Some width) s)) (lines_of_rows rows)
 
-ruled_tells : (rules : LineRules) (ascii : Bool) (width : ℕ) (marks : HeadingMarks) (s : SectionContent) (rows : List RowContent) → IsTableOrNone s → IsRuled marks s (dressed marks s) → KeepsDressed rules ascii width marks s rows
-    → Tells rules ascii width (worded marks.words s) rows
+ruled_tells : (rules : LineRules) (ascii : Bool) (width : ℕ) (marks : PageMarks) (s : SectionContent) (rows : List RowContent) → IsTableOrNone s → IsRuled marks s (dressed marks s) → KeepsDressed rules ascii width marks s rows
+    → Tells rules ascii width (filled marks s) rows
 ruled_tells rules ascii width marks s rows h ruled kept =
     let gutters : List Gutter = s.gutters ++ Below ruled.level ∷ [] in
     let two = subst (λ (all : List SectionContent). EachBecomes (KeepsShown rules ascii width) all rows) ruled.shown_are kept in
-    let said : SectionContent = worded marks.words s in
-    let heading = worded_level marks.words s ∙ ruled.heading in
+    let said : SectionContent = filled marks s in
+    let heading = filled_level marks s ∙ ruled.heading in
     let same = heading_lines rules.whole_words ascii width said ruled.level heading in
-    let own = subst (λ (lines : List LineContent). EachBecomes IsShownBy lines (lines_of_rows two.0)) same (section_shows rules ascii width said two.0 (worded_table marks.words s h) two.3).1 in
+    let own = subst (λ (lines : List LineContent). EachBecomes IsShownBy lines (lines_of_rows two.0)) same (section_shows rules ascii width said two.0 (filled_table marks s h) two.3).1 in
     let rule = rule_alone rules ascii width gutters two.1 (one_becomes (KeepsShown rules ascii width) (rule_behind gutters) two.1 two.4) in
     let joins : lines_of_rows rows ≡ lines_of_rows two.0 ++ HorizontalRule ∷ [] =
     ap lines_of_rows two.2 ∙ map-append (λ (row : RowContent). row.line) two.0 two.1 ∙ ap (λ (l : List FmtLine). lines_of_rows two.0 ++ l) rule in
     subst (λ (lines : List LineContent). EachBecomes IsShownBy lines (lines_of_rows rows)) (sym same)
     (subst (EachBecomes IsShownBy said.lines) (sym joins) (headed_rule said.lines ruled.level (lines_of_rows two.0) heading own))
 
-signed_tells : (rules : LineRules) (ascii : Bool) (width : ℕ) (marks : HeadingMarks) (s : SectionContent) (rows : List RowContent) → IsTableOrNone s → IsSigned marks s (dressed marks s) → KeepsDressed rules ascii width marks s rows
-    → Tells rules ascii width (worded marks.words s) rows
+signed_tells : (rules : LineRules) (ascii : Bool) (width : ℕ) (marks : PageMarks) (s : SectionContent) (rows : List RowContent) → IsTableOrNone s → IsSigned marks s (dressed marks s) → KeepsDressed rules ascii width marks s rows
+    → Tells rules ascii width (filled marks s) rows
 signed_tells rules ascii width marks s rows h with_signs kept =
-    let said : SectionContent = worded marks.words s in
-    let heading = worded_level marks.words s ∙ with_signs.heading in
+    let said : SectionContent = filled marks s in
+    let heading = filled_level marks s ∙ with_signs.heading in
     let other : SectionContent = signed (s.gutters ++ Signs with_signs.level ∷ []) said in
     let one = one_becomes (KeepsShown rules ascii width) other rows (subst (λ (all : List SectionContent). EachBecomes (KeepsShown rules ascii width) all rows) with_signs.shown_are kept) in
     let same = heading_lines rules.whole_words ascii width other with_signs.level heading ∙ sym (heading_lines rules.whole_words ascii width said with_signs.level heading) in
-    subst (λ (lines : List LineContent). EachBecomes IsShownBy lines (lines_of_rows rows)) same (section_shows rules ascii width other rows (worded_table marks.words s h) one).1
+    subst (λ (lines : List LineContent). EachBecomes IsShownBy lines (lines_of_rows rows)) same (section_shows rules ascii width other rows (filled_table marks s h) one).1
 
 -- the rows of a section with its rule or signs show the lines that are shown of it, with its marks
-pub dressed_tells : (rules : LineRules) (ascii : Bool) (width : ℕ) (marks : HeadingMarks) (s : SectionContent) (rows : List RowContent) → IsTableOrNone s → KeepsDressed rules ascii width marks s rows
-    → Tells rules ascii width (worded marks.words s) rows
+pub dressed_tells : (rules : LineRules) (ascii : Bool) (width : ℕ) (marks : PageMarks) (s : SectionContent) (rows : List RowContent) → IsTableOrNone s → KeepsDressed rules ascii width marks s rows
+    → Tells rules ascii width (filled marks s) rows
 dressed_tells rules ascii width marks s rows h kept =
     ⊎_elim
-    (λ stays. (section_shows rules ascii width (worded marks.words s) rows (worded_table marks.words s h)
-    (one_becomes (KeepsShown rules ascii width) (worded marks.words s) rows (subst (λ (all : List SectionContent). EachBecomes (KeepsShown rules ascii width) all rows) stays kept))).1)
+    (λ stays. (section_shows rules ascii width (filled marks s) rows (filled_table marks s h)
+    (one_becomes (KeepsShown rules ascii width) (filled marks s) rows (subst (λ (all : List SectionContent). EachBecomes (KeepsShown rules ascii width) all rows) stays kept))).1)
     (λ marked. ⊎_elim (λ ruled. ruled_tells rules ascii width marks s rows h ruled kept) (λ with_signs. signed_tells rules ascii width marks s rows h with_signs kept) marked)
     (adds_marks_alone marks s)

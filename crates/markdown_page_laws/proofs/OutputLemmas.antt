@@ -4,7 +4,7 @@ use Rattle.mad_rows.specs.RowStyles.{line_rules}
 use Rattle.mad_page_rows.specs.Faces.{has_ascii_boxes}
 use Rattle.mad_pages.specs.PageRows.{RowContent, row_content}
 use Rattle.mad_dressing.specs.Dressed.{dressed_page}
-use Rattle.mad_page_skin.specs.PageSkins.{page_row_skin}
+use Rattle.mad_page_skin.specs.PageSkins.{page_marks, page_row_skin}
 use Rattle.mad_page_skin.specs.declared.page_skin.PageSkin.{PageSkin}
 use Rattle.markdown_layout.specs.WrittenPages.{IsDressedAt}
 use Rattle.markdown_reader.specs.Markdown.{markdown_sections}
@@ -15,8 +15,8 @@ use Rattle.markdown_page_laws.proofs.PageLemmas.{pages_keep}
 -- the rows of a text in its skin keep it
 keeps_source : (skin : PageSkin) (source : List ℕ) (width : ℕ) (rows : List RowContent) → 3 ≤ width → width < 2 ^ 64 - 1 → IsDressedAt skin (Some width) (markdown_sections source) rows → KeepSource skin width source rows
 keeps_source skin source width rows wide bound laid = record {
-  shown = markdown_is_kept skin.headings source (line_rules (page_row_skin skin)) (has_ascii_boxes (page_row_skin skin)) width rows wide bound laid;
-  least = pages_keep (line_rules (page_row_skin skin)) (has_ascii_boxes (page_row_skin skin)) width (dressed_page skin.headings (markdown_sections source)) rows wide bound laid;
+  shown = markdown_is_kept (page_marks skin) source (line_rules (page_row_skin skin)) (has_ascii_boxes (page_row_skin skin)) width rows wide bound laid;
+  least = pages_keep (line_rules (page_row_skin skin)) (has_ascii_boxes (page_row_skin skin)) width (dressed_page (page_marks skin) (markdown_sections source)) rows wide bound laid;
 }
 
 -- what is written shows the text

@@ -83,13 +83,17 @@ line_unset _ = nothing_set
 
 compound_unset : (style : LineStyle) (run : Run) → IsUnstyled style.compound_style.object_style → IsUnstyled (compound_style plain_rows style run).object_style
 compound_unset style run h =
-    let link : CompoundStyle = overwritten_if run.flags.link unstyled style.compound_style in
+    let picture : CompoundStyle = overwritten_if run.flags.picture unstyled style.compound_style in
+    let link : CompoundStyle = overwritten_if run.flags.link unstyled picture in
     let italic : CompoundStyle = overwritten_if run.flags.italic unstyled link in
     let struck : CompoundStyle = overwritten_if run.flags.strikeout unstyled italic in
     let bold : CompoundStyle = overwritten_if run.flags.bold unstyled struck in
-    by_bool (λ b. IsUnstyled (if b then unstyled else overwritten_if run.flags.code unstyled bold).object_style) (bytes_eq run.text ellipsis_bytes) (λ on. nothing_set)
-    (λ off. over_unset run.flags.code bold
-    (over_unset run.flags.bold struck (over_unset run.flags.strikeout italic (over_unset run.flags.italic link (over_unset run.flags.link style.compound_style h)))))
+    let sign : CompoundStyle = overwritten style.compound_style unstyled in
+    by_bool (λ b. IsUnstyled (if b then unstyled else if run.flags.picture_sign then sign else overwritten_if run.flags.code unstyled bold).object_style) (bytes_eq run.text ellipsis_bytes)
+    (λ on. nothing_set)
+    (λ off. by_bool (λ b. IsUnstyled (if b then sign else overwritten_if run.flags.code unstyled bold).object_style) run.flags.picture_sign (λ on. over_unset true style.compound_style h)
+    (λ text. over_unset run.flags.code bold
+    (over_unset run.flags.bold struck (over_unset run.flags.strikeout italic (over_unset run.flags.italic link (over_unset run.flags.link picture (over_unset run.flags.picture style.compound_style h)))))))
 
 item_is : (level : ℕ) → ordered_item_style plain_rows level ≡ unstyled_item
 item_is level = same_or unstyled_item 4 (min level 3)

@@ -7,13 +7,14 @@ use Rattle.mad_format.specs.declared.line.FmtLine.{FmtLine}
 use Rattle.mad_rows.specs.RowStyles.{line_rules}
 use Rattle.mad_pages.specs.PageRows.{RowContent}
 use Rattle.mad_page_rows.specs.Faces.{has_ascii_boxes}
-use Rattle.mad_dressing.specs.Dressed.{dressed_page}
-use Rattle.mad_dressing.specs.WordMarks.{worded}
-use Rattle.mad_page_skin.specs.PageSkins.{page_row_skin}
+use Rattle.mad_style.specs.StyledChars.{char_alone}
+use Rattle.mad_dressing.specs.Dressed.{dressed_page, filled}
+use Rattle.mad_dressing.specs.declared.page_marks.PageMarks.{PageMarks}
+use Rattle.mad_page_skin.specs.PageSkins.{page_marks, page_row_skin}
 use Rattle.markdown_reader.specs.Markdown.{markdown_sections}
 use Rattle.markdown_page_laws.specs.KeptMarkdown.{IsShownBy}
 use Rattle.markdown_page_laws.specs.KeptPages.{lines_of_rows}
-use Rattle.markdown_page_laws.specs.SkinTexts.{lines_shown, lines_at, TextIsTold, ShowAlike, SkinsKeepText}
+use Rattle.markdown_page_laws.specs.SkinTexts.{lines_shown, lines_at, lines_in, TextIsTold, ShowAlike, SkinsKeepText}
 use Rattle.markdown_page_laws.proofs.BecomeLemmas.{parts_become}
 use Rattle.markdown_page_laws.proofs.DressedLemmas.{dressed_tells, source_shows}
 use Rattle.markdown_page_laws.proofs.PageLemmas.{pages_keep}
@@ -24,10 +25,10 @@ pub text_is_told : TextIsTold
 text_is_told skin source width rows wide bound laid =
     let rules : LineRules = line_rules (page_row_skin skin) in
     let ascii : Bool = has_ascii_boxes (page_row_skin skin) in
-    let words : Bool = skin.headings.words in
-    parts_become IsShownBy (λ (s : SectionContent). lines_shown ascii width (worded words s)) (λ (row : RowContent). row.line) (markdown_sections source) rows
-    (source_shows skin.headings source rules ascii width (λ (s : SectionContent) (own : List RowContent). EachBecomes IsShownBy (lines_shown ascii width (worded words s)) (lines_of_rows own))
-    (dressed_tells rules ascii width skin.headings) rows (pages_keep rules ascii width (dressed_page skin.headings (markdown_sections source)) rows wide bound laid))
+    let marks : PageMarks = page_marks skin in
+    parts_become IsShownBy (λ (s : SectionContent). lines_shown ascii width (filled marks s)) (λ (row : RowContent). row.line) (markdown_sections source) rows
+    (source_shows marks source rules ascii width (λ (s : SectionContent) (own : List RowContent). EachBecomes IsShownBy (lines_shown ascii width (filled marks s)) (lines_of_rows own))
+    (dressed_tells rules ascii width marks) rows (pages_keep rules ascii width (dressed_page marks (markdown_sections source)) rows wide bound laid))
 
 -- what shows the same lines shows the same
 both_alike : (lines : List LineContent) (rows others : List FmtLine) → EachBecomes IsShownBy lines rows → EachBecomes IsShownBy lines others → ShowAlike lines rows others
@@ -36,9 +37,10 @@ both_alike (line ∷ lines) rows others (own, more, joins, here, there) (like, l
 
 -- the rows of a text in two skins show the same
 pub skins_keep_text : SkinsKeepText
-skins_keep_text skin other source width rows others wide bound same words laid more =
+skins_keep_text skin other source width rows others wide bound same words sign laid more =
     let ascii : Bool = has_ascii_boxes (page_row_skin skin) in
     let page : List SectionContent = markdown_sections source in
-    both_alike (lines_at skin.headings.words ascii width page) (lines_of_rows rows) (lines_of_rows others) (text_is_told skin source width rows wide bound laid)
-    (subst (λ (marks : Bool). EachBecomes IsShownBy (lines_at marks ascii width page) (lines_of_rows others)) (sym words)
-    (subst (λ (boxes : Bool). EachBecomes IsShownBy (lines_at other.headings.words boxes width page) (lines_of_rows others)) (sym same) (text_is_told other source width others wide bound more)))
+    both_alike (lines_in skin width page) (lines_of_rows rows) (lines_of_rows others) (text_is_told skin source width rows wide bound laid)
+    (subst (λ (marks : Bool). EachBecomes IsShownBy (lines_at marks (char_alone skin.sign) ascii width page) (lines_of_rows others)) (sym words)
+    (subst (λ (c : ℕ). EachBecomes IsShownBy (lines_at other.headings.words c ascii width page) (lines_of_rows others)) (sym sign)
+    (subst (λ (boxes : Bool). EachBecomes IsShownBy (lines_at other.headings.words (char_alone other.sign) boxes width page) (lines_of_rows others)) (sym same) (text_is_told other source width others wide bound more))))

@@ -13,9 +13,9 @@ use Rattle.mad_sections.specs.Sections.{SectionContent}
 use Rattle.mad_sections.specs.TableTexts.{cell_text, rows_in}
 use Rattle.mad_sections.specs.UnfoldLaws.{IsMadeOfBoth, KeepsRow, labels_text, row_text}
 use Rattle.mad_dressing.specs.DressLaws.{AreMarkedLines}
-use Rattle.mad_dressing.specs.Dressed.{dressed_page, heading_level}
-use Rattle.mad_dressing.specs.WordMarks.{worded}
+use Rattle.mad_dressing.specs.Dressed.{dressed_page, filled, heading_level}
 use Rattle.mad_dressing.specs.declared.heading_marks.HeadingMarks.{HeadingMarks}
+use Rattle.mad_dressing.specs.declared.page_marks.PageMarks.{PageMarks}
 use Rattle.mad_pages.specs.PageLayouts.{IsPageAt}
 use Rattle.mad_pages.specs.PageRows.{RowContent}
 use Rattle.markdown_page_laws.specs.KeptPages.{lines_of_rows}
@@ -86,25 +86,26 @@ abbrev pub PagesShow : Type 0
 PagesShow = (rules : LineRules) (ascii : Bool) (width : ℕ) (page : List SectionContent) (rows : List RowContent) → 3 ≤ width → width < 2 ^ 64 - 1
     → IsPageAt rules ascii (Some width) page rows → EachBecomes (λ (section : SectionContent) (own : List RowContent). IsTableOrNone section → ShowSection section own) page rows
 
--- ---- Markdown with the rules and signs of its headings, and with marks at its words
+-- ---- Markdown with the rules and signs of its headings, with marks at its words and signs in front of its pictures
 
 -- the rule below a heading of this level, if it is one of the first levels
 abbrev pub rule_at : HeadingMarks → Option ℕ → List FmtLine
 rule_at marks None = []
 rule_at marks (Some level) = if nat_lt level marks.rules then HorizontalRule ∷ [] else []
 
--- Rows show a section with what stands beside headings and at words: first the section, and below it, if it is such a heading, its rule. Signs are in front of the
--- rows. Where no marks stand at words, the section is shown as it is. Where they do, each of its lines and cells has its text with marks alone between the characters.
-abbrev pub ShowDressed : HeadingMarks → SectionContent → List RowContent → Type 0
+-- Rows show a section with what stands beside headings, at words and in front of pictures: first the section, and below it, if it is such a heading, its rule. Signs
+-- of headings are in front of the rows. Where no marks stand at words, and nothing is said of a picture, the section is shown as it is. Else each of its lines and
+-- cells has its text with marks and signs of pictures alone between the characters.
+abbrev pub ShowDressed : PageMarks → SectionContent → List RowContent → Type 0
 ShowDressed marks section rows =
-    (own : List RowContent) × (below : List RowContent) × (rows ≡ own ++ below) × ShowSection (worded marks.words section) own
-    × AreMarkedLines section.lines (worded marks.words section).lines × (lines_of_rows below ≡ rule_at marks (heading_level section.lines))
+    (own : List RowContent) × (below : List RowContent) × (rows ≡ own ++ below) × ShowSection (filled marks section) own
+    × AreMarkedLines marks.sign section.lines (filled marks section).lines × (lines_of_rows below ≡ rule_at marks.headings (heading_level section.lines))
 
 -- rows show a text of Markdown: they fall into those of its sections, one after the other, and show these
-abbrev pub ShowSource : HeadingMarks → List ℕ → List RowContent → Type 0
+abbrev pub ShowSource : PageMarks → List ℕ → List RowContent → Type 0
 ShowSource marks source rows = EachBecomes (ShowDressed marks) (markdown_sections source) rows
 
--- So those of each text of Markdown show all of its sections, whatever stands beside headings and at words.
+-- So those of each text of Markdown show all of its sections, whatever stands beside headings, at words and in front of pictures.
 abbrev pub MarkdownIsKept : Type 0
-MarkdownIsKept = (marks : HeadingMarks) (source : List ℕ) (rules : LineRules) (ascii : Bool) (width : ℕ) (rows : List RowContent) → 3 ≤ width → width < 2 ^ 64 - 1
+MarkdownIsKept = (marks : PageMarks) (source : List ℕ) (rules : LineRules) (ascii : Bool) (width : ℕ) (rows : List RowContent) → 3 ≤ width → width < 2 ^ 64 - 1
     → IsPageAt rules ascii (Some width) (dressed_page marks (markdown_sections source)) rows → ShowSource marks source rows

@@ -6,7 +6,8 @@ use Rattle.mad_format.specs.Lists.{EachBecomes}
 use Rattle.mad_format.specs.declared.line.FmtLine.{FmtLine}
 use Rattle.mad_sections.specs.Sections.{SectionContent}
 use Rattle.mad_sections.specs.Unfolded.{unfolded}
-use Rattle.mad_dressing.specs.WordMarks.{worded}
+use Rattle.mad_style.specs.StyledChars.{char_alone}
+use Rattle.mad_dressing.specs.Dressed.{filled_at}
 use Rattle.mad_pages.specs.PageRows.{RowContent}
 use Rattle.mad_page_rows.specs.Faces.{has_ascii_boxes}
 use Rattle.mad_page_skin.specs.PageSkins.{page_row_skin}
@@ -21,14 +22,18 @@ use Rattle.markdown_reader.specs.Markdown.{markdown_sections}
 abbrev pub lines_shown : Bool → ℕ → SectionContent → List LineContent
 lines_shown ascii width section = flat_map (λ (shown : SectionContent). shown.lines) (unfolded true ascii (Some width) section)
 
--- the lines that are shown of sections, with marks at their words, or as they are
-abbrev pub lines_at : Bool → Bool → ℕ → List SectionContent → List LineContent
-lines_at words ascii width page = flat_map (λ (section : SectionContent). lines_shown ascii width (worded words section)) page
+-- the lines that are shown of sections, with marks at their words or without, and with this sign in front of what is said of each picture
+abbrev pub lines_at : Bool → ℕ → Bool → ℕ → List SectionContent → List LineContent
+lines_at words sign ascii width page = flat_map (λ (section : SectionContent). lines_shown ascii width (filled_at words sign section)) page
+
+-- so it is in a skin
+abbrev pub lines_in : PageSkin → ℕ → List SectionContent → List LineContent
+lines_in skin width page = lines_at skin.headings.words (char_alone skin.sign) (has_ascii_boxes (page_row_skin skin)) width page
 
 -- The rows of a text in each skin show these lines, one after the other.
 abbrev pub TextIsTold : Type 0
 TextIsTold = (skin : PageSkin) (source : List ℕ) (width : ℕ) (rows : List RowContent) → 3 ≤ width → width < 2 ^ 64 - 1 → IsDressedAt skin (Some width) (markdown_sections source) rows
-    → EachBecomes IsShownBy (lines_at skin.headings.words (has_ascii_boxes (page_row_skin skin)) width (markdown_sections source)) (lines_of_rows rows)
+    → EachBecomes IsShownBy (lines_in skin width (markdown_sections source)) (lines_of_rows rows)
 
 -- Two lists of rows show the same of these lines: they fall into those of each line. In their cells of the same number both have the same characters that aren't
 -- whitespace, in the same order and with the same flags.
@@ -38,10 +43,10 @@ ShowAlike (line ∷ lines) rows others =
     (own : List FmtLine) × (more : List FmtLine) × (rows ≡ own ++ more) × (like : List FmtLine) × (likes : List FmtLine) × (others ≡ like ++ likes)
     × ((i : ℕ) → solid_at i own ≡ solid_at i like) × ShowAlike lines more likes
 
--- The rows of a text in two skins show the same, at each width from three columns on and of fewer than 2^64 - 1. Both or neither have boxes of ASCII characters, and
--- both or neither have marks at words.
+-- The rows of a text in two skins show the same, at each width from three columns on and of fewer than 2^64 - 1. Both or neither have boxes of ASCII characters, both
+-- or neither have marks at words, and both have the same character in front of pictures.
 abbrev pub SkinsKeepText : Type 0
 SkinsKeepText = (skin other : PageSkin) (source : List ℕ) (width : ℕ) (rows others : List RowContent) → 3 ≤ width → width < 2 ^ 64 - 1
-    → has_ascii_boxes (page_row_skin skin) ≡ has_ascii_boxes (page_row_skin other) → skin.headings.words ≡ other.headings.words
+    → has_ascii_boxes (page_row_skin skin) ≡ has_ascii_boxes (page_row_skin other) → skin.headings.words ≡ other.headings.words → char_alone skin.sign ≡ char_alone other.sign
     → IsDressedAt skin (Some width) (markdown_sections source) rows → IsDressedAt other (Some width) (markdown_sections source) others
-    → ShowAlike (lines_at skin.headings.words (has_ascii_boxes (page_row_skin skin)) width (markdown_sections source)) (lines_of_rows rows) (lines_of_rows others)
+    → ShowAlike (lines_in skin width (markdown_sections source)) (lines_of_rows rows) (lines_of_rows others)

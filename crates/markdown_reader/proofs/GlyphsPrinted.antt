@@ -1,5 +1,5 @@
 -- Characters of leaves, their runs and their rows: nothing that a terminal obeys.
-use Rattle.std.proofs.Common.{◌≡◌, ℕ, zero, suc, Bool, true, false, not, ◌||◌, ◌==◌, List, [], ◌∷◌, ◌++◌, map, length, take, refl, ap, ◌∙◌, arith, append-nil, encode_utf8, if◌then◌else◌}
+use Rattle.std.proofs.Common.{◌≡◌, ℕ, zero, suc, Bool, true, false, not, ◌||◌, ◌&&◌, ◌==◌, List, [], ◌∷◌, ◌++◌, map, length, take, refl, ap, ◌∙◌, arith, append-nil, encode_utf8, if◌then◌else◌, is_some}
 use Rattle.std.specs.Prelude.{encode_utf8_all}
 use Rattle.std.specs.List.{list_all, AllByRecursion}
 use Rattle.std.specs.Str.{NoCharPasses, NonePass}
@@ -15,7 +15,7 @@ use Rattle.markdown_inlines.specs.Styled.{Shown}
 use Rattle.markdown_inlines.proofs.PrintableLemmas.{shown_is, from_shown}
 use Rattle.mad_md.specs.Flagged.{Run}
 use Rattle.mad_md.specs.Lines.{LineContent}
-use Rattle.markdown_lines.specs.Glyphs.{glyph_of, leaf_glyphs, is_edge, without_front, without_back, trimmed, space, spaced_from, is_same_run, run_with, runs_from, runs_of}
+use Rattle.markdown_lines.specs.Glyphs.{glyph_of, shown_in, leaf_glyphs, is_edge, without_front, without_back, trimmed, space, spaced_from, is_same_run, run_with, runs_from, runs_of}
 use Rattle.markdown_lines.specs.Leaf.{row_of, rows_from, leaf_rows, cell_runs}
 use Rattle.markdown_lines.specs.declared.glyphs.Glyph.{Glyph}
 use Rattle.markdown_lines.specs.Printed.{is_obeyed, IsPrintedRun, IsPrintedLine, ArePrinted}
@@ -62,11 +62,18 @@ clean_by true obeyed e h = absurd (no e)
 clean_of : (g : Glyph) → (g.c == 10) ≡ false → IsFine g → IsClean g
 clean_of g e h = clean_by (g.c == 10) (is_obeyed g.c) e h
 
+fine_or_space : (t : Bool) (c : ℕ) → is_fine c ≡ true → is_fine (if t then 32 else c) ≡ true
+fine_or_space true c h = refl
+fine_or_space false c h = h
+
+fine_in : (picture : Bool) (c : ℕ) → is_fine c ≡ true → is_fine (shown_in picture c) ≡ true
+fine_in picture c h = fine_or_space (picture && (c == 10)) c h
+
 glyphs_fine : (bold : Bool) (shown : List Shown) → are_shown shown ≡ true → AllByRecursion IsFine (map (glyph_of bold) shown)
 glyphs_fine bold [] h = tt
 glyphs_fine bold (s ∷ ss) h =
     let parts = and_parts (is_shown s.char) (list_all is_shown (map char_of ss)) h in
-    (fine_by (s.char == 10) s.char parts.0, glyphs_fine bold ss parts.1)
+    (fine_in (is_some s.look.picture) s.char (fine_by (s.char == 10) s.char parts.0), glyphs_fine bold ss parts.1)
 
 leaf_fine : (labels : List (List ℕ)) (bold : Bool) (text : List ℕ) → AllByRecursion IsFine (leaf_glyphs labels bold text)
 leaf_fine labels bold text =

@@ -8,7 +8,7 @@ use Rattle.std.proofs.lemmas.List.Elements.{filter-append}
 use Rattle.std.proofs.lemmas.List.Sums.{suffix_len-take_yes, suffix_len-take_no}
 use Rattle.std.proofs.lemmas.Str.{encode_ascii}
 use Rattle.markdown_inlines.specs.Inlines.{leaf_text, leaf_links}
-use Rattle.markdown_inlines.specs.Looks.{is_same_link}
+use Rattle.markdown_inlines.specs.Looks.{is_same_number}
 use Rattle.markdown_inlines.specs.Styled.{Shown}
 use Rattle.markdown_lines.specs.Glyphs.{glyph_of, leaf_glyphs, is_edge, without_front, without_back, trimmed, space, spaced_from, is_same_flags, is_same_run, run_with, runs_from, runs_of}
 use Rattle.markdown_lines.specs.Leaf.{row_of, rows_from, leaf_rows, cell_runs}
@@ -24,10 +24,6 @@ use Rattle.markdown_reader.proofs.LinkFitLemmas.{IsFit, leaf_fit, row_fits, spac
 
 abbrev glyph_bytes : Glyph → List LinkByte
 glyph_bytes g = bytes_in g.link (encode_utf8 g.c)
-
-told_bytes : (bold : Bool) (shown : List Shown) → flat_map glyph_bytes (map (glyph_of bold) shown) ≡ flat_map char_bytes shown
-told_bytes bold [] = refl
-told_bytes bold (s ∷ shown) = ap (λ (l : List LinkByte). char_bytes s ++ l) (told_bytes bold shown)
 
 seen_append : (xs ys : List LinkByte) → seen (xs ++ ys) ≡ seen xs ++ seen ys
 seen_append xs ys = filter-append (λ (b : LinkByte). not (b.byte == 10) && not (b.byte == 32)) xs ys
@@ -57,6 +53,23 @@ edge_by link c code false false e f h = absurd (no h)
 -- nothing is seen of a character that is not shown at the ends of rows
 edge_none : (g : Glyph) → is_edge g ≡ true → seen (glyph_bytes g) ≡ []
 edge_none g h = edge_by g.link g.c g.flags.code (g.c == 10) (g.c == 32) refl refl h
+
+-- ---- characters of a leaf
+
+-- a space stands for a break alone, and of both nothing is seen
+char_told : (t : Bool) (link : Option ℕ) (c : ℕ) → (t ≡ true → (c == 10) ≡ true) → seen (bytes_in link (encode_utf8 (if t then 32 else c))) ≡ seen (bytes_in link (encode_utf8 c))
+char_told true link c h = blank_none link 32 refl ∙ sym (newline_none link c (h refl))
+char_told false link c h = refl
+
+one_told : (bold : Bool) (s : Shown) → seen (glyph_bytes (glyph_of bold s)) ≡ seen (char_bytes s)
+one_told bold s = let said : Bool = is_some s.look.picture in char_told (said && (s.char == 10)) s.look.link s.char (λ e. (and_parts said (s.char == 10) e).1)
+
+told_bytes : (bold : Bool) (shown : List Shown) → seen (flat_map glyph_bytes (map (glyph_of bold) shown)) ≡ seen (flat_map char_bytes shown)
+told_bytes bold [] = refl
+told_bytes bold (s ∷ shown) =
+    let others : List LinkByte = flat_map glyph_bytes (map (glyph_of bold) shown) in
+    seen_append (glyph_bytes (glyph_of bold s)) others ∙ ap (λ (l : List LinkByte). l ++ seen others) (one_told bold s)
+    ∙ ap (λ (l : List LinkByte). seen (char_bytes s) ++ l) (told_bytes bold shown) ∙ sym (seen_append (char_bytes s) (flat_map char_bytes shown))
 
 -- ---- trimmed characters
 
@@ -124,7 +137,7 @@ same_by false n m e h = absurd (no h)
     no : false ≡ true → ⊥
     no e = cc
 
-same_link : (a b : Option ℕ) → is_same_link a b ≡ true → a ≡ b
+same_link : (a b : Option ℕ) → is_same_number a b ≡ true → a ≡ b
 same_link None None h = refl
 same_link (Some n) (Some m) h = ap (λ k. Some k) (same_by (n == m) n m refl h)
 same_link None (Some m) h = absurd (no h)
@@ -158,7 +171,9 @@ from_by : (t : Bool) (first g : Glyph) (text : List ℕ) (gs : List Glyph) → i
     → numbered_bytes (if t then numbers_from first gs else one_number first.link ++ numbers_from g gs) (flat_map run_texts (if t then runs_from first (text ++ encode_utf8 g.c) gs else run_with first.flags text ∷ runs_from g (encode_utf8 g.c) gs))
     ≡ bytes_in first.link text ++ all_bytes (g ∷ gs)
 from_by true first g text gs e told on off =
-    let same : first.link ≡ g.link = same_link first.link g.link (and_parts (is_same_flags first.flags g.flags) (is_same_link first.link g.link) e).1 in
+    let alike : Bool = is_same_flags first.flags g.flags in
+    let linked : Bool = is_same_number first.link g.link in
+    let same : first.link ≡ g.link = same_link first.link g.link (and_parts alike linked (and_parts (alike && linked) (is_same_number first.picture g.picture) e).0).1 in
     on ∙ ap (λ (l : List LinkByte). l ++ all_bytes gs) (in_append first.link text (encode_utf8 g.c)) ∙ append_assoc (bytes_in first.link text) (bytes_in first.link (encode_utf8 g.c)) (all_bytes gs)
     ∙ ap (λ (o : Option ℕ). bytes_in first.link text ++ (bytes_in o (encode_utf8 g.c) ++ all_bytes gs)) same
 from_by false first g text gs e told on off =
@@ -215,7 +230,7 @@ pub runs_have_their_links : RunsHaveTheirLinks
 unfolding leaf_numbers leaf_rows
 runs_have_their_links labels text =
     let gs : List Glyph = trimmed (leaf_glyphs labels false text) in
-    none_by (length gs == 0) gs refl (rows_seen (length (leaf_links labels text)) [] gs tt (leaf_fit labels false text)) ∙ trimmed_seen (leaf_glyphs labels false text) ∙ ap seen (told_bytes false (leaf_text labels text))
+    none_by (length gs == 0) gs refl (rows_seen (length (leaf_links labels text)) [] gs tt (leaf_fit labels false text)) ∙ trimmed_seen (leaf_glyphs labels false text) ∙ told_bytes false (leaf_text labels text)
 
 -- ---- cells
 
@@ -251,4 +266,4 @@ cells_have_their_links labels bold text =
     let count : ℕ = length (leaf_links labels text) in
     let gs : List Glyph = trimmed (leaf_glyphs labels bold text) in
     ap seen (runs_bytes count (spaced_from bold [] [] gs) (spaced_fit count bold [] [] gs tt tt (leaf_fit labels bold text))) ∙ spaced_seen bold [] [] gs ∙ trimmed_seen (leaf_glyphs labels bold text)
-    ∙ ap seen (told_bytes bold (leaf_text labels text))
+    ∙ told_bytes bold (leaf_text labels text)

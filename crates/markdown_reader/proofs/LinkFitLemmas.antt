@@ -1,5 +1,5 @@
 -- The numbers of links are those of the runs that belong to links: as many, and each of a link that is there.
-use Rattle.std.proofs.Common.{◌≡◌, ℕ, ◌+◌, ◌<◌, ◌≤◌, Bool, true, false, not, ◌==◌, List, [], ◌∷◌, ◌++◌, map, length, drop, Option, Some, None, is_some, refl, sym, ap, subst, ◌∙◌, arith, append-nil, encode_utf8, if◌then◌else◌}
+use Rattle.std.proofs.Common.{◌≡◌, ℕ, ◌+◌, ◌<◌, ◌≤◌, Bool, true, false, not, ◌==◌, ◌||◌, List, [], ◌∷◌, ◌++◌, map, length, drop, Option, Some, None, is_some, refl, sym, ap, subst, ◌∙◌, arith, append-nil, encode_utf8, if◌then◌else◌}
 use Rattle.std.specs.List.{AllByRecursion, flat_map}
 use Rattle.std.proofs.lemmas.List.{length-append, length-map}
 use Rattle.markdown_emphasis.specs.declared.flags.Flags.{Flags}
@@ -13,8 +13,8 @@ use Rattle.markdown_inlines.specs.declared.links.Over.{Over}
 use Rattle.markdown_inlines.specs.declared.looks.Look.{Look}
 use Rattle.markdown_inlines.specs.declared.inlines.LinkTarget.{LinkTarget}
 use Rattle.markdown_inlines.specs.Inlines.{look_at, shown_piece, shown_from, left_of, leaf_text, link_target, with_link, links_from, leaf_links, target_by}
-use Rattle.markdown_inlines.specs.Links.{links_in, link_count, nearest, opens_at, own_link, or_link, stepped_back, overs_from, overs_of}
-use Rattle.markdown_inlines.specs.Parts.{characters}
+use Rattle.markdown_inlines.specs.Links.{links_in, link_count, nearest, nearest_picture, opens_at, own_link, or_number, link_over, stepped_back, overs_from, overs_of}
+use Rattle.markdown_inlines.specs.Parts.{piece_shown}
 use Rattle.markdown_inlines.specs.Styled.{Shown, shown_with}
 use Rattle.mad_md.specs.Flagged.{Run}
 use Rattle.mad_md.specs.Lines.{LineContent}
@@ -55,13 +55,22 @@ nearest_below : (count : ℕ) (ahead : List Ahead) → AllByRecursion (IsAhead c
 nearest_below count [] h = tt
 nearest_below count (a ∷ ahead) h = h.0
 
-or_below : (count : ℕ) (a b : Option ℕ) → IsBelow count a → IsBelow count b → IsBelow count (or_link a b)
+or_below : (count : ℕ) (a b : Option ℕ) → IsBelow count a → IsBelow count b → IsBelow count (or_number a b)
 or_below count None b h k = k
 or_below count (Some n) b h k = h
 
-closed_below : (count number : ℕ) (image : Bool) (around : Option ℕ) → number + (if not image then 1 else 0) ≤ count → IsBelow count around → IsBelow count (if image then around else Some number)
-closed_below count number true around h k = k
-closed_below count number false around h k = omega (arith, h)
+either_below : (count : ℕ) (t : Bool) (a b : Option ℕ) → IsBelow count a → IsBelow count b → IsBelow count (if t then a else b)
+either_below count true a b h k = h
+either_below count false a b h k = k
+
+over_below : (count number : ℕ) (kind : Kind) (ahead : List Ahead) → IsBelow count (nearest ahead) → IsBelow count (own_link number kind) → IsBelow count (link_over number kind ahead)
+over_below count number kind ahead h k =
+    either_below count (is_some (nearest_picture ahead)) (nearest ahead) (or_number (nearest ahead) (own_link number kind)) h (or_below count (nearest ahead) (own_link number kind) h k)
+
+closed_below : (count number : ℕ) (image inside : Bool) (around : Option ℕ) → number + (if not image then 1 else 0) ≤ count → IsBelow count around → IsBelow count (if image || inside then around else Some number)
+closed_below count number true inside around h k = k
+closed_below count number false true around h k = k
+closed_below count number false false around h k = omega (arith, h)
 
 if_ahead : (count : ℕ) (t : Bool) (ahead : List Ahead) → AllByRecursion (IsAhead count) ahead → AllByRecursion (IsAhead count) (if t then drop 1 ahead else ahead)
 if_ahead count true [] h = tt
@@ -80,7 +89,7 @@ stepped_below count index number Hard ahead h k = k
 stepped_below count index number (RunKind run) ahead h k = k
 stepped_below count index number (Opening image) ahead h k = if_ahead count (opens_at index ahead) ahead k
 stepped_below count index number (Closing None) ahead h k = k
-stepped_below count index number (Closing (Some link)) ahead h k = (closed_below count number link.image (nearest ahead) h (nearest_below count ahead k), k)
+stepped_below count index number (Closing (Some link)) ahead h k = (closed_below count number link.image (is_some (nearest_picture ahead)) (nearest ahead) h (nearest_below count ahead k), k)
 
 overs_below : (count index number : ℕ) (ps : List Piece) → number + link_count ps ≤ count → AllByRecursion (IsOver count) (overs_from index number ps).overs × AllByRecursion (IsAhead count) (overs_from index number ps).ahead
 unfolding overs_from link_count
@@ -89,7 +98,7 @@ overs_below count index number (p ∷ ps) h =
     let rest = overs_below count (index + 1) (number + links_in p.kind) ps (omega (arith, h)) in
     let here : number + links_in p.kind ≤ count = omega (arith, h) in
     let ahead : List Ahead = (overs_from (index + 1) (number + links_in p.kind) ps).ahead in (
-      (or_below count (nearest ahead) (own_link number p.kind) (nearest_below count ahead rest.1) (own_below count number p.kind here), rest.0),
+      (over_below count number p.kind ahead (nearest_below count ahead rest.1) (own_below count number p.kind here), rest.0),
       stepped_below count index number p.kind ahead here rest.1,
     )
 
@@ -113,7 +122,7 @@ shown_below count text at (p ∷ ps) [] ns os h = tt
 shown_below count text at (p ∷ ps) (f ∷ fs) [] os h = tt
 shown_below count text at (p ∷ ps) (f ∷ fs) (n ∷ ns) [] h = tt
 shown_below count text at (p ∷ ps) (f ∷ fs) (n ∷ ns) (o ∷ os) h =
-    looked_append count (shown_piece text at p f n o) (shown_from text (at + (p.more + 1)) ps fs ns os) (with_below count (look_at f p o) (characters text at p n o.opens) h.0)
+    looked_append count (shown_piece text at p f n o) (shown_from text (at + (p.more + 1)) ps fs ns os) (with_below count (look_at f p o) (piece_shown text at p n o) h.0)
     (shown_below count text (at + (p.more + 1)) ps fs ns os h.1)
 
 one_target : (image : Bool) (target : LinkTarget) (rest : List LinkTarget) → length (with_link (if image then None else Some target) rest) ≡ (if not image then 1 else 0) + length rest

@@ -7,8 +7,9 @@ use Rattle.markdown_marks.specs.Definitions.{after_definition}
 use Rattle.markdown_marks.specs.Remaining.{Remaining}
 use Rattle.markdown_blocks.specs.declared.containers.Container.{Container}
 use Rattle.markdown_blocks.specs.declared.containers.Container.TheVariants.{Quote, Item}
-use Rattle.markdown_destinations.specs.Destinations.{Leads, link_leads, text_of}
-use Rattle.markdown_destinations.specs.Parts.{defined_destination}
+use Rattle.markdown_destinations.specs.Destinations.{Leads, link_leads}
+use Rattle.markdown_link_parts.specs.Parts.{defined_destination}
+use Rattle.markdown_link_parts.specs.Texts.{text_of}
 use Rattle.markdown_inlines.specs.declared.inlines.LinkTarget.{LinkTarget}
 use Rattle.markdown_inlines.specs.declared.inlines.LinkTarget.TheVariants.{Definition, Inline, Address}
 use Rattle.markdown_inlines.specs.Inlines.{leaf_links}

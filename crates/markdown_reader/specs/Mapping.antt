@@ -186,7 +186,7 @@ task_by (Some done) defined bytes m = words_shown defined (after_box bytes) (wit
 
 -- the flags that a text in bold has
 abbrev pub bold : Flags
-bold = record { bold = true; italic = false; code = false; strikeout = false; link = false }
+bold = record { bold = true; italic = false; code = false; strikeout = false; link = false; picture = false; picture_sign = false }
 
 -- the row of an alert
 abbrev pub alert_line : Alert → LineContent

@@ -13,9 +13,9 @@ use Rattle.mad_rows.specs.RowStyles.{line_rules}
 use Rattle.mad_rows.specs.RowStyles.{line_rules}
 use Rattle.mad_rows.specs.declared.row_skin.RowSkin.{RowSkin}
 use Rattle.mad_dressing.specs.Dressed.{dressed_page}
-use Rattle.mad_dressing.specs.declared.heading_marks.HeadingMarks.{HeadingMarks}
+use Rattle.mad_dressing.specs.declared.page_marks.PageMarks.{PageMarks}
 use Rattle.mad_dressing.proofs.DressLemmas.{pages_dressed}
-use Rattle.mad_page_skin.specs.PageSkins.{page_row_skin}
+use Rattle.mad_page_skin.specs.PageSkins.{page_marks, page_row_skin}
 use Rattle.mad_page_skin.specs.declared.page_skin.PageSkin.{PageSkin}
 use Rattle.mad_sections.specs.Sections.{SectionContent}
 use Rattle.mad_term.specs.Trace.{Trace, failed}
@@ -53,7 +53,7 @@ starts s fresh none rows = record {
 -- ---- rows
 
 -- the pages of two groups of sections, one after the other, are that of both
-page_joined : (marks : HeadingMarks) (first next : List SectionContent) → dressed_page marks (steady_sections (first ++ next)) ≡ dressed_page marks (steady_sections first) ++ dressed_page marks (steady_sections next)
+page_joined : (marks : PageMarks) (first next : List SectionContent) → dressed_page marks (steady_sections (first ++ next)) ≡ dressed_page marks (steady_sections first) ++ dressed_page marks (steady_sections next)
 page_joined marks first next = ap (dressed_page marks) (map-append steady_section first next) ∙ pages_dressed marks (steady_sections first) (steady_sections next)
 
 -- rows of these sections stand below those that were
@@ -63,7 +63,7 @@ pub more_laid : (skin : PageSkin) (width : Option ℕ) (first next : List Sectio
     → IsDressedAt skin width (steady_sections (first ++ next)) (rows ++ own) × (dressed_bytes skin width (rows ++ own) ≡ sent ++ now)
 more_laid skin width first next rows own sent before now page written page2 now_is =
     let row_skin : RowSkin = page_row_skin skin in
-    let marks : HeadingMarks = skin.headings in (
+    let marks : PageMarks = page_marks skin in (
       subst (λ (ss : List SectionContent). IsPageAt (line_rules row_skin) (has_ascii_boxes row_skin) width ss (rows ++ own)) (sym (page_joined marks first next))
           (both_become (BecomesAt (line_rules row_skin) (has_ascii_boxes row_skin) width) (dressed_page marks (steady_sections first)) (dressed_page marks (steady_sections next)) rows own page page2),
       flat_map-append (row_bytes row_skin width) rows own ∙ ap (λ (b : List ℕ). b ++ dressed_bytes skin width own) written

@@ -1,6 +1,6 @@
 -- Each piece is shown.
-use Rattle.std.proofs.Common.{◌≡◌, ℕ, zero, suc, ◌+◌, ◌-◌, ◌≤◌, inl, inr, Bool, true, false, List, [], ◌∷◌, ◌++◌, map, length, take, drop, slice_index, Option, Some, None, refl, sym, ap, subst, ◌∙◌, append_assoc, arith}
-use Rattle.std.proofs.lemmas.List.{map-append}
+use Rattle.std.proofs.Common.{◌≡◌, ℕ, zero, suc, ◌+◌, ◌-◌, ◌≤◌, ◌==◌, ◌&&◌, inl, inr, Bool, true, false, List, [], ◌∷◌, ◌++◌, map, length, take, drop, slice_index, Option, Some, None, refl, sym, ap, subst, ◌∙◌, append_assoc, arith}
+use Rattle.std.proofs.lemmas.List.{append-nil, map-append}
 use Rattle.std.proofs.lemmas.List.FromFn.{length-map-range_with_len}
 use Rattle.std.specs.List.{range_with_len}
 use Rattle.markdown_emphasis.specs.declared.flags.Flags.{Flags}
@@ -18,8 +18,8 @@ use Rattle.markdown_inlines.specs.declared.links.Over.{Over}
 use Rattle.markdown_inlines.specs.declared.looks.Look.{Look}
 use Rattle.markdown_inlines.specs.Inlines.{char_of, look_at, shown_from}
 use Rattle.markdown_inlines.specs.Left.{left_at, marks_of, piece_marks}
-use Rattle.markdown_inlines.specs.Links.{links_in, overs_from, overs_of}
-use Rattle.markdown_inlines.specs.Parts.{alternative_text, characters, html_shown, kind_characters, shown_text}
+use Rattle.markdown_inlines.specs.Links.{is_silent, links_in, overs_from, overs_of}
+use Rattle.markdown_inlines.specs.Parts.{alternative_text, html_shown, kind_characters, name_by, name_shown, piece_shown, shown_text, target_name}
 use Rattle.markdown_inlines.specs.Styled.{shown_with}
 use Rattle.markdown_text_laws.specs.Shown.{AreShown, EachPieceIsShown, IsBracketOrNone, IsClosing, IsShownOf}
 
@@ -56,9 +56,9 @@ opening_is image true text at more left = inl refl
 opening_is true false text at more left = inr refl
 opening_is false false text at more left = inr refl
 
-closing_is : (link : Option Link) (text : List ℕ) (at more left : ℕ) (opens : Bool) → IsClosing link (kind_characters (Closing link) text at more left opens)
+closing_is : (link : Option Link) (text : List ℕ) (at more left : ℕ) (opens : Bool) → IsClosing link (drop at text) (kind_characters (Closing link) text at more left opens)
 closing_is None text at more left opens = refl
-closing_is (Some link) text at more left opens = refl
+closing_is (Some link) text at more left opens = inl refl
 
 -- what is shown of a piece at a place, where so many of its marks are left
 piece_is : (kind : Kind) (text : List ℕ) (at more left : ℕ) (opens : Bool) → left ≤ marks_of kind → IsShownOf kind more (drop at text) (kind_characters kind text at more left opens)
@@ -73,6 +73,66 @@ piece_is Hard text at more left opens h = refl
 piece_is (Run run) text at more left opens h = (left, h, refl)
 piece_is (Opening image) text at more left opens h = opening_is image opens text at more left
 piece_is (Closing link) text at more left opens h = closing_is link text at more left opens
+
+-- a piece is the closing bracket of an image with nothing between its brackets
+abbrev SilentImage : Bool → Kind → Type 0
+SilentImage true (Closing (Some link)) = link.image ≡ true
+SilentImage _ _ = Unit {0}
+
+named_at : (link : Link) (text : List ℕ) (at : ℕ) → link.image ≡ true → IsClosing (Some link) (drop at text) (shown_text (target_name link.target text (at + 1)))
+named_at link text at image = inr (image, ap (λ (bs : List ℕ). shown_text (name_by link.target.definition (take link.target.len bs))) (drop_more at 1 text))
+
+unnamed : (kind : Kind) (text : List ℕ) (at more left : ℕ) (opens : Bool) → left ≤ marks_of kind → IsShownOf kind more (drop at text) (kind_characters kind text at more left opens ++ [])
+unnamed kind text at more left opens h = subst (λ (cs : List ℕ). IsShownOf kind more (drop at text) cs) (sym (append-nil (kind_characters kind text at more left opens))) (piece_is kind text at more left opens h)
+
+-- the same with the name of its file
+whole_is : (silent : Bool) (kind : Kind) (text : List ℕ) (at more left : ℕ) (opens : Bool) → left ≤ marks_of kind → SilentImage silent kind
+    → IsShownOf kind more (drop at text) (kind_characters kind text at more left opens ++ name_shown silent kind text at)
+whole_is false kind text at more left opens h i = unnamed kind text at more left opens h
+whole_is true (Closing (Some link)) text at more left opens h i = named_at link text at i
+whole_is true (Closing None) text at more left opens h i = refl
+whole_is true Plain text at more left opens h i = unnamed Plain text at more left opens h
+whole_is true (Bare scheme) text at more left opens h i = unnamed (Bare scheme) text at more left opens h
+whole_is true (ShownKind c second) text at more left opens h i = unnamed (ShownKind c second) text at more left opens h
+whole_is true (Code code) text at more left opens h i = unnamed (Code code) text at more left opens h
+whole_is true (Address len scheme) text at more left opens h i = unnamed (Address len scheme) text at more left opens h
+whole_is true (Html html) text at more left opens h i = unnamed (Html html) text at more left opens h
+whole_is true Soft text at more left opens h i = refl
+whole_is true Hard text at more left opens h i = refl
+whole_is true (Run run) text at more left opens h i = unnamed (Run run) text at more left opens h
+whole_is true (Opening image) text at more left opens h i = unnamed (Opening image) text at more left opens h
+
+-- ---- images with nothing between their brackets
+
+silent_link : (image same : Bool) (link : Link) → link.image ≡ image → SilentImage (image && same) (Closing (Some link))
+silent_link true true link e = e
+silent_link true false link e = tt
+silent_link false same link e = tt
+
+silent_is : (index : ℕ) (kind : Kind) → SilentImage (is_silent index kind) kind
+silent_is index Plain = tt
+silent_is index (Bare scheme) = tt
+silent_is index (ShownKind c second) = tt
+silent_is index (Code code) = tt
+silent_is index (Address len scheme) = tt
+silent_is index (Html html) = tt
+silent_is index Soft = tt
+silent_is index Hard = tt
+silent_is index (Run run) = tt
+silent_is index (Opening image) = tt
+silent_is index (Closing None) = tt
+silent_is index (Closing (Some link)) = silent_link link.image (link.opener + 1 == index) link refl
+
+-- none of some pieces is said to be such an image that is none
+abbrev AreSilent : List Piece → List Over → Type 0
+AreSilent [] os = Unit {0}
+AreSilent (p ∷ ps) [] = Unit {0}
+AreSilent (p ∷ ps) (o ∷ os) = SilentImage o.silent p.kind × AreSilent ps os
+
+overs_silent : (index number : ℕ) (ps : List Piece) → AreSilent ps (overs_from index number ps).overs
+unfolding overs_from
+overs_silent index number [] = tt
+overs_silent index number (p ∷ ps) = (silent_is index p.kind, overs_silent (index + 1) (number + links_in p.kind) ps)
 
 chars_only : (look : Look) (cs : List ℕ) → map char_of (map (shown_with look) cs) ≡ cs
 chars_only look [] = refl
@@ -114,27 +174,27 @@ no_more n e = omega (arith, e)
 same_rest : (n m : ℕ) → suc n ≡ suc m → n ≡ m
 same_rest n m e = omega (arith, e)
 
-shown_by : (text : List ℕ) (pairs : List Pair) (before ps : List Piece) (at : ℕ) (fs : List Flags) (os : List Over) → length fs ≡ length ps → length os ≡ length ps
+shown_by : (text : List ℕ) (pairs : List Pair) (before ps : List Piece) (at : ℕ) (fs : List Flags) (os : List Over) → length fs ≡ length ps → length os ≡ length ps → AreSilent ps os
     → AreShown (drop at text) ps (map char_of (shown_from text at ps fs (lefts pairs before ps) os))
 unfolding shown_from
-shown_by text pairs before [] at fs os f o = refl
-shown_by text pairs before (p ∷ ps) at [] os f o = absurd (no_more (length ps) f)
-shown_by text pairs before (p ∷ ps) at (x ∷ fs) [] f o = absurd (no_more (length ps) o)
-shown_by text pairs before (p ∷ ps) at (x ∷ fs) (v ∷ os) f o =
+shown_by text pairs before [] at fs os f o s = refl
+shown_by text pairs before (p ∷ ps) at [] os f o s = absurd (no_more (length ps) f)
+shown_by text pairs before (p ∷ ps) at (x ∷ fs) [] f o s = absurd (no_more (length ps) o)
+shown_by text pairs before (p ∷ ps) at (x ∷ fs) (v ∷ os) f o s =
     let n = left_at pairs (before ++ p ∷ ps) (length before) in
     let look = look_at x p v in
-    let own = characters text at p n v.opens in
+    let own = piece_shown text at p n v in
     let next = lefts pairs (before ++ p ∷ []) ps in
     let later = map char_of (shown_from text (at + (p.more + 1)) ps fs next os) in
-    let others = shown_by text pairs (before ++ p ∷ []) ps (at + (p.more + 1)) fs os (same_rest (length fs) (length ps) f) (same_rest (length os) (length ps) o) in
+    let others = shown_by text pairs (before ++ p ∷ []) ps (at + (p.more + 1)) fs os (same_rest (length fs) (length ps) f) (same_rest (length os) (length ps) o) s.1 in
     let place : drop (at + (p.more + 1)) text ≡ drop (suc p.more) (drop at text) = drop_more at (p.more + 1) text ∙ ap (λ (k : ℕ). drop k (drop at text)) (next_is p.more) in
     let split : map char_of (map (shown_with look) own ++ shown_from text (at + (p.more + 1)) ps fs next os) ≡ own ++ later =
     map-append char_of (map (shown_with look) own) (shown_from text (at + (p.more + 1)) ps fs next os) ∙ ap (λ (cs : List ℕ). cs ++ later) (chars_only look own) in
     subst (λ (ns : List ℕ). AreShown (drop at text) (p ∷ ps) (map char_of (shown_from text at (p ∷ ps) (x ∷ fs) ns (v ∷ os)))) (sym (lefts_next pairs before ps p))
-    (own, later, split, piece_is p.kind text at p.more n v.opens (few_left pairs before ps p), subst (λ (rest : List ℕ). AreShown rest ps later) place others)
+    (own, later, split, whole_is v.silent p.kind text at p.more n v.opens (few_left pairs before ps p) s.0, subst (λ (rest : List ℕ). AreShown rest ps later) place others)
 
 -- each piece is shown
 pub each_shown : EachPieceIsShown
 each_shown labels text =
     let cut = cut_text labels text in
-    shown_by text cut.pairs [] cut.pieces 0 (flags_of (length cut.pieces) cut.pairs) (overs_of cut.pieces) (length-map-range_with_len (flags_at cut.pairs) 0 (length cut.pieces)) (overs_length 0 0 cut.pieces)
+    shown_by text cut.pairs [] cut.pieces 0 (flags_of (length cut.pieces) cut.pairs) (overs_of cut.pieces) (length-map-range_with_len (flags_at cut.pairs) 0 (length cut.pieces)) (overs_length 0 0 cut.pieces) (overs_silent 0 0 cut.pieces)

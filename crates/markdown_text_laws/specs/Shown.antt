@@ -7,7 +7,7 @@ use Rattle.markdown_pieces.specs.declared.pieces.Kind.TheVariants.{Plain, Shown,
 use Rattle.markdown_pieces.specs.declared.pieces.Piece.{Piece}
 use Rattle.markdown_pieces.specs.Cut.{cut_text}
 use Rattle.markdown_inlines.specs.Inlines.{char_of, leaf_text}
-use Rattle.markdown_inlines.specs.Parts.{character_shown, html_shown, shown_text, sign_char}
+use Rattle.markdown_inlines.specs.Parts.{character_shown, html_shown, shown_text, sign_char, target_name}
 
 -- the sign of an image and its bracket, or a bracket alone
 abbrev pub bracket : Bool → List ℕ
@@ -18,14 +18,15 @@ bracket false = 91 ∷ []
 abbrev pub IsBracketOrNone : Bool → List ℕ → Type 0
 IsBracketOrNone image shown = (shown ≡ []) ⊎ (shown ≡ bracket image)
 
--- A closing bracket is shown where it closes none. With one that does, its destination isn't shown.
-abbrev pub IsClosing : Option Link → List ℕ → Type 0
-IsClosing None shown = shown ≡ 93 ∷ []
-IsClosing (Some link) shown = shown ≡ []
+-- A closing bracket is shown where it closes none. With one that does, its destination isn't shown, but for the name of the file to which that of an
+-- image leads.
+abbrev pub IsClosing : Option Link → (rest shown : List ℕ) → Type 0
+IsClosing None rest shown = shown ≡ 93 ∷ []
+IsClosing (Some link) rest shown = (shown ≡ []) ⊎ ((link.image ≡ true) × (shown ≡ shown_text (target_name link.target rest 1)))
 
 -- What is shown of a piece that begins what is left of a text. Words and bare addresses are shown as they are, code and addresses without what stands around
 -- them, and an escape or an entity as what it stands for. The end of a line is a space or a newline, without the blanks before it. Of a run of marks some
--- may be left. Of raw html a break or an image's text is shown.
+-- may be left. Of raw html a break or an image's text is shown. An image may show the name of its file.
 abbrev pub IsShownOf : Kind → (more : ℕ) (rest shown : List ℕ) → Type 0
 IsShownOf Plain more rest shown = shown ≡ shown_text (take (suc more) rest)
 IsShownOf (Bare scheme) more rest shown = shown ≡ shown_text (take (suc more) rest)
@@ -37,7 +38,7 @@ IsShownOf Soft more rest shown = shown ≡ 32 ∷ []
 IsShownOf Hard more rest shown = shown ≡ 10 ∷ []
 IsShownOf (Run run) more rest shown = (left : ℕ) × (left ≤ run.count) × (shown ≡ replicate left (sign_char run.sign))
 IsShownOf (Opening image) more rest shown = IsBracketOrNone image shown
-IsShownOf (Closing link) more rest shown = IsClosing link shown
+IsShownOf (Closing link) more rest shown = IsClosing link rest shown
 
 -- each piece is shown, one after the other, and nothing else is
 abbrev pub AreShown : (rest : List ℕ) → List Piece → List ℕ → Type 0

@@ -6,7 +6,7 @@ use Rattle.std.specs.Char.{is_ascii_punctuation}
 use Rattle.std.specs.List.{list_all, onto_first}
 use Rattle.markdown_blocks.specs.Lines.{text_lines}
 use Rattle.markdown_writing.specs.Pages.{Page, Written, block_lines, code, ended, gap, heading, longest, markdown_from, no_more, paragraph, quotes, shows, thematic_break}
-use Rattle.markdown_writing.specs.Phrases.{Phrase, plain, code_span, fence, first_text, line_text, most_ticks, needs_room, phrase_text, room, roomy}
+use Rattle.markdown_writing.specs.Phrases.{Phrase, plain, code_span, emphasis, emphasis_text, fence, first_text, line_text, most_ticks, needs_room, phrase_text, room, roomy, star_marks}
 use Rattle.markdown_writing.specs.Quotes.{quoted}
 use Rattle.markdown_writing.specs.Reading.{AreWritable, IsWritable}
 use Rattle.markdown_writing.specs.Words.{escaped, escaped_byte, escaped_if, is_mark}
@@ -61,13 +61,25 @@ span_line bytes h =
     both_lines (fence most) (roomy bytes ++ fence most) (fence_line most)
     (both_lines (roomy bytes) (fence most) (both_lines (room t) (bytes ++ room t) (room_line t) (both_lines bytes (room t) h (room_line t))) (fence_line most))
 
+stars_line : (strong : Bool) → is_line (star_marks strong) ≡ true
+stars_line true = refl
+stars_line false = refl
+
+emphasis_line : (strong : Bool) (words : List ℕ) → is_line words ≡ true → is_line (emphasis_text strong words) ≡ true
+emphasis_line strong words h =
+    let stars = star_marks strong in
+    let bytes = flat_map escaped_byte words in
+    both_lines stars (bytes ++ stars) (stars_line strong) (both_lines bytes stars (rest_line words h) (stars_line strong))
+
 phrase_line : (p : Phrase) → is_phrase p ≡ true → is_line (phrase_text p) ≡ true
 phrase_line (plain words) h = rest_line words (some_line words h)
 phrase_line (code_span bytes) h = span_line bytes (some_line bytes h)
+phrase_line (emphasis strong words) h = emphasis_line strong words (some_line words h)
 
 first_line : (p : Phrase) → is_phrase p ≡ true → is_line (first_text p) ≡ true
 first_line (plain words) h = words_line words (some_line words h)
 first_line (code_span bytes) h = span_line bytes (some_line bytes h)
+first_line (emphasis strong words) h = emphasis_line strong words (some_line words h)
 
 others_line : (ps : List Phrase) → list_all is_phrase ps ≡ true → is_line (flat_map phrase_text ps) ≡ true
 others_line [] h = refl

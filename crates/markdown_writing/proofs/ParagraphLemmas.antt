@@ -43,10 +43,6 @@ no_run : (b k : ℕ) (bs : List ℕ) → (b == k) ≡ false → count_in_front k
 unfolding count_in_front
 no_run b k bs e = rw e refl
 
-no_rule : (b : ℕ) (bs : List ℕ) → is_other_sign b ≡ false → is_rule (b ∷ bs) ≡ false
-unfolding is_rule
-no_rule b bs h = rw (none b 42 refl h) (rw (none b 45 refl h) (rw (none b 95 refl h) refl))
-
 no_heading : (b : ℕ) (bs : List ℕ) → is_other_sign b ≡ false → heading_level (b ∷ bs) ≡ None
 unfolding heading_level
 no_heading b bs h = rw (no_run b 35 bs (none b 35 refl h)) refl
@@ -59,18 +55,18 @@ not_blank : (b : ℕ) (bs : List ℕ) → is_other_sign b ≡ false → is_blank
 unfolding is_blank
 not_blank b bs h = rw (none b 32 refl h) (rw (none b 9 refl h) refl)
 
-no_container : (b : ℕ) (bs : List ℕ) → is_other_sign b ≡ false → marker_start (b ∷ bs) ≡ None → container_start false (whole (b ∷ bs)) ≡ None
+no_container : (b : ℕ) (bs : List ℕ) → is_other_sign b ≡ false → is_rule (b ∷ bs) ≡ false → marker_start (b ∷ bs) ≡ None → container_start false (whole (b ∷ bs)) ≡ None
 unfolding container_start
-no_container b bs h m = rw (no_columns b bs h) (rw (all_left b bs h) (rw (none b 62 refl h) (rw (no_rule b bs h) (rw m refl))))
+no_container b bs h r m = rw (no_columns b bs h) (rw (all_left b bs h) (rw (none b 62 refl h) (rw r (rw m refl))))
 
 words_apart : (b : ℕ) (bs : List ℕ) → is_other_sign b ≡ false → fence_start (b ∷ bs) ≡ None → leaf_start (joining_of false true) (whole (b ∷ bs)) ≡ rule_start (whole (b ∷ bs))
 unfolding leaf_start mark_start
 words_apart b bs h f =
     rw (not_blank b bs h) (rw (no_columns b bs h) (rw (all_left b bs h) (rw (no_heading b bs h) (rw f (rw (no_html b bs h) refl)))))
 
-begun : (b : ℕ) (bs : List ℕ) → is_other_sign b ≡ false → fence_start (b ∷ bs) ≡ None → marker_start (b ∷ bs) ≡ None → step (state_with NothingLeaf 0) (b ∷ bs) ≡ done ParagraphLeaf (cell_count (b ∷ bs)) (Begins ParagraphLeaf) (b ∷ bs)
+begun : (b : ℕ) (bs : List ℕ) → is_other_sign b ≡ false → is_rule (b ∷ bs) ≡ false → fence_start (b ∷ bs) ≡ None → marker_start (b ∷ bs) ≡ None → step (state_with NothingLeaf 0) (b ∷ bs) ≡ done ParagraphLeaf (cell_count (b ∷ bs)) (Begins ParagraphLeaf) (b ∷ bs)
 unfolding step line_step begun_line matched opened going_on ends_in_item
-begun b bs h f m = rw (no_container b bs h m) (rw (words_apart b bs h f) (rw (no_rule b bs h) (rw (none b 91 refl h) refl)))
+begun b bs h r f m = rw (no_container b bs h r m) (rw (words_apart b bs h f) (rw r (rw (none b 91 refl h) refl)))
 
 -- ---- what is told
 
@@ -132,7 +128,7 @@ paragraph_told bytes f parts apart passed lines behind =
     let cells = cell_count (f.b ∷ f.bs) in
     let line = f.b ∷ f.bs in
     ap (λ (bs : List ℕ). told_of (outside_of parts apart passed) (bs ∷ lines)) f.whole
-    ∙ line_went (outside_of parts apart passed) NothingLeaf ParagraphLeaf 0 cells (Begins ParagraphLeaf) (whole line) line lines (begun f.b f.bs f.sign f.fence f.marker)
+    ∙ line_went (outside_of parts apart passed) NothingLeaf ParagraphLeaf 0 cells (Begins ParagraphLeaf) (whole line) line lines (begun f.b f.bs f.sign f.rule f.fence f.marker)
     ∙ ap (λ (g : Gathering). finished g (events_from (state_with ParagraphLeaf cells) lines)) (words_after_outside parts apart passed (whole line))
     ∙ open_told parts passed f.b f.bs (none f.b 91 refl f.sign) cells lines behind
     ∙ ap (λ (bs : List ℕ). told_of (outside_of (parts ++ words_of passed (whole bs ∷ []) ∷ []) passed false) lines) (sym f.whole)

@@ -1,15 +1,16 @@
 -- A line of phrases begins a paragraph, and ends with no sign that closes a heading.
-use Rattle.std.proofs.Common.{◌≡◌, ℕ, zero, suc, Bool, true, false, cond, not, ◌||◌, ◌==◌, nat_lt, ◌+◌, List, [], ◌∷◌, ◌++◌, replicate, flat_map, Some, None, refl, sym, ap, subst, ◌∙◌, append_assoc, append-nil}
-use Rattle.std.proofs.lemmas.Bool.{or_parts}
+use Rattle.std.proofs.Common.{◌≡◌, ℕ, zero, suc, Bool, true, false, cond, not, ◌||◌, ◌==◌, ◌&&◌, nat_lt, ◌+◌, List, [], ◌∷◌, ◌++◌, replicate, flat_map, Some, None, refl, sym, ap, subst, ◌∙◌, append_assoc, append-nil}
+use Rattle.std.proofs.lemmas.Bool.{and_parts, or_parts}
 use Rattle.std.specs.List.{list_any, prefix_len}
-use Rattle.markdown_marks.specs.Bytes.{count_in_front, is_blank_byte}
-use Rattle.markdown_marks.specs.Marks.{fence_of, fence_start}
+use Rattle.markdown_marks.specs.Bytes.{count_in_front, ends_sign, is_blank_byte}
+use Rattle.markdown_marks.specs.Items.{marker_start}
+use Rattle.markdown_marks.specs.Marks.{fence_of, fence_start, is_rule}
 use Rattle.markdown_spans.specs.Code.{is_padded}
-use Rattle.markdown_writing.specs.Phrases.{Phrase, plain, code_span, ends_ticked, fence, first_text, line_text, most_ticks, needs_room, phrase_text, room, roomy, span_text}
-use Rattle.markdown_writing.specs.Writable.{IsLine, line_ends_full, take_turns}
-use Rattle.markdown_writing.specs.Words.{escaped}
+use Rattle.markdown_writing.specs.Phrases.{Phrase, plain, code_span, emphasis, emphasis_text, ends_ticked, fence, first_text, line_text, most_ticks, needs_room, phrase_text, room, roomy, span_text, star_marks}
+use Rattle.markdown_writing.specs.Writable.{IsLine, begins_words, line_ends_full, take_turns}
+use Rattle.markdown_writing.specs.Words.{escaped, escaped_byte, escaped_if, is_mark}
 use Rattle.markdown_writing.proofs.CodeLemmas.{ticks_counted, ticks_dropped}
-use Rattle.markdown_writing.proofs.WordLemmas.{BeginsWords, EndsFull, behind_digits, by_test, ends_number, more_ends, no_number, rest_ends, words_begin, words_end}
+use Rattle.markdown_writing.proofs.WordLemmas.{BeginsWords, EndsFull, behind_digits, by_escape, by_test, ends_number, more_ends, no_fence, no_number, no_other, no_rule, not_none, rest_ends, words_begin, words_end}
 
 -- ---- its beginning
 
@@ -18,10 +19,11 @@ negated true h = sym h
 negated false h = refl
 
 -- what follows words is no number
-others_unnumbered : (ps : List Phrase) → take_turns true ps ≡ true → ends_number (behind_digits (flat_map phrase_text ps)) ≡ false
+others_unnumbered : (ps : List Phrase) → begins_words ps ≡ false → ends_number (behind_digits (flat_map phrase_text ps)) ≡ false
 others_unnumbered [] h = refl
-others_unnumbered (plain words ∷ ps) h = let no : false ≡ true = h in absurd (cc)
+others_unnumbered (plain words ∷ ps) h = let no : true ≡ false = h in absurd (cc)
 others_unnumbered (code_span code ∷ ps) h = refl
+others_unnumbered (emphasis strong words ∷ ps) h = refl
 
 -- ---- code at its beginning
 
@@ -83,16 +85,62 @@ span_begins b bs tail =
       bs = more;
       whole = refl;
       sign = refl;
+      rule = no_rule 96 more refl refl refl;
       fence = ap fence_start parts ∙ no_start most (roomy code) (replicate most 96 ++ tail) (roomy_begins b bs);
       marker = no_number (96 ∷ more) refl refl;
     }
+
+-- ---- stars at its beginning
+
+no_item : (c : ℕ) (cs : List ℕ) → is_blank_byte c ≡ false → ends_sign (c ∷ cs) ≡ false
+no_item c cs h = ap (λ (t : Bool). t || is_blank_byte c) (not_none c cs) ∙ h
+
+star_item : (c : ℕ) (cs : List ℕ) → is_blank_byte c ≡ false → marker_start (42 ∷ c ∷ cs) ≡ None
+star_item c cs h = rw (no_item c cs h) refl
+
+stars_rule : (strong : Bool) (c : ℕ) (cs : List ℕ) → (c == 42) ≡ false → (c == 32) ≡ false → (c == 9) ≡ false → is_rule (star_marks strong ++ c ∷ cs) ≡ false
+unfolding is_rule
+stars_rule true c cs e f g = rw e (rw f (rw g refl))
+stars_rule false c cs e f g = rw e (rw f (rw g refl))
+
+-- stars begin a paragraph where neither a blank nor a star follows
+stars_begin : (strong : Bool) (c : ℕ) (cs : List ℕ) → (c == 42) ≡ false → is_blank_byte c ≡ false → BeginsWords (star_marks strong ++ c ∷ cs)
+stars_begin true c cs e h = record {
+  b = 42;
+  bs = 42 ∷ c ∷ cs;
+  whole = refl;
+  sign = refl;
+  rule = stars_rule true c cs e (no_other is_blank_byte c 32 refl h) (no_other is_blank_byte c 9 refl h);
+  fence = no_fence 42 (42 ∷ c ∷ cs) refl refl;
+  marker = star_item 42 (c ∷ cs) refl;
+}
+stars_begin false c cs e h = record {
+  b = 42;
+  bs = c ∷ cs;
+  whole = refl;
+  sign = refl;
+  rule = stars_rule false c cs e (no_other is_blank_byte c 32 refl h) (no_other is_blank_byte c 9 refl h);
+  fence = no_fence 42 (c ∷ cs) refl refl;
+  marker = star_item c cs h;
+}
+
+-- emphasis begins a paragraph, whatever follows
+emphasis_begins : (strong : Bool) (b : ℕ) (bs tail : List ℕ) → is_blank_byte b ≡ false → BeginsWords (emphasis_text strong (b ∷ bs) ++ tail)
+emphasis_begins strong b bs tail h =
+    let stars = star_marks strong in
+    let rest = flat_map escaped_byte bs in
+    subst BeginsWords (sym (append_assoc stars (flat_map escaped_byte (b ∷ bs) ++ stars) tail))
+    (by_escape (λ (front : List ℕ). BeginsWords (stars ++ (((front ++ rest) ++ stars) ++ tail))) (is_mark b) b (λ e. stars_begin strong 92 (b ∷ ((rest ++ stars) ++ tail)) refl refl)
+    (λ e. stars_begin strong b ((rest ++ stars) ++ tail) (no_other is_mark b 42 refl e) h))
 
 pub line_begins : (ps : List Phrase) → IsLine ps → BeginsWords (line_text ps)
 line_begins [] h = let no : false ≡ true = h.begins in absurd (cc)
 line_begins (code_span [] ∷ ps) h = let no : false ≡ true = h.are.each in absurd (cc)
 line_begins (code_span (b ∷ bs) ∷ ps) h = span_begins b bs (flat_map phrase_text ps)
 line_begins (plain [] ∷ ps) h = let no : false ≡ true = h.are.each in absurd (cc)
-line_begins (plain (b ∷ bs) ∷ ps) h = words_begin b bs (flat_map phrase_text ps) (others_unnumbered ps h.are.turns) (negated (is_blank_byte b) h.begins)
+line_begins (plain (b ∷ bs) ∷ ps) h = words_begin b bs (flat_map phrase_text ps) (others_unnumbered ps (negated (begins_words ps) (and_parts (not (begins_words ps)) (take_turns ps) h.are.turns).0)) (negated (is_blank_byte b) h.begins)
+line_begins (emphasis strong [] ∷ ps) h = let no : false ≡ true = h.are.each in absurd (cc)
+line_begins (emphasis strong (b ∷ bs) ∷ ps) h = emphasis_begins strong b bs (flat_map phrase_text ps) (negated (is_blank_byte b) h.begins)
 
 -- ---- its end
 
@@ -106,20 +154,33 @@ fence_ends most = record { front = replicate most 96; last = 96; whole = fence_e
 span_ends : (code : List ℕ) → EndsFull (phrase_text (code_span code))
 span_ends code = let most = most_ticks 0 0 code in more_ends (fence most) (roomy code ++ fence most) (more_ends (roomy code) (fence most) (fence_ends most))
 
+stars_end : (strong : Bool) → EndsFull (star_marks strong)
+stars_end true = record { front = 42 ∷ []; last = 42; whole = refl; full = refl; sign = λ e. let no : false ≡ true = e in absurd (cc) }
+stars_end false = record { front = []; last = 42; whole = refl; full = refl; sign = λ e. let no : false ≡ true = e in absurd (cc) }
+
+emphasis_ends : (strong : Bool) (words : List ℕ) → EndsFull (emphasis_text strong words)
+emphasis_ends strong words =
+    let stars = star_marks strong in
+    let bytes = flat_map escaped_byte words in
+    more_ends stars (bytes ++ stars) (more_ends bytes stars (stars_end strong))
+
 later_full : (p q : Phrase) (qs : List Phrase) → line_ends_full (p ∷ (q ∷ qs)) ≡ true → line_ends_full (q ∷ qs) ≡ true
 later_full (plain words) q qs h = h
 later_full (code_span code) q qs h = h
+later_full (emphasis strong words) q qs h = h
 
 others_end : (p : Phrase) (ps : List Phrase) → line_ends_full (p ∷ ps) ≡ true → EndsFull (flat_map phrase_text (p ∷ ps))
 others_end (plain []) [] h = let no : false ≡ true = h in absurd (cc)
 others_end (plain (b ∷ bs)) [] h = subst EndsFull (sym (append-nil (phrase_text (plain (b ∷ bs))))) (rest_ends b bs h)
 others_end (code_span code) [] h = subst EndsFull (sym (append-nil (phrase_text (code_span code)))) (span_ends code)
+others_end (emphasis strong words) [] h = subst EndsFull (sym (append-nil (emphasis_text strong words))) (emphasis_ends strong words)
 others_end p (q ∷ qs) h = more_ends (phrase_text p) (flat_map phrase_text (q ∷ qs)) (others_end q qs (later_full p q qs h))
 
 line_end : (p : Phrase) (ps : List Phrase) → line_ends_full (p ∷ ps) ≡ true → EndsFull (line_text (p ∷ ps))
 line_end (plain []) [] h = let no : false ≡ true = h in absurd (cc)
 line_end (plain (b ∷ bs)) [] h = subst EndsFull (sym (append-nil (escaped (b ∷ bs)))) (words_end b bs h)
 line_end (code_span code) [] h = subst EndsFull (sym (append-nil (phrase_text (code_span code)))) (span_ends code)
+line_end (emphasis strong words) [] h = subst EndsFull (sym (append-nil (emphasis_text strong words))) (emphasis_ends strong words)
 line_end p (q ∷ qs) h = more_ends (first_text p) (flat_map phrase_text (q ∷ qs)) (others_end q qs (later_full p q qs h))
 
 pub line_ends : (ps : List Phrase) → IsLine ps → EndsFull (line_text ps)

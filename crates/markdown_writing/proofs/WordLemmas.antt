@@ -9,7 +9,7 @@ use Rattle.std.specs.Str.Parse.{digits_value}
 use Rattle.markdown_marks.specs.Bytes.{first, is_blank_byte, without_blanks}
 use Rattle.markdown_marks.specs.Headings.{heading_text, is_either, unclosed, without_closing, without_end}
 use Rattle.markdown_marks.specs.Items.{is_bullet, marker_of, marker_start, ordered_of}
-use Rattle.markdown_marks.specs.Marks.{fence_start}
+use Rattle.markdown_marks.specs.Marks.{fence_start, is_rule}
 use Rattle.markdown_laws.specs.Plain.{is_sign}
 use Rattle.markdown_writing.specs.Words.{escaped, escaped_byte, escaped_if, is_mark}
 use Rattle.markdown_writing.specs.Writable.{ends_full}
@@ -94,25 +94,30 @@ no_number bytes bullet h =
     ap (λ (t : Bool). cond t (marker_of t (first bytes) 0 1 bytes) number) bullet
     ∙ none_by ((digits == 0) || nat_lt 9 digits) (marker_of (ends_number sign) sign (digits_value 10 (take digits bytes)) (digits + 1) bytes) (ap (λ (t : Bool). marker_of t sign (digits_value 10 (take digits bytes)) (digits + 1) bytes) h)
 
--- a sign, but no backquote
+-- a sign, but no backquote and no star
 abbrev pub is_other_sign : ℕ → Bool
-is_other_sign b = is_sign b && not (b == 96)
+is_other_sign b = is_sign b && not ((b == 96) || (b == 42))
 
--- some bytes begin a paragraph: the first is no other sign, and neither a fence nor a number with its sign is in front
+-- some bytes begin a paragraph: the first is no other sign, they are no thematic break, and neither a fence nor an item's sign is in front
 pub record BeginsWords (bytes : List ℕ) : Type 0 where
   pub b : ℕ
   pub bs : List ℕ
   pub whole : bytes ≡ b ∷ bs
   pub sign : is_other_sign b ≡ false
+  pub rule : is_rule (b ∷ bs) ≡ false
   pub fence : fence_start (b ∷ bs) ≡ None
   pub marker : marker_start (b ∷ bs) ≡ None
 
-no_fence : (b : ℕ) (bs : List ℕ) → (b == 96) ≡ false → (b == 126) ≡ false → fence_start (b ∷ bs) ≡ None
+pub no_fence : (b : ℕ) (bs : List ℕ) → (b == 96) ≡ false → (b == 126) ≡ false → fence_start (b ∷ bs) ≡ None
 unfolding fence_start
 no_fence b bs e f = rw e (rw f refl)
 
+pub no_rule : (b : ℕ) (bs : List ℕ) → (b == 42) ≡ false → (b == 45) ≡ false → (b == 95) ≡ false → is_rule (b ∷ bs) ≡ false
+unfolding is_rule
+no_rule b bs e f g = rw e (rw f (rw g refl))
+
 backslash_begins : (bs : List ℕ) → BeginsWords (92 ∷ bs)
-backslash_begins bs = record { b = 92; bs = bs; whole = refl; sign = refl; fence = no_fence 92 bs refl refl; marker = no_number (92 ∷ bs) refl refl }
+backslash_begins bs = record { b = 92; bs = bs; whole = refl; sign = refl; rule = no_rule 92 bs refl refl refl; fence = no_fence 92 bs refl refl; marker = no_number (92 ∷ bs) refl refl }
 
 no_bullet : (b : ℕ) → is_ascii_punctuation b ≡ false → is_bullet b ≡ false
 no_bullet b h = rw (no_other is_ascii_punctuation b 42 refl h) (rw (no_other is_ascii_punctuation b 43 refl h) (no_other is_ascii_punctuation b 45 refl h))
@@ -127,7 +132,8 @@ byte_begins b bs tail e blank h =
       b = b;
       bs = rest;
       whole = refl;
-      sign = ap (λ (t : Bool). t && not (b == 96)) (no_sign b blank h);
+      sign = ap (λ (t : Bool). t && not ((b == 96) || (b == 42))) (no_sign b blank h);
+      rule = no_rule b rest (no_other is_ascii_punctuation b 42 refl h) (no_other is_ascii_punctuation b 45 refl h) (no_other is_ascii_punctuation b 95 refl h);
       fence = no_fence b rest (no_other is_ascii_punctuation b 96 refl h) (no_other is_ascii_punctuation b 126 refl h);
       marker = no_number (b ∷ rest) (no_bullet b h) (then_none b rest (no_end_first b h) (rest_unnumbered bs tail e));
     }

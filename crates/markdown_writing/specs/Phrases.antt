@@ -1,20 +1,23 @@
--- Phrases of a line: words as they are, and code.
-use Rattle.std.specs.Prelude.{ℕ, suc, ◌-◌, max, Bool, not, ◌||◌, ◌&&◌, ◌==◌, List, [], ◌∷◌, ◌++◌, length, slice_index, flat_map, replicate, if◌then◌else◌}
+-- Phrases of a line: words as they are, code, and words with emphasis.
+use Rattle.std.specs.Prelude.{ℕ, suc, ◌-◌, max, Bool, true, false, not, ◌||◌, ◌&&◌, ◌==◌, List, [], ◌∷◌, ◌++◌, length, slice_index, flat_map, replicate, if◌then◌else◌}
 use Rattle.markdown_marks.specs.Bytes.{first}
 use Rattle.markdown_spans.specs.Code.{is_padded}
 use Rattle.markdown_writing.specs.declared.blocks.PagePhrase.{PagePhrase}
-use Rattle.markdown_writing.specs.declared.blocks.PagePhrase.TheVariants.{Words, Code}
+use Rattle.markdown_writing.specs.declared.blocks.PagePhrase.TheVariants.{Words, Code, Emphasis, Strong}
 use Rattle.markdown_writing.specs.Words.{escaped, escaped_byte}
 
--- A phrase of a line: words as they are, or code.
+-- A phrase of a line: words as they are, code, or words with emphasis, which may be strong.
 pub data Phrase : Type 0 where
   plain : List ℕ → Phrase
   code_span : List ℕ → Phrase
+  emphasis : (strong : Bool) → List ℕ → Phrase
 
 -- what a phrase of the code says, whatever the address of its text
 abbrev pub phrase_of : PagePhrase → Phrase
 phrase_of (Words words) = plain words.now
 phrase_of (Code code) = code_span code.now
+phrase_of (Emphasis words) = emphasis false words.now
+phrase_of (Strong words) = emphasis true words.now
 
 -- The most backquotes that stand side by side, or so many if no more do. Some stand before these bytes.
 abbrev pub most_ticks : (seen most : ℕ) → List ℕ → ℕ
@@ -45,15 +48,25 @@ roomy code = room (needs_room code) ++ (code ++ room (needs_room code))
 abbrev pub span_text : List ℕ → List ℕ
 span_text code = fence (most_ticks 0 0 code) ++ (roomy code ++ fence (most_ticks 0 0 code))
 
+-- one star, or two
+abbrev pub star_marks : (strong : Bool) → List ℕ
+star_marks strong = 42 ∷ (if strong then 42 ∷ [] else [])
+
+-- words between stars
+abbrev pub emphasis_text : (strong : Bool) → List ℕ → List ℕ
+emphasis_text strong words = star_marks strong ++ (flat_map escaped_byte words ++ star_marks strong)
+
 -- a phrase that isn't the first of its line
 abbrev pub phrase_text : Phrase → List ℕ
 phrase_text (plain words) = flat_map escaped_byte words
 phrase_text (code_span code) = span_text code
+phrase_text (emphasis strong words) = emphasis_text strong words
 
 -- the first phrase of a line
 abbrev pub first_text : Phrase → List ℕ
 first_text (plain words) = escaped words
 first_text (code_span code) = span_text code
+first_text (emphasis strong words) = emphasis_text strong words
 
 -- a line of phrases, one after the other
 abbrev pub line_text : List Phrase → List ℕ

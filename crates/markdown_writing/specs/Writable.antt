@@ -2,7 +2,7 @@
 use Rattle.std.specs.Prelude.{◌≡◌, ℕ, Bool, true, false, not, ◌||◌, ◌&&◌, ◌==◌, List, [], ◌∷◌}
 use Rattle.std.specs.List.{list_all}
 use Rattle.markdown_marks.specs.Bytes.{first, is_blank_byte}
-use Rattle.markdown_writing.specs.Phrases.{Phrase, plain, code_span}
+use Rattle.markdown_writing.specs.Phrases.{Phrase, plain, code_span, emphasis}
 
 -- a tab, or the end of a line
 abbrev pub is_tab_or_end : ℕ → Bool
@@ -27,34 +27,52 @@ is_some_line (b ∷ bs) = is_line (b ∷ bs)
 abbrev pub is_phrase : Phrase → Bool
 is_phrase (plain words) = is_some_line words
 is_phrase (code_span code) = is_some_line code
+is_phrase (emphasis strong words) = is_some_line words
 
--- Words and code take turns, behind words or not.
-abbrev pub take_turns : (behind_words : Bool) → List Phrase → Bool
-take_turns behind_words [] = true
-take_turns behind_words (plain words ∷ phrases) = not behind_words && take_turns true phrases
-take_turns behind_words (code_span code ∷ phrases) = behind_words && take_turns false phrases
+-- the first phrase is words as they are
+abbrev pub begins_words : List Phrase → Bool
+begins_words (plain words ∷ phrases) = true
+begins_words _ = false
 
 -- the first phrase is code
 abbrev pub begins_code : List Phrase → Bool
 begins_code (code_span code ∷ phrases) = true
 begins_code _ = false
 
--- Phrases: words and code in turn, without tabs and ends of lines. No phrase is empty.
+-- the first phrase is emphasis, strong or not
+abbrev pub begins_emphasis : List Phrase → Bool
+begins_emphasis (emphasis strong words ∷ phrases) = true
+begins_emphasis _ = false
+
+-- the first phrase is of the same kind as this one
+abbrev pub begins_alike : Phrase → List Phrase → Bool
+begins_alike (plain words) phrases = begins_words phrases
+begins_alike (code_span code) phrases = begins_code phrases
+begins_alike (emphasis strong words) phrases = begins_emphasis phrases
+
+-- No two phrases of one kind stand side by side.
+abbrev pub take_turns : List Phrase → Bool
+take_turns [] = true
+take_turns (phrase ∷ phrases) = not (begins_alike phrase phrases) && take_turns phrases
+
+-- Phrases without tabs and ends of lines. None is empty, and no two of one kind stand side by side: words, code, emphasis.
 pub record ArePhrases (phrases : List Phrase) : Type 0 where
-  pub turns : take_turns (begins_code phrases) phrases ≡ true
+  pub turns : take_turns phrases ≡ true
   pub each : list_all is_phrase phrases ≡ true
 
--- the first phrase is code, or begins with no blank
+-- the first phrase is code, or its words begin with no blank
 abbrev pub begins_full : List Phrase → Bool
 begins_full [] = false
 begins_full (plain words ∷ phrases) = not (is_blank_byte (first words))
 begins_full (code_span code ∷ phrases) = true
+begins_full (emphasis strong words ∷ phrases) = not (is_blank_byte (first words))
 
 -- the last phrase ends with no blank
 abbrev pub line_ends_full : List Phrase → Bool
 line_ends_full [] = false
 line_ends_full (plain words ∷ []) = ends_full words
 line_ends_full (code_span code ∷ []) = true
+line_ends_full (emphasis strong words ∷ []) = true
 line_ends_full (p ∷ (q ∷ qs)) = line_ends_full (q ∷ qs)
 
 -- A line: phrases that neither begin nor end with a blank.

@@ -7,6 +7,10 @@ pub enum PagePhrase<'p> {
     Words(&'p str),
     /// Code within the line.
     Code(&'p str),
+    /// Emphasized words.
+    Emphasis(&'p str),
+    /// Words with strong emphasis.
+    Strong(&'p str),
 }
 
 /// A block of a page.

@@ -2,7 +2,7 @@
 //!
 //! 1. [`blocks`]: what a page is made of.
 //! 2. [`words`]: words, in which a backslash stands before each sign that could be a mark.
-//! 3. [`phrases`]: words and code, one behind the other.
+//! 3. [`phrases`]: words, code and emphasis, one behind the other.
 //! 4. [`quotes`]: a text whose lines have the sign of a quote.
 //! 5. [`writing`]: blocks one below the other.
 //! 6. [`laws`]: what is read of them.

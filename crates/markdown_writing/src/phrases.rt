@@ -1,7 +1,7 @@
-//! Phrases of a line: words, and code.
+//! Phrases of a line: words, code and emphasis.
 
 ghost use Rattle.std.specs.Prelude.{◌≡◌, ◌==◌, ◌++◌, OnOk, map, flat_map, replicate};
-ghost use Rattle.markdown_writing.specs.Phrases.{phrase_of, most_ticks, fence, ends_ticked, needs_room, room, span_text, phrase_text, first_text, line_text};
+ghost use Rattle.markdown_writing.specs.Phrases.{phrase_of, most_ticks, fence, ends_ticked, needs_room, room, span_text, star_marks, emphasis_text, phrase_text, first_text, line_text};
 ghost use Rattle.markdown_marks.specs.Bytes.{first};
 
 use crate::blocks::PagePhrase;
@@ -89,12 +89,34 @@ fn push_code(out: &mut Vec<u8>, code: &[u8]) -> Result<(), AllocError>
     Ok(())
 }
 
+// One star, or two.
+fn push_stars(out: &mut Vec<u8>, strong: bool) -> Result<(), AllocError>
+    ensures { OnOk result (out.new.items ≡ out.old.items ++ star_marks strong) }
+{
+    out.push(b'*')?;
+    if strong {
+        out.push(b'*')?;
+    }
+    Ok(())
+}
+
+fn push_emphasis(out: &mut Vec<u8>, strong: bool, words: &[u8]) -> Result<(), AllocError>
+    ensures { OnOk result (out.new.items ≡ out.old.items ++ emphasis_text strong words.now) }
+{
+    push_stars(out, strong)?;
+    push_rest(out, words)?;
+    push_stars(out, strong)?;
+    Ok(())
+}
+
 fn push_phrase(out: &mut Vec<u8>, phrase: PagePhrase<'_>) -> Result<(), AllocError>
     ensures { OnOk result (out.new.items ≡ out.old.items ++ phrase_text (phrase_of phrase.entry)) }
 {
     match phrase {
         PagePhrase::Words(words) => push_rest(out, words.as_bytes()),
         PagePhrase::Code(code) => push_code(out, code.as_bytes()),
+        PagePhrase::Emphasis(words) => push_emphasis(out, false, words.as_bytes()),
+        PagePhrase::Strong(words) => push_emphasis(out, true, words.as_bytes()),
     }
 }
 
@@ -104,6 +126,8 @@ fn push_first(out: &mut Vec<u8>, phrase: PagePhrase<'_>) -> Result<(), AllocErro
     match phrase {
         PagePhrase::Words(words) => push_escaped(out, words.as_bytes()),
         PagePhrase::Code(code) => push_code(out, code.as_bytes()),
+        PagePhrase::Emphasis(words) => push_emphasis(out, false, words.as_bytes()),
+        PagePhrase::Strong(words) => push_emphasis(out, true, words.as_bytes()),
     }
 }
 

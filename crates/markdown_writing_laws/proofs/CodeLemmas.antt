@@ -7,7 +7,7 @@ use Rattle.std.proofs.lemmas.Bool.Decides.{nat_tests}
 use Rattle.std.proofs.lemmas.List.{length-replicate}
 use Rattle.std.specs.List.{list_all, prefix_len}
 use Rattle.markdown_marks.specs.Bytes.{count_in_front, first}
-use Rattle.markdown_brackets.specs.Brackets.{nothing_read}
+use Rattle.markdown_brackets.specs.declared.brackets.Placed.{Placed}
 use Rattle.markdown_spans.specs.Code.{code_of, code_with, inner, is_padded, is_space, spaced, unpadded}
 use Rattle.markdown_spans.specs.Ticks.{IsTickless, run_at}
 use Rattle.markdown_spans.specs.declared.code.Code.{Code}
@@ -19,7 +19,7 @@ use Rattle.markdown_writing.specs.Phrases.{ends_ticked, fence, most_ticks, needs
 use Rattle.markdown_writing.specs.Writable.{is_line, is_tab_or_end}
 use Rattle.markdown_writing.proofs.CodeLemmas.{ticks_counted, ticks_dropped}
 use Rattle.markdown_writing.proofs.WordLemmas.{by_test, last_of, less_one, no_other, not_none}
-use Rattle.markdown_writing_laws.proofs.PieceLemmas.{behind_more, capped_is, cut_by, index_is, other_of, same_places, skipped}
+use Rattle.markdown_writing_laws.proofs.PieceLemmas.{behind_more, capped_is, cut_by, free, index_is, other_of, same_places, skipped}
 
 pub impossible : (A : Type 0) → false ≡ true → A
 impossible A h = let no : false ≡ true = h in absurd (cc)
@@ -255,25 +255,25 @@ span_piece code =
     let marks = suc (most_ticks 0 0 code) in
     piece (CodeKind (code_with marks (length (roomy code)))) ((marks + length (roomy code) + marks) - 1)
 
-step_code : (labels : List (List ℕ)) (text : List ℕ) (at index : ℕ) (code tail : List ℕ) → drop at text ≡ span_and code tail → IsRoomy code (roomy code) → IsTickless tail
-    → step labels text at index nothing_read (span_and code tail) ≡ record { piece = span_piece code; reading = nothing_read }
+step_code : (labels : List (List ℕ)) (runs : List Placed) (text : List ℕ) (at index : ℕ) (code tail : List ℕ) → drop at text ≡ span_and code tail → IsRoomy code (roomy code) → IsTickless tail
+    → step labels text at index (free runs) (span_and code tail) ≡ record { piece = span_piece code; reading = free runs }
 unfolding step piece_at
-step_code labels text at index code tail e r t =
+step_code labels runs text at index code tail e r t =
     let most = most_ticks 0 0 code in
     let others = replicate most 96 ++ (roomy code ++ (fence most ++ tail)) in
     let rest = 96 ∷ others in
     let here = index_is text at 96 others e in
     let small : (span_piece code).more < length rest =
     omega (arith, length-append (replicate most 96) (roomy code ++ (fence most ++ tail)), length-append (roomy code) (fence most ++ tail), length-append (fence most) tail, length-replicate {A = ℕ} most 96) in
-    ap (λ (c : ℕ). capped_step (read_with c labels text at index nothing_read rest) (length text - at - 1)) here
-    ∙ ap (λ (s : Step). capped_step s (length text - at - 1)) (other_of labels text at index 96 rest refl refl refl)
-    ∙ ap (λ (c : ℕ). capped_step (step_of (piece_by true c text at rest) index nothing_read) (length text - at - 1)) here
-    ∙ ap (λ (o : Option Code). capped_step (step_of (code_by rest o) index nothing_read) (length text - at - 1)) (code_found code tail r t)
-    ∙ capped_is text at index (span_piece code) rest e small
+    ap (λ (c : ℕ). capped_step (read_with c labels text at index (free runs) rest) (length text - at - 1)) here
+    ∙ ap (λ (s : Step). capped_step s (length text - at - 1)) (other_of labels runs text at index 96 rest refl refl refl)
+    ∙ ap (λ (c : ℕ). capped_step (step_of (piece_by true c text at rest) index (free runs)) (length text - at - 1)) here
+    ∙ ap (λ (o : Option Code). capped_step (step_of (code_by rest o) index (free runs)) (length text - at - 1)) (code_found code tail r t)
+    ∙ capped_is runs text at index (span_piece code) rest e small
 
 -- A code span is one piece, which shows the code, and what follows it is cut as it would be anyhow.
 pub record IsSpan (labels : List (List ℕ)) (text : List ℕ) (at index : ℕ) (code tail : List ℕ) : Type 0 where
-  pub cut : cut_from labels text 0 at index nothing_read (span_text code ++ tail) ≡ onto (span_piece code) (cut_from labels text 0 (at + length (span_text code)) (index + 1) nothing_read tail)
+  pub cut : (runs : List Placed) → cut_from labels text 0 at index (free runs) (span_text code ++ tail) ≡ onto (span_piece code) (cut_from labels text 0 (at + length (span_text code)) (index + 1) (free runs) tail)
   pub many : (span_piece code).more + 1 ≡ length (span_text code)
   pub shows : unpadded (take (length (roomy code)) (drop (at + suc (most_ticks 0 0 code)) text)) ≡ code
 
@@ -284,14 +284,14 @@ span_cut labels text at index b bs tail e t =
     let most = most_ticks 0 0 code in
     let inside = replicate most 96 ++ (roomy code ++ fence most) in
     let here : drop at text ≡ span_and code tail = e ∙ span_is code tail in
-    let found = step_code labels text at index code tail here r t in
     let inner_many : length inside ≡ (span_piece code).more =
     omega (arith, length-append (replicate most 96) (roomy code ++ fence most), length-append (roomy code) (fence most), length-replicate {A = ℕ} most 96) in
     record {
-      cut =
-          cut_by labels text at index 96 (inside ++ tail) (span_piece code) (ap (λ (ws : List ℕ). step labels text at index nothing_read ws) (span_is code tail) ∙ found)
-          ∙ ap (λ (n : ℕ). onto (span_piece code) (cut_from labels text n (at + 1) (index + 1) nothing_read (inside ++ tail))) (sym inner_many)
-          ∙ ap (onto (span_piece code)) (skipped labels text (at + 1) (index + 1) inside tail ∙ same_places labels text (at + 1 + length inside) (at + length (96 ∷ inside)) (index + 1) (index + 1) tail (omega arith) refl);
+      cut = λ runs.
+          cut_by labels (free runs) (free runs) text at index 96 (inside ++ tail) (span_piece code)
+          (ap (λ (ws : List ℕ). step labels text at index (free runs) ws) (span_is code tail) ∙ step_code labels runs text at index code tail here r t)
+          ∙ ap (λ (n : ℕ). onto (span_piece code) (cut_from labels text n (at + 1) (index + 1) (free runs) (inside ++ tail))) (sym inner_many)
+          ∙ ap (onto (span_piece code)) (skipped labels (free runs) text (at + 1) (index + 1) inside tail ∙ same_places labels (free runs) text (at + 1 + length inside) (at + length (96 ∷ inside)) (index + 1) (index + 1) tail (omega arith) refl);
       many = omega (arith, inner_many);
       shows =
           ap (λ (ws : List ℕ). unpadded (take (length (roomy code)) ws)) (behind_more text at (suc most) (fence most) (roomy code ++ (fence most ++ tail)) here (ap suc (sym (length-replicate {A = ℕ} most 96))))

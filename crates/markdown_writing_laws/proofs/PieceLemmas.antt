@@ -10,6 +10,7 @@ use Rattle.markdown_marks.specs.Bytes.{first, is_blank_byte}
 use Rattle.markdown_html.specs.Names.{same_letters}
 use Rattle.markdown_addresses.specs.declared.bare.Bare.{Bare}
 use Rattle.markdown_addresses.specs.Bare.{bare_after, is_mail_byte, mail_by, mail_domain, mail_of, may_precede_mail, may_precede_web, or_bare, web_of}
+use Rattle.markdown_brackets.specs.declared.brackets.Placed.{Placed}
 use Rattle.markdown_brackets.specs.Brackets.{Reading, nothing_read}
 use Rattle.markdown_spans.specs.declared.entities.Escape.{Escape}
 use Rattle.markdown_spans.specs.declared.entities.Escape.TheVariants.{Break, Itself, Sign as SignEscape}
@@ -27,10 +28,15 @@ use Rattle.markdown_writing_laws.specs.Said.{AreWords, Says, WordsAreSaid}
 abbrev pub rest_of : List ℕ → List ℕ
 rest_of words = flat_map escaped_byte words
 
--- Nothing follows words, or code does.
+-- Nothing follows words, or code does, or a star.
 pub data IsTail : List ℕ → Type 0 where
   none_follows : IsTail []
   code_follows : (bs : List ℕ) → IsTail (96 ∷ bs)
+  star_follows : (bs : List ℕ) → IsTail (42 ∷ bs)
+
+-- these runs are read, and no bracket is open
+abbrev pub free : List Placed → Reading
+free runs = record { brackets = []; runs = runs; pairs = [] }
 
 plain_rest : (b : ℕ) (bs : List ℕ) → is_mark b ≡ false → rest_of (b ∷ bs) ≡ b ∷ rest_of bs
 plain_rest b bs e = ap (λ (t : Bool). escaped_if t b ++ rest_of bs) e
@@ -86,6 +92,7 @@ no_line_end words tail h t = rest_after is_blank_byte 10 refl refl (λ b e f. no
     end_of : (bs : List ℕ) → IsTail bs → (after is_blank_byte bs == 10) ≡ false
     end_of bs none_follows = refl
     end_of bs (code_follows others) = refl
+    end_of bs (star_follows others) = refl
 
 -- ---- no bare address
 
@@ -100,6 +107,7 @@ no_mail words tail h t =
     end_of : (bs : List ℕ) → IsTail bs → (after is_mail_byte bs == 64) ≡ false
     end_of bs none_follows = refl
     end_of bs (code_follows others) = refl
+    end_of bs (star_follows others) = refl
 
 lower_same : (x b : ℕ) → x < 65 → (b == x) ≡ false → (x == to_ascii_lowercase b) ≡ false
 lower_same x b few h =
@@ -122,13 +130,16 @@ lower_same x b few h =
 
 -- none of these bytes is in an address's beginning
 abbrev stops : ℕ → Bool
-stops c = (c == 92) || (c == 96)
+stops c = (c == 92) || (c == 96) || (c == 42)
 
 not_slash : (c : ℕ) → not (stops c) ≡ true → (c == 92) ≡ false
 not_slash c h = no_other stops c 92 refl (negated (stops c) h)
 
 not_tick : (c : ℕ) → not (stops c) ≡ true → (c == 96) ≡ false
 not_tick c h = no_other stops c 96 refl (negated (stops c) h)
+
+not_star : (c : ℕ) → not (stops c) ≡ true → (c == 42) ≡ false
+not_star c h = no_other stops c 42 refl (negated (stops c) h)
 
 -- the byte that follows words is no letter
 tail_not_in_front : (c : ℕ) (others : List ℕ) → not (stops c) ≡ true → (n : ℕ) (tail : List ℕ) → IsTail tail → same_letters (c ∷ others) (take n tail) ≡ false
@@ -137,6 +148,8 @@ tail_not_in_front c others h zero tail none_follows = refl
 tail_not_in_front c others h (suc n) tail none_follows = refl
 tail_not_in_front c others h zero tail (code_follows bs) = refl
 tail_not_in_front c others h (suc n) tail (code_follows bs) = ap (λ (t : Bool). t && same_letters others (take n bs)) (not_tick c h)
+tail_not_in_front c others h zero tail (star_follows bs) = refl
+tail_not_in_front c others h (suc n) tail (star_follows bs) = ap (λ (t : Bool). t && same_letters others (take n bs)) (not_star c h)
 
 -- letters, and a mark behind them, aren't in front
 not_in_front : (letters : List ℕ) (x : ℕ) (others : List ℕ) → list_all (λ c. not (stops c)) letters ≡ true → not (stops x) ≡ true → x < 65 → is_mark x ≡ true → (n : ℕ) (words tail : List ℕ) → IsTail tail
@@ -218,6 +231,7 @@ none_plain : (before : Option ℕ) (tail : List ℕ) → IsTail tail → plain_f
 unfolding plain_from
 none_plain before tail none_follows = refl
 none_plain before tail (code_follows bs) = refl
+none_plain before tail (star_follows bs) = refl
 
 split : (before : Option ℕ) (words tail : List ℕ) → is_line words ≡ true → IsTail tail → Split before words tail
 split before [] tail h t = record { plain = []; others = []; words_are = refl; bytes_are = refl; many = none_plain before tail t; line = refl }
@@ -251,32 +265,32 @@ split before (b ∷ bs) tail h t =
 pub index_is : (text : List ℕ) (at b : ℕ) (rest : List ℕ) → drop at text ≡ b ∷ rest → slice_index text at ≡ b
 index_is text at b rest e = ap (λ (n : ℕ). slice_index text n) (omega arith) ∙ sym (get_or-drop at text 0 0) ∙ ap (λ (bs : List ℕ). slice_index bs 0) e
 
-pub other_of : (labels : List (List ℕ)) (text : List ℕ) (at index c : ℕ) (rest : List ℕ) → (c == 91) ≡ false → (c == 33) ≡ false → (c == 93) ≡ false
-    → read_with c labels text at index nothing_read rest ≡ step_of (piece_at true text at rest) index nothing_read
-other_of labels text at index c rest e f g = rw e (rw f (rw g refl))
+pub other_of : (labels : List (List ℕ)) (runs : List Placed) (text : List ℕ) (at index c : ℕ) (rest : List ℕ) → (c == 91) ≡ false → (c == 33) ≡ false → (c == 93) ≡ false
+    → read_with c labels text at index (free runs) rest ≡ step_of (piece_at true text at rest) index (free runs)
+other_of labels runs text at index c rest e f g = rw e (rw f (rw g refl))
 
-pub capped_is : (text : List ℕ) (at index : ℕ) (p : Piece) (rest : List ℕ) → drop at text ≡ rest → p.more < length rest → capped_step (step_of p index nothing_read) (length text - at - 1) ≡ record { piece = p; reading = (step_of p index nothing_read).reading }
-capped_is text at index p rest e few =
+pub capped_is : (runs : List Placed) (text : List ℕ) (at index : ℕ) (p : Piece) (rest : List ℕ) → drop at text ≡ rest → p.more < length rest → capped_step (step_of p index (free runs)) (length text - at - 1) ≡ record { piece = p; reading = (step_of p index (free runs)).reading }
+capped_is runs text at index p rest e few =
     let left : length text - at ≡ length rest = sym (length-drop at text) ∙ ap length e in
     let same : min p.more (length text - at - 1) ≡ p.more = omega (arith, left, few) in
-    ap (λ (n : ℕ). record { piece = record p { more = n }; reading = (step_of p index nothing_read).reading }) same
+    ap (λ (n : ℕ). record { piece = record p { more = n }; reading = (step_of p index (free runs)).reading }) same
 
 by_slash : (text : List ℕ) (at b : ℕ) (bs : List ℕ) → (b == 10) ≡ false → is_ascii_punctuation b ≡ true → piece_by true 92 text at (92 ∷ b ∷ bs) ≡ piece (Shown b None) 1
 by_slash text at b bs e h = ap escape_by (ap (λ (t : Bool). cond t Break (cond (is_ascii_punctuation b) (SignEscape b) Itself)) e ∙ ap (λ (t : Bool). cond t (SignEscape b) Itself) h)
 
 -- a backslash and a sign
-step_sign : (labels : List (List ℕ)) (text : List ℕ) (at index b : ℕ) (bs : List ℕ) → drop at text ≡ 92 ∷ b ∷ bs → (b == 10) ≡ false → is_ascii_punctuation b ≡ true
-    → step labels text at index nothing_read (92 ∷ b ∷ bs) ≡ record { piece = piece (Shown b None) 1; reading = nothing_read }
+step_sign : (labels : List (List ℕ)) (runs : List Placed) (text : List ℕ) (at index b : ℕ) (bs : List ℕ) → drop at text ≡ 92 ∷ b ∷ bs → (b == 10) ≡ false → is_ascii_punctuation b ≡ true
+    → step labels text at index (free runs) (92 ∷ b ∷ bs) ≡ record { piece = piece (Shown b None) 1; reading = free runs }
 unfolding step piece_at
-step_sign labels text at index b bs e f h =
+step_sign labels runs text at index b bs e f h =
     let rest = 92 ∷ b ∷ bs in
     let here = index_is text at 92 (b ∷ bs) e in
     let few : 1 < length rest = omega arith in
-    ap (λ (c : ℕ). capped_step (read_with c labels text at index nothing_read rest) (length text - at - 1)) here
-    ∙ ap (λ (s : Step). capped_step s (length text - at - 1)) (other_of labels text at index 92 rest refl refl refl)
-    ∙ ap (λ (c : ℕ). capped_step (step_of (piece_by true c text at rest) index nothing_read) (length text - at - 1)) here
-    ∙ ap (λ (p : Piece). capped_step (step_of p index nothing_read) (length text - at - 1)) (by_slash text at b bs f h)
-    ∙ capped_is text at index (piece (Shown b None) 1) rest e few
+    ap (λ (c : ℕ). capped_step (read_with c labels text at index (free runs) rest) (length text - at - 1)) here
+    ∙ ap (λ (s : Step). capped_step s (length text - at - 1)) (other_of labels runs text at index 92 rest refl refl refl)
+    ∙ ap (λ (c : ℕ). capped_step (step_of (piece_by true c text at rest) index (free runs)) (length text - at - 1)) here
+    ∙ ap (λ (p : Piece). capped_step (step_of p index (free runs)) (length text - at - 1)) (by_slash text at b bs f h)
+    ∙ capped_is runs text at index (piece (Shown b None) 1) rest e few
 
 by_plain : (text : List ℕ) (at b : ℕ) (bs : List ℕ) → is_mark b ≡ false → ends_line (b ∷ bs) ≡ false → bare_if true (byte_before text at) (b ∷ bs) ≡ None
     → piece_by true b text at (b ∷ bs) ≡ piece Plain (plain_from true (Some b) bs)
@@ -289,34 +303,30 @@ by_plain text at b bs h e f =
     others ∙ ap (λ (t : Bool). cond t (break_piece rest) (plain_piece true before b rest)) e ∙ ap (λ (o : Option Bare). plain_by o true b rest) f
 
 -- plain bytes
-step_plain : (labels : List (List ℕ)) (text : List ℕ) (at index b : ℕ) (bs : List ℕ) → drop at text ≡ b ∷ bs → is_mark b ≡ false → ends_line (b ∷ bs) ≡ false → bare_if true (byte_before text at) (b ∷ bs) ≡ None
-    → plain_from true (Some b) bs ≤ length bs → step labels text at index nothing_read (b ∷ bs) ≡ record { piece = piece Plain (plain_from true (Some b) bs); reading = nothing_read }
+step_plain : (labels : List (List ℕ)) (runs : List Placed) (text : List ℕ) (at index b : ℕ) (bs : List ℕ) → drop at text ≡ b ∷ bs → is_mark b ≡ false → ends_line (b ∷ bs) ≡ false → bare_if true (byte_before text at) (b ∷ bs) ≡ None
+    → plain_from true (Some b) bs ≤ length bs → step labels text at index (free runs) (b ∷ bs) ≡ record { piece = piece Plain (plain_from true (Some b) bs); reading = free runs }
 unfolding step piece_at
-step_plain labels text at index b bs e h ends bare many =
+step_plain labels runs text at index b bs e h ends bare many =
     let rest = b ∷ bs in
     let here = index_is text at b bs e in
     let few : plain_from true (Some b) bs < length rest = omega (arith, many) in
-    ap (λ (c : ℕ). capped_step (read_with c labels text at index nothing_read rest) (length text - at - 1)) here
-    ∙ ap (λ (s : Step). capped_step s (length text - at - 1)) (other_of labels text at index b rest (none b 91 refl h) (none b 33 refl h) (none b 93 refl h))
-    ∙ ap (λ (c : ℕ). capped_step (step_of (piece_by true c text at rest) index nothing_read) (length text - at - 1)) here
-    ∙ ap (λ (p : Piece). capped_step (step_of p index nothing_read) (length text - at - 1)) (by_plain text at b bs h ends bare)
-    ∙ capped_is text at index (piece Plain (plain_from true (Some b) bs)) rest e few
+    ap (λ (c : ℕ). capped_step (read_with c labels text at index (free runs) rest) (length text - at - 1)) here
+    ∙ ap (λ (s : Step). capped_step s (length text - at - 1)) (other_of labels runs text at index b rest (none b 91 refl h) (none b 33 refl h) (none b 93 refl h))
+    ∙ ap (λ (c : ℕ). capped_step (step_of (piece_by true c text at rest) index (free runs)) (length text - at - 1)) here
+    ∙ ap (λ (p : Piece). capped_step (step_of p index (free runs)) (length text - at - 1)) (by_plain text at b bs h ends bare)
+    ∙ capped_is runs text at index (piece Plain (plain_from true (Some b) bs)) rest e few
 
 -- ---- pieces, one after the other
 
-pub skipped : (labels : List (List ℕ)) (text : List ℕ) (at index : ℕ) (xs ys : List ℕ) → cut_from labels text (length xs) at index nothing_read (xs ++ ys) ≡ cut_from labels text 0 (at + length xs) index nothing_read ys
+pub skipped : (labels : List (List ℕ)) (r : Reading) (text : List ℕ) (at index : ℕ) (xs ys : List ℕ) → cut_from labels text (length xs) at index r (xs ++ ys) ≡ cut_from labels text 0 (at + length xs) index r ys
 unfolding cut_from
-skipped labels text at index [] ys = ap (λ (n : ℕ). cut_from labels text 0 n index nothing_read ys) (omega arith)
-skipped labels text at index (x ∷ xs) ys = skipped labels text (at + 1) index xs ys ∙ ap (λ (n : ℕ). cut_from labels text 0 n index nothing_read ys) (omega arith)
+skipped labels r text at index [] ys = ap (λ (n : ℕ). cut_from labels text 0 n index r ys) (omega arith)
+skipped labels r text at index (x ∷ xs) ys = skipped labels r text (at + 1) index xs ys ∙ ap (λ (n : ℕ). cut_from labels text 0 n index r ys) (omega arith)
 
-pub cut_by : (labels : List (List ℕ)) (text : List ℕ) (at index b : ℕ) (bs : List ℕ) (p : Piece) → step labels text at index nothing_read (b ∷ bs) ≡ record { piece = p; reading = nothing_read }
-    → cut_from labels text 0 at index nothing_read (b ∷ bs) ≡ onto p (cut_from labels text p.more (at + 1) (index + 1) nothing_read bs)
+pub cut_by : (labels : List (List ℕ)) (r after : Reading) (text : List ℕ) (at index b : ℕ) (bs : List ℕ) (p : Piece) → step labels text at index r (b ∷ bs) ≡ record { piece = p; reading = after }
+    → cut_from labels text 0 at index r (b ∷ bs) ≡ onto p (cut_from labels text p.more (at + 1) (index + 1) after bs)
 unfolding cut_from
-cut_by labels text at index b bs p e = ap (λ (s : Step). onto s.piece (cut_from labels text s.piece.more (at + 1) (index + 1) s.reading bs)) e
-
-nothing_cut : (labels : List (List ℕ)) (text : List ℕ) (at index : ℕ) → (cut_from labels text 0 at index nothing_read []).pieces ≡ []
-unfolding cut_from
-nothing_cut labels text at index = refl
+cut_by labels r after text at index b bs p e = ap (λ (s : Step). onto s.piece (cut_from labels text s.piece.more (at + 1) (index + 1) s.reading bs)) e
 
 zero_more : (m : ℕ) → 0 + m ≡ m
 zero_more m = omega arith
@@ -346,7 +356,7 @@ taken_plain : (b n : ℕ) (xs ys : List ℕ) → n ≡ length xs → (b ∷ xs �
 taken_plain b n xs ys e =
     (ap (λ (ws : List ℕ). b ∷ ws) (sym (take-append_seam xs ys)) ∙ ap (λ (k : ℕ). take (suc k) (b ∷ (xs ++ ys))) (sym e), sym (drop-append_seam xs ys) ∙ ap (λ (k : ℕ). drop (suc k) (b ∷ (xs ++ ys))) (sym e))
 
-no_mark : (b : ℕ) → is_ascii_punctuation b ≡ false → is_mark b ≡ false
+pub no_mark : (b : ℕ) → is_ascii_punctuation b ≡ false → is_mark b ≡ false
 no_mark b f =
     rw (no_other is_ascii_punctuation b 33 refl f) (rw (no_other is_ascii_punctuation b 35 refl f) (rw (no_other is_ascii_punctuation b 38 refl f) (rw (no_other is_ascii_punctuation b 41 refl f)
     (rw (no_other is_ascii_punctuation b 42 refl f) (rw (no_other is_ascii_punctuation b 46 refl f) (rw (no_other is_ascii_punctuation b 58 refl f) (rw (no_other is_ascii_punctuation b 60 refl f)
@@ -384,17 +394,17 @@ before_others ps c = record { pieces = ps ++ c.pieces; reading = c.reading }
 -- Some bytes are cut into pieces that say words, and what follows them is cut as it would be anyhow.
 pub record IsCut (labels : List (List ℕ)) (text : List ℕ) (at index : ℕ) (bytes words tail : List ℕ) : Type 0 where
   pub pieces : List Piece
-  pub cut : cut_from labels text 0 at index nothing_read (bytes ++ tail) ≡ before_others pieces (cut_from labels text 0 (at + length bytes) (index + length pieces) nothing_read tail)
+  pub cut : (runs : List Placed) → cut_from labels text 0 at index (free runs) (bytes ++ tail) ≡ before_others pieces (cut_from labels text 0 (at + length bytes) (index + length pieces) (free runs) tail)
   pub many : bytes_in pieces ≡ length bytes
   pub are : AreWordsTo tail (bytes ++ tail) pieces words
 
 -- the same at places that are the same
-pub same_places : (labels : List (List ℕ)) (text : List ℕ) (at other index next : ℕ) (tail : List ℕ) → at ≡ other → index ≡ next
-    → cut_from labels text 0 at index nothing_read tail ≡ cut_from labels text 0 other next nothing_read tail
-same_places labels text at other index next tail e f = ap (λ (n : ℕ). cut_from labels text 0 n index nothing_read tail) e ∙ ap (λ (n : ℕ). cut_from labels text 0 other n nothing_read tail) f
+pub same_places : (labels : List (List ℕ)) (r : Reading) (text : List ℕ) (at other index next : ℕ) (tail : List ℕ) → at ≡ other → index ≡ next
+    → cut_from labels text 0 at index r tail ≡ cut_from labels text 0 other next r tail
+same_places labels r text at other index next tail e f = ap (λ (n : ℕ). cut_from labels text 0 n index r tail) e ∙ ap (λ (n : ℕ). cut_from labels text 0 other n r tail) f
 
 none_cut : (labels : List (List ℕ)) (text : List ℕ) (at index : ℕ) (tail : List ℕ) → IsCut labels text at index [] [] tail
-none_cut labels text at index tail = record { pieces = []; cut = same_places labels text at (at + 0) index (index + 0) tail (omega arith) (omega arith); many = refl; are = (refl, refl) }
+none_cut labels text at index tail = record { pieces = []; cut = λ runs. same_places labels (free runs) text at (at + 0) index (index + 0) tail (omega arith) (omega arith); many = refl; are = (refl, refl) }
 
 sign_cut : (labels : List (List ℕ)) (text : List ℕ) (at index b : ℕ) (bytes words tail : List ℕ) → drop at text ≡ 92 ∷ b ∷ (bytes ++ tail) → is_ascii_punctuation b ≡ true
     → IsCut labels text (at + 1 + 1) (index + 1) bytes words tail → IsCut labels text at index (92 ∷ b ∷ bytes) (b ∷ words) tail
@@ -403,11 +413,11 @@ sign_cut labels text at index b bytes words tail e h later =
     let count = length later.pieces in
     record {
       pieces = p ∷ later.pieces;
-      cut =
-          cut_by labels text at index 92 (b ∷ (bytes ++ tail)) p (step_sign labels text at index b (bytes ++ tail) e (no_newline b h) h)
-          ∙ ap (onto p) (skipped labels text (at + 1) (index + 1) (b ∷ []) (bytes ++ tail) ∙ later.cut)
+      cut = λ runs.
+          cut_by labels (free runs) (free runs) text at index 92 (b ∷ (bytes ++ tail)) p (step_sign labels runs text at index b (bytes ++ tail) e (no_newline b h) h)
+          ∙ ap (onto p) (skipped labels (free runs) text (at + 1) (index + 1) (b ∷ []) (bytes ++ tail) ∙ later.cut runs)
           ∙ ap (λ (c : Pieces). before_others (p ∷ later.pieces) c)
-          (same_places labels text (at + 1 + 1 + length bytes) (at + length (92 ∷ b ∷ bytes)) (index + 1 + count) (index + length (p ∷ later.pieces)) tail (omega arith) (omega arith));
+          (same_places labels (free runs) text (at + 1 + 1 + length bytes) (at + length (92 ∷ b ∷ bytes)) (index + 1 + count) (index + length (p ∷ later.pieces)) tail (omega arith) (omega arith));
       many = omega (arith, later.many);
       are = (b ∷ [], words, refl, (refl, few_signs b h), later.are);
     }
@@ -429,13 +439,13 @@ plain_cut labels text at index b bs tail e h line t s later =
     let count = length later.pieces in
     record {
       pieces = p ∷ later.pieces;
-      cut =
-          cut_by labels text at index b rest p (step_plain labels text at index b rest e h ends bare many)
-          ∙ ap (λ (k : ℕ). onto p (cut_from labels text k (at + 1) (index + 1) nothing_read rest)) s.many
-          ∙ ap (λ (ws : List ℕ). onto p (cut_from labels text (length s.plain) (at + 1) (index + 1) nothing_read ws)) bytes_are
-          ∙ ap (onto p) (skipped labels text (at + 1) (index + 1) s.plain behind ∙ later.cut)
+      cut = λ runs.
+          cut_by labels (free runs) (free runs) text at index b rest p (step_plain labels runs text at index b rest e h ends bare many)
+          ∙ ap (λ (k : ℕ). onto p (cut_from labels text k (at + 1) (index + 1) (free runs) rest)) s.many
+          ∙ ap (λ (ws : List ℕ). onto p (cut_from labels text (length s.plain) (at + 1) (index + 1) (free runs) ws)) bytes_are
+          ∙ ap (onto p) (skipped labels (free runs) text (at + 1) (index + 1) s.plain behind ∙ later.cut runs)
           ∙ ap (λ (c : Pieces). before_others (p ∷ later.pieces) c)
-          (same_places labels text (at + 1 + length s.plain + length (rest_of s.others)) (at + length (b ∷ rest_of bs)) (index + 1 + count) (index + length (p ∷ later.pieces)) tail (omega (arith, all)) (omega arith));
+          (same_places labels (free runs) text (at + 1 + length s.plain + length (rest_of s.others)) (at + length (b ∷ rest_of bs)) (index + 1 + count) (index + length (p ∷ later.pieces)) tail (omega (arith, all)) (omega arith));
       many = omega (arith, later.many, s.many, all);
       are = (
         b ∷ s.plain,
@@ -495,9 +505,9 @@ nothing_left rest [] words h = h
 nothing_left rest (p ∷ ps) words h = (h.0, h.1, h.2, h.3, nothing_left (drop (suc p.more) rest) ps h.1 h.4)
 
 -- what is cut where nothing follows
-pub ended_cut : (labels : List (List ℕ)) (text : List ℕ) (at index : ℕ) (bytes words : List ℕ) (c : IsCut labels text at index bytes words []) → cut_from labels text 0 at index nothing_read (bytes ++ []) ≡ record { pieces = c.pieces; reading = nothing_read }
+ended_cut : (labels : List (List ℕ)) (text : List ℕ) (at index : ℕ) (bytes words : List ℕ) (c : IsCut labels text at index bytes words []) → cut_from labels text 0 at index nothing_read (bytes ++ []) ≡ record { pieces = c.pieces; reading = nothing_read }
 unfolding cut_from
-ended_cut labels text at index bytes words c = c.cut ∙ ap (λ (ps : List Piece). record { pieces = ps; reading = nothing_read }) (append-nil c.pieces)
+ended_cut labels text at index bytes words c = c.cut [] ∙ ap (λ (ps : List Piece). record { pieces = ps; reading = nothing_read }) (append-nil c.pieces)
 
 -- escaped words are read as these words
 pub words_said : WordsAreSaid

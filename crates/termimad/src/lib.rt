@@ -59,7 +59,7 @@ pub mod layout {
 
 /// Pages as rows, and laws of these: the columns of what stands in front of a line, and that each row fills its width.
 pub mod pages {
-    pub use mad_dressing::HeadingMarks;
+    pub use mad_dressing::{HeadingMarks, PageMarks};
     pub use mad_mark_runs::MarkRun;
     pub use mad_page_rows::{PageTextRows, PlacedPageRows, laws};
     pub use mad_page_skin::{CodeStyles, TitleStyles};

@@ -20,7 +20,7 @@ pub fn options<'a>(alloc: Global) -> Result<Command<'a>, AllocError>
         alloc,
         "skin",
         "SKIN",
-        "Shows it in auto, dark, light, sixteen, none, a file's or JSON's skin",
+        "Skin: auto, dark, light, sixteen, none, a file or JSON",
     );
     let code = valued(
         alloc,
@@ -45,11 +45,7 @@ pub fn options<'a>(alloc: Global) -> Result<Command<'a>, AllocError>
         "Shows text that isn't Markdown, with its colors",
     );
     let stream = flag(alloc, "stream", "Writes Markdown from a pipe as it comes");
-    let live = flag(
-        alloc,
-        "live",
-        "Shows it so on a terminal, word by word, redrawn in place",
-    );
+    let live = flag(alloc, "live", "Does so on a terminal, redrawn in place");
     let no_pager = flag(alloc, "no-pager", "Writes, and doesn't page");
     bare(alloc)
         .arg(files(alloc))?

@@ -14,7 +14,7 @@ use Rattle.mad_input.specs.declared.input.Heard.TheVariants.{Typed, Pasted, Read
 use Rattle.mad_input.specs.declared.input.TerminalInput.{TerminalInput}
 use Rattle.mad_sections.specs.Sections.{SectionContent}
 use Rattle.mad_dressing.specs.Dressed.{Put, dressed, put_with}
-use Rattle.mad_dressing.specs.declared.heading_marks.HeadingMarks.{HeadingMarks}
+use Rattle.mad_dressing.specs.declared.page_marks.PageMarks.{PageMarks}
 use Rattle.mad_search.specs.PagedTexts.{grouped}
 use Rattle.mad_search.proofs.GroupLemmas.{page_grouped}
 use Rattle.markdown_reader.specs.MarkdownSays.{LinkSaid}
@@ -129,11 +129,11 @@ pub shown_by : (text printed shown : List ℕ) → printed ≡ printed_text text
 shown_by text printed shown e is = is ∙ ap (λ (t : List ℕ). encode_utf8_all (steady_text (chars t))) e
 
 -- what a text says that is shown so
-pub lines_said : (grammar : Grammar) (marks : HeadingMarks) (text shown : List ℕ) → grammar ≡ Lines → shown ≡ shown_text text → plain_said shown ≡ said_in grammar marks text
+pub lines_said : (grammar : Grammar) (marks : PageMarks) (text shown : List ℕ) → grammar ≡ Lines → shown ≡ shown_text text → plain_said shown ≡ said_in grammar marks text
 lines_said grammar marks text shown is e = ap plain_said e ∙ ap (λ (g : Grammar). said_in g marks text) (sym is)
 
 -- what Markdown says that was read, with what is put into its page with each of its sections
-pub markdown_said : (grammar : Grammar) (marks : HeadingMarks) (text : List ℕ) (puts : List Put) (page said : List SectionContent) (links : List LinkSaid) → grammar ≡ Markdown → said ≡ markdown_sections text → page ≡ said → puts ≡ map (put_with marks) page
+pub markdown_said : (grammar : Grammar) (marks : PageMarks) (text : List ℕ) (puts : List Put) (page said : List SectionContent) (links : List LinkSaid) → grammar ≡ Markdown → said ≡ markdown_sections text → page ≡ said → puts ≡ map (put_with marks) page
     → links ≡ markdown_links text → record { page = said; shown = grouped puts said; links = Some links } ≡ said_in grammar marks text
 markdown_said grammar marks text puts page said links is e same put f =
     let groups : grouped puts said ≡ map (dressed marks) said = page_grouped marks puts said (put ∙ ap (map (put_with marks)) same) in

@@ -6,7 +6,8 @@ use Rattle.mad_term.specs.declared.errors.Error.TheVariants.{IO, InsufficientWid
 use Rattle.mad_measure.specs.Printable.{printable_text}
 use Rattle.mad_steady.specs.Steady.{steady_text}
 use Rattle.mad_dressing.specs.Dressed.{dressed}
-use Rattle.mad_dressing.specs.declared.heading_marks.HeadingMarks.{HeadingMarks}
+use Rattle.mad_dressing.specs.declared.page_marks.PageMarks.{PageMarks}
+use Rattle.mad_page_skin.specs.PageSkins.{page_marks}
 use Rattle.markdown_reader.specs.Markdown.{markdown_sections, markdown_links}
 use Rattle.mad_pager.specs.Pagers.{View, begun, IsOpened, IsOrderlyView, IsViewShown, IsViewUnshown, view_of}
 use Rattle.mad_outline.specs.Sources.{TextSaid, plain_said}
@@ -43,13 +44,13 @@ abbrev pub name_row : List ℕ → List ℕ
 name_row name = encode_utf8_all (map row_char (chars (shown_text name)))
 
 -- what a text says: the parts of it as it is shown, or the sections of Markdown as people write it, with the rules and signs of headings, and its links
-abbrev pub said_in : Grammar → HeadingMarks → List ℕ → TextSaid
+abbrev pub said_in : Grammar → PageMarks → List ℕ → TextSaid
 said_in Lines marks text = plain_said (shown_text text)
 said_in Markdown marks text = record { page = markdown_sections text; shown = map (dressed marks) (markdown_sections text); links = Some (markdown_links text) }
 
 -- what a sheet's text says
 abbrev pub sheet_said : Sheet → TextSaid
-sheet_said sheet = said_in sheet.grammar sheet.skin.now.headings sheet.text.now
+sheet_said sheet = said_in sheet.grammar (page_marks sheet.skin.now) sheet.text.now
 
 -- ---- turns
 

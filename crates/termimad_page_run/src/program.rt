@@ -91,7 +91,7 @@ pub fn run<I: Source, O: Out>(
         Grammar::Markdown => {
             let markdown = Markdown::read(alloc, sheet.text)?;
             let sections = markdown.page(alloc)?;
-            let dressings = dressings_of(alloc, &sections, sheet.skin.headings)?;
+            let dressings = dressings_of(alloc, &sections, sheet.skin.marks())?;
             let text = PagedText::Markdown(&markdown, &dressings);
             page(alloc, sheet, name.as_str(), text, input, out)
         }

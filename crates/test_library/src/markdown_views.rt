@@ -43,7 +43,7 @@ pub fn moved(asked: &Asked, steps: &str) -> Result<String, Refusal> {
 // The text, read for a skin.
 fn read(asked: &Asked, skin: &PageSkin) -> Result<DressedMarkdown, AllocError> {
     let read = Markdown::read(asked.alloc, asked.text)?;
-    DressedMarkdown::new(asked.alloc, read, skin.headings)
+    DressedMarkdown::new(asked.alloc, read, skin.marks())
 }
 
 fn move_view(view: &mut MarkdownView, step: &str) -> Result<Option<bool>, AllocError> {

@@ -27,6 +27,7 @@ fn draw_run(picture: &mut String, run: &Compound<'_>) -> Result<(), AllocError> 
     draw_flag(picture, run.code, 'c')?;
     draw_flag(picture, run.strikeout, 's')?;
     draw_flag(picture, run.link, 'l')?;
+    draw_flag(picture, run.picture, 'p')?;
     picture.push('"')?;
     for c in run.src.chars() {
         match c {

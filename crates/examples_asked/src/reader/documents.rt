@@ -2,7 +2,7 @@
 
 use std::alloc::{AllocError, Global};
 use std::fs;
-use termimad::pages::HeadingMarks;
+use termimad::pages::PageMarks;
 use termimad::{CellExtract, CompoundStyle, DressedMarkdown, Error, ListViewCell, Markdown};
 
 /// A file of Markdown that was read.
@@ -14,12 +14,8 @@ pub struct Document {
     pub markdown: DressedMarkdown,
 }
 
-/// Reads the files whose names are the lines of a file, to be shown where these stand beside headings.
-pub fn read_all(
-    rt: &HostRuntime,
-    names: &str,
-    headings: HeadingMarks,
-) -> Result<Vec<Document>, Error> {
+/// Reads the files whose names are the lines of a file, to be shown where these stand in their pages.
+pub fn read_all(rt: &HostRuntime, names: &str, marks: PageMarks) -> Result<Vec<Document>, Error> {
     let alloc = rt.alloc();
     let names = fs::read_to_string(rt, names)?;
     let mut documents = Vec::new(alloc);
@@ -28,7 +24,7 @@ pub fn read_all(
         let read = Markdown::read(alloc, text.as_str())?;
         documents.push(Document {
             name: String::from_str(alloc, name)?,
-            markdown: DressedMarkdown::new(alloc, read, headings)?,
+            markdown: DressedMarkdown::new(alloc, read, marks)?,
         })?;
     }
     Ok(documents)

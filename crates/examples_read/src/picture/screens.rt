@@ -18,7 +18,7 @@ const KEYS: &[u8] = b"/disk\r";
 pub fn text_screen(alloc: Global, text: &str, page_skin: &PageSkin) -> Result<Screen, Error> {
     let skin = page_skin.row_skin();
     let read = Markdown::read(alloc, text)?;
-    let markdown = DressedMarkdown::new(alloc, read, page_skin.headings)?;
+    let markdown = DressedMarkdown::new(alloc, read, page_skin.marks())?;
     let rows = lay_markdown(alloc, &markdown, &skin, Some(COLUMNS as usize))?;
     let rows = u16::try_from(rows.len()).unwrap_or(u16::MAX);
     let area = Area::new(0, 0, COLUMNS, rows);

@@ -7,7 +7,7 @@ pub returns-then-is_some : goal.returns-then-is_some
 returns-then-is_some c = (
   c.args.line.now ∷ [],
   lines_push _ _ _ c.in_ok-push.ensures.items,
-  line_stays c.args.width c.args.line.now (record { src = c.args.line; bold = false; italic = false; code = false; strikeout = false; link = false }) refl (fits_within _ _ _ _ c.columns_within.ensures c.is_some.ensures c.if-is_some.true),
+  line_stays c.args.width c.args.line.now (record { src = c.args.line; bold = false; italic = false; code = false; strikeout = false; link = false; picture = false; picture_sign = false }) refl (fits_within _ _ _ _ c.columns_within.ensures c.is_some.ensures c.if-is_some.true),
 )
 
 pub wrap_compounds-requires : goal.wrap_compounds-requires

@@ -5,7 +5,7 @@ use Rattle.markdown_pieces.specs.declared.pieces.Piece.{Piece}
 use Rattle.markdown_inlines.specs.declared.looks.Look.{Look}
 use Rattle.markdown_inlines.specs.declared.links.Over.{Over}
 use Rattle.markdown_inlines.specs.declared.inlines.LinkTarget.{LinkTarget}
-use Rattle.markdown_inlines.specs.Parts.{characters}
+use Rattle.markdown_inlines.specs.Parts.{piece_shown}
 use Rattle.markdown_inlines.specs.Inlines.{look_at, shown_piece, shown_from, links_from}
 use Rattle.markdown_inlines.specs.Styled.{Shown, shown_with, spelled_of}
 use Rattle.markdown_inlines.proofs.LinkLemmas.{no_piece}
@@ -50,7 +50,7 @@ loop-index-preserved c =
     let next = cut_next text at i ps no_piece within held.cut in
     let look : c.look_at-look.result ≡ look_at f p o = c.look_at-look.ensures in
     let pushed : spelled_of c.push_piece.new.styled ≡ spelled_of c.loop-index.styled ++ shown_piece text at p f n o =
-    c.in_ok-push_piece.ensures.pushed ∙ ap (λ (l : Look). spelled_of c.loop-index.styled ++ map (shown_with l) (characters text at p n o.opens)) look in
+    c.in_ok-push_piece.ensures.pushed ∙ ap (λ (l : Look). spelled_of c.loop-index.styled ++ map (shown_with l) (piece_shown text at p n o)) look in
     let behind : List LinkTarget = links_from (at + (p.more + 1)) (drop (i + 1) ps) in
     record {
       cut = next.3;

@@ -1,6 +1,4 @@
-use Rattle.std.proofs.Common.{◌≡◌, ℕ, ◌≤◌, ◌<◌, List, length, take, drop, get_or, string_bytes, ap, sym, subst, ◌∙◌, arith}
-use Rattle.std.specs.Str.{IsUtf8}
-use Rattle.std.proofs.lemmas.List.{length-drop}
+use Rattle.std.proofs.Common.{ℕ, ◌≤◌, List, length, string_bytes, ap, subst, arith}
 use Rattle.markdown_inlines.specs.Plain.{ArePlain}
 use Rattle.markdown_inlines.proofs.PlainLemmas.{border, front_shown}
 use Rattle.markdown_inlines.proofs.plain.push_front.Goals as goal

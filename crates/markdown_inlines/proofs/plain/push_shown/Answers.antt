@@ -1,8 +1,7 @@
-use Rattle.std.proofs.Common.{◌≡◌, ℕ, ◌++◌, List, length, string_bytes, encode_utf8, ap, sym, subst, ◌∙◌, arith}
+use Rattle.std.proofs.Common.{◌≡◌, ℕ, ◌++◌, List, length, string_bytes, encode_utf8, ap, ◌∙◌, arith}
 use Rattle.std.proofs.lemmas.List.{length-append}
 use Rattle.std.proofs.lemmas.Str.{length-encode, len_utf8_bounds}
 use Rattle.markdown_inlines.specs.Printable.{shown_char}
-use Rattle.markdown_inlines.specs.Plain.{IsShownUpTo}
 use Rattle.markdown_inlines.proofs.StyledLemmas.{alone}
 use Rattle.std.proofs.lemmas.Str.{IsUtf8-string_bytes}
 use Rattle.markdown_inlines.proofs.PlainLemmas.{one_shown, both_shown}

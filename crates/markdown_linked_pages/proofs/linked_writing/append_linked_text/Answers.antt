@@ -1,8 +1,9 @@
 use Rattle.std.proofs.Common.{◌≡◌, ◌+◌, ◌++◌, ◌∙◌, ℕ, List, ap, drop, refl, string_bytes, subst, sym}
 use Rattle.std.proofs.lemmas.List.{drop-map}
 use Rattle.mad_dressing.specs.Dressed.{dressed, dressed_page}
+use Rattle.mad_dressing.specs.declared.page_marks.PageMarks.{PageMarks}
 use Rattle.mad_page_rows.specs.Faces.{has_ascii_boxes}
-use Rattle.mad_page_skin.specs.PageSkins.{page_row_skin}
+use Rattle.mad_page_skin.specs.PageSkins.{page_marks, page_row_skin}
 use Rattle.mad_pages.specs.PageLayouts.{IsPageAt}
 use Rattle.mad_pages.specs.PageRows.{RowContent}
 use Rattle.mad_rows.specs.RowStyles.{line_rules}
@@ -28,13 +29,13 @@ sections-init c =
     let rows = string_bytes c.args.rows.now in
     record {
       passed = none_passed links;
-      so_far = subst (λ (ss : List SectionContent). WrittenSoFar f skin c.args.width (dressed_page c.args.skin.now.headings all) (dressed_page c.args.skin.now.headings (linked_from links marks 0 ss)) rows rows) (sym c.sections-rest.ensures) (written_none f skin c.args.width (dressed_page c.args.skin.now.headings all) rows);
+      so_far = subst (λ (ss : List SectionContent). WrittenSoFar f skin c.args.width (dressed_page (page_marks c.args.skin.now) all) (dressed_page (page_marks c.args.skin.now) (linked_from links marks 0 ss)) rows rows) (sym c.sections-rest.ensures) (written_none f skin c.args.width (dressed_page (page_marks c.args.skin.now) all) rows);
     }
 
 pub sections-preserved : goal.sections-preserved
 sections-preserved c =
     let skin : RowSkin = page_row_skin c.args.skin.now in
-    let headings = c.args.skin.now.headings in
+    let headings = page_marks c.args.skin.now in
     let links = links_said c.args.read.now in
     let marks = link_marks_said c.args.read.now in
     let n = c.sections.number in
@@ -54,8 +55,10 @@ sections-preserved c =
     c.links_before-passed.ensures ∙ ap (λ (ls : List LinkSaid). c.sections.passed + links_before n ls) (sym (drop-map link_said c.sections.passed c.links-links.result.now) ∙ ap (drop c.sections.passed) c.links-links.ensures) in
     let here = passed_here links n c.sections.passed c.links_before-passed.result passed counted in
     let joins = linked_step links marks n c.links_before-passed.result c.in_ok-found.found.items made left after s shown (first_left left after s got c.in_ok-section.ensures.rest) c.in_ok-found.ensures.marks made_is here refl in
+    let laid =
+    subst (λ (k : RowSkin). (own : List RowContent) × IsPageAt (line_rules k) (has_ascii_boxes k) c.args.width (dressed c.marks.result shown) own × (now ≡ before ++ linked_rows_bytes c.args.addresses.now k c.args.width own)) c.row_skin-row_skin.ensures c.in_ok-append_marked_section.ensures in
     let done =
-    subst (λ (k : RowSkin). (own : List RowContent) × IsPageAt (line_rules k) (has_ascii_boxes k) c.args.width (dressed headings shown) own × (now ≡ before ++ linked_rows_bytes c.args.addresses.now k c.args.width own)) c.row_skin-row_skin.ensures c.in_ok-append_marked_section.ensures in
+    subst (λ (m : PageMarks). (own : List RowContent) × IsPageAt (line_rules skin) (has_ascii_boxes skin) c.args.width (dressed m shown) own × (now ≡ before ++ linked_rows_bytes c.args.addresses.now skin c.args.width own)) c.marks.ensures laid in
     record {
       passed = subst (λ (k : ℕ). ArePassed links k c.links_before-passed.result) (sym c.in_ok-number.ensures) (passed_on links n c.sections.passed c.links_before-passed.result passed counted);
       so_far = subst (λ (k : ℕ). WrittenSoFar f skin c.args.width (dressed_page headings all) (dressed_page headings (linked_from links marks k after)) (string_bytes c.args.rows.now) now) (sym c.in_ok-number.ensures)
@@ -72,7 +75,7 @@ sections-smaller c =
 pub returns : goal.returns
 returns c =
     let skin : RowSkin = page_row_skin c.args.skin.now in
-    let headings = c.args.skin.now.headings in
+    let headings = page_marks c.args.skin.now in
     let links = links_said c.args.read.now in
     let marks = link_marks_said c.args.read.now in
     let left = sections_left c.sections.rest in

@@ -1,4 +1,4 @@
-use Rattle.std.proofs.Common.{◌≡◌, List, [], ◌∷◌, length, reverse, string_bytes, sym, ap, ◌∙◌, arith, true}
+use Rattle.std.proofs.Common.{◌≡◌, [], ◌∷◌, reverse, string_bytes, sym, ap, ◌∙◌, arith}
 use Rattle.std.proofs.lemmas.List.{reverse-append}
 use Rattle.markdown_inlines.specs.Styled.{spelled_of}
 use Rattle.markdown_inlines.proofs.PlainLemmas.{shown_same, shown_other, shown_none}

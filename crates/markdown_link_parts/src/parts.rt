@@ -2,7 +2,7 @@
 
 ghost use Rattle.std.specs.Prelude.{◌≡◌};
 ghost use Rattle.markdown_marks.specs.Definitions.{after_destination, title_after};
-ghost use Rattle.markdown_destinations.specs.Parts.{before, inner, destination_in, title_in, behind, inline_text, inline_destination, inline_title, defined_text, defined_destination, ends_line, is_title, defined_title_in, defined_title};
+ghost use Rattle.markdown_link_parts.specs.Parts.{before, inner, destination_in, title_in, behind, inline_text, inline_destination, inline_title, defined_text, defined_destination, ends_line, is_title, defined_title_in, defined_title};
 
 use markdown_marks::bytes::{first, without_blanks};
 use markdown_marks::definitions::{after_destination, after_label, after_space, title_after};
