@@ -2,10 +2,8 @@ pub mod DrawnHits
 pub mod FrontHitLemmas
 pub mod HitLemmas
 pub mod LineLemmas
-pub mod MatchLemmas
 pub mod PaneLemmas
 pub mod PartLemmas
-pub mod RowHitLemmas
 pub mod RowStandLemmas
 pub mod StandLemmas
 pub mod TookLemmas

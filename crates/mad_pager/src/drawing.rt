@@ -1,10 +1,11 @@
 //! The whole screen, drawn in memory and then put.
 
-ghost use Rattle.std.specs.Prelude.{◌≡◌, OnOk, IfOk, MatchResult, ℕ, List, Some, false};
+ghost use Rattle.std.specs.Prelude.{◌≡◌, ◌==◌, ◌&&◌, not, length, OnOk, IfOk, MatchResult, ℕ, List, Some, false};
 ghost use Rattle.mad_term.specs.Trace.{TookWith, Writes};
+ghost use Rattle.mad_search.specs.Readings.{reading_of};
 ghost use Rattle.mad_pager.specs.Pictures.{picture_trace};
 ghost use Rattle.mad_pager.specs.Sessions.{state_of};
-ghost use Rattle.mad_pager.specs.Screens.{AreHitsDrawn, AreLinesShown, ArePanesDrawn, IsDrawing, IsFieldRow, IsFieldShown, IsLastRow, IsPicture, IsShown, IsUnshown, bar_of, is_small, question, room_of};
+ghost use Rattle.mad_pager.specs.Screens.{AreHitsDrawn, AreLinesShown, AreMarks, ArePanesDrawn, IsDrawing, IsFieldRow, IsFieldShown, IsLastRow, IsPicture, IsShown, IsUnshown, bar_of, is_small, question, room_of};
 
 use crate::picture::Picture;
 use crate::places::{field_row, prompt_cell, room_on, text_area};
@@ -12,6 +13,7 @@ use crate::session::Session;
 use crate::sizes::{height_of, paged_skin};
 use mad_draw::{Rows, ScrollBar, draw_rows};
 use mad_hits::{RowRoom, draw_page_rows, draw_row_hits, left_columns};
+use mad_search::Sought;
 use mad_style::StyledChar;
 use mad_term::{Error, Out, put_all};
 use std::alloc::{AllocError, Global};
@@ -86,10 +88,35 @@ impl Session<'_> {
         Ok(())
     }
 
-    // Draws what is sought once more in the style of hits, wherever it is on the screen.
+    // Draws hits once more in their style, wherever they are on the screen: of what is typed, while something is, and else of what is sought.
     fn draw_hits<O: Out>(&self, alloc: Global, out: &mut O) -> Result<(), Error>
         ensures { OnOk result (TookWith (O.seen out.old) (O.seen out.new) (AreHitsDrawn self.now.skin.now (state_of self.now))) }
     {
+        let typed = self.typed_text()?;
+        let marks_typed = self.marks_typed(typed.as_str());
+        if marks_typed {
+            let reading = Sought::read(alloc, typed.as_str())?;
+            self.draw_marks(alloc, out, &reading)?;
+            return Ok(());
+        }
+        self.draw_marks(alloc, out, &self.reading)?;
+        Ok(())
+    }
+
+    // Whether something is being typed, which is marked then.
+    fn marks_typed(&self, typed: &str) -> bool
+        ensures { result ≡ (self.now.is_typing && not (length typed.now == 0)) }
+    {
+        self.is_typing && !typed.is_empty()
+    }
+
+    // Draws the hits of what was read, if anything is sought.
+    fn draw_marks<O: Out>(&self, alloc: Global, out: &mut O, reading: &Sought) -> Result<(), Error>
+        ensures { OnOk result (TookWith (O.seen out.old) (O.seen out.new) (AreMarks self.now.skin.now (state_of self.now) (reading_of reading.now).pattern)) }
+    {
+        let Some(pattern) = reading.pattern() else {
+            return Ok(());
+        };
         draw_row_hits(
             alloc,
             out,
@@ -101,7 +128,7 @@ impl Session<'_> {
             self.page.top,
             self.room(),
             self.page.body_rows(),
-            self.sought.as_str(),
+            pattern,
         )?;
         Ok(())
     }

@@ -1,6 +1,5 @@
--- Rows that come of one line of the text, and what is sought over the break between two of them.
-use Rattle.std.specs.Prelude.{ℕ, ◌+◌, ◌-◌, ◌==◌, nat_eq, nat_le, nat_lt, min, Bool, false, not, ◌&&◌, List, [], find, reverse, take, drop, slice_get, slice_index, Option, Some, None, if◌then◌else◌}
-use Rattle.std.specs.List.{ends_with, starts_with}
+-- Rows that come of one line of the text.
+use Rattle.std.specs.Prelude.{ℕ, ◌+◌, nat_le, nat_lt, Bool, false, not, List, find, reverse, slice_get, slice_range, Option, Some, None, if◌then◌else◌}
 use Rattle.mad_blocks.specs.LayoutParts.{is_code_kind}
 use Rattle.mad_format.specs.declared.line.FmtLine.{FmtLine}
 use Rattle.mad_format.specs.declared.line.FmtLine.TheVariants.{Normal}
@@ -23,25 +22,14 @@ part_end starts row = row_or (row + 1) (find (nat_lt row) starts)
 abbrev pub part_start : List ℕ → ℕ → ℕ
 part_start starts row = row_or row (find (λ start. nat_le start row) (reverse starts))
 
--- the first rows below this one that come of the same line of the text, at most so many; of code, tables and rules none
-abbrev pub rows_after : List FmtLine → List ℕ → ℕ → ℕ → List FmtLine
-rows_after lines starts row most =
-    if is_text_row (slice_get lines row) then take (min most (part_end starts row - (row + 1))) (drop (row + 1) lines) else []
+-- the row in which the line begins that a row is of; of code, of tables and of rules each row is a line
+abbrev pub line_start : List FmtLine → List ℕ → ℕ → ℕ
+line_start lines starts row = if is_text_row (slice_get lines row) then part_start starts row else row
 
--- how many rows of that line there are, down to this row and with it, but at most so many
-abbrev pub count_up_to : List ℕ → ℕ → ℕ → ℕ
-count_up_to starts row most = min most (row + 1 - part_start starts row)
+-- the row behind its last one
+abbrev pub line_end : List FmtLine → List ℕ → ℕ → ℕ
+line_end lines starts row = if is_text_row (slice_get lines row) then part_end starts row else row + 1
 
--- the last of those
-abbrev pub rows_up_to : List FmtLine → List ℕ → ℕ → ℕ → List FmtLine
-rows_up_to lines starts row most =
-    if is_text_row (slice_get lines row) then take (count_up_to starts row most) (drop (row + 1 - count_up_to starts row most) lines) else []
-
--- at this index of what is sought is a blank, and all before it ends a text
-abbrev pub ends_at : List ℕ → List ℕ → ℕ → Bool
-ends_at sought before at = (slice_index sought at == 32) && ends_with nat_eq before (take at sought)
-
--- What is sought goes over a break between two texts at this index: all before the index ends the text before the break, and the rest, which begins
--- with a blank, begins the text after it.
-abbrev pub goes_over : List ℕ → List ℕ → List ℕ → ℕ → Bool
-goes_over sought before after at = ends_at sought before at && starts_with nat_eq after (drop at sought)
+-- the rows of that line
+abbrev pub line_rows : List FmtLine → List ℕ → ℕ → List FmtLine
+line_rows lines starts row = slice_range lines (line_start lines starts row) (line_end lines starts row)

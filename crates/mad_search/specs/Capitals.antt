@@ -1,6 +1,5 @@
--- Capitals and small letters in a search.
-use Rattle.std.specs.Prelude.{ℕ, ◌==◌, Bool, false, not, List, [], ◌∷◌, map, chars, encode_utf8_all, if◌then◌else◌}
-use Rattle.std.specs.List.{list_any}
+-- Capitals in what is sought.
+use Rattle.std.specs.Prelude.{ℕ, ◌==◌, Bool, false, not, ◌&&◌, ◌||◌, List, [], ◌∷◌, chars}
 use Rattle.std.specs.StrCase.Lower.{lowercase_before}
 
 -- one character alone, or else another
@@ -12,14 +11,15 @@ alone_or c letters = c
 abbrev pub small : ℕ → ℕ
 small c = alone_or c (lowercase_before false c [])
 
--- a text has a capital: a character whose small form is another one
+-- a character is a capital: its small form is another one
+abbrev pub is_capital : ℕ → Bool
+is_capital c = not (small c == c)
+
+-- A capital is among characters. One behind a backslash (92) doesn't count, as the W of `\W`, and the first character may be behind one.
+abbrev pub capital_in : Bool → List ℕ → Bool
+capital_in behind [] = false
+capital_in behind (c ∷ cs) = (not behind && is_capital c) || capital_in (not behind && (c == 92)) cs
+
+-- a text has a capital that isn't behind a backslash
 abbrev pub has_capital : List ℕ → Bool
-has_capital text = list_any (λ c. not (small c == c)) (chars text)
-
--- a text in small letters, character by character
-abbrev pub in_small : List ℕ → List ℕ
-in_small text = encode_utf8_all (map small (chars text))
-
--- a text as it is compared with what is sought: as it stands, where that has a capital, or else in small letters
-abbrev pub compared : List ℕ → List ℕ → List ℕ
-compared sought text = if has_capital sought then text else in_small text
+has_capital text = capital_in false (chars text)

@@ -1,9 +1,8 @@
-//! Rows that come of one line of the text, and what is sought over the break between two of them.
+//! Rows that come of one line of the text.
 
-ghost use Rattle.std.specs.List.{starts_with};
 ghost use Rattle.std.specs.List.Sorted.{IsNonDecreasing};
-ghost use Rattle.std.specs.Prelude.{◌≡◌, ◌+◌, ◌^◌, ◌<◌, ◌≤◌, nat_eq, drop, length, slice_get, slice_index_or, true};
-ghost use Rattle.mad_search.specs.Breaks.{ends_at, is_text_row, part_end, part_start, rows_after, rows_up_to};
+ghost use Rattle.std.specs.Prelude.{◌≡◌, ◌+◌, ◌^◌, ◌<◌, ◌≤◌, find, length, nat_le, reverse, slice_get, slice_index_or, slice_range, take, true};
+ghost use Rattle.mad_search.specs.Breaks.{is_text_row, line_end, line_start, part_end, part_start};
 
 use mad_format::FmtLine;
 use mad_style::CompositeKind;
@@ -47,52 +46,46 @@ impl<'a> Starts<'a> {
         }
         part_end(self.rows, row)
     }
-}
 
-/// The first rows below one that come of the same line of the text, at most so many, where parts of the text begin in these rows. Of code, tables
-/// and rules there are none: the rows of one line of code can't be told from those of the next.
-pub fn rows_after<'a, 's>(
-    lines: &'a [FmtLine<'s>],
-    starts: &[usize],
-    row: usize,
-    most: usize,
-) -> &'a [FmtLine<'s>]
-    ensures { result.now ≡ rows_after lines.now starts.now row most }
-{
-    rows_below(lines, Starts::new(starts), row, most)
-}
-
-/// The same, by halving where the rows are known to be in order.
-pub(crate) fn rows_below<'a, 's>(
-    lines: &'a [FmtLine<'s>],
-    starts: Starts,
-    row: usize,
-    most: usize,
-) -> &'a [FmtLine<'s>]
-    ensures { result.now ≡ rows_after lines.now starts.entry.rows.now row most }
-{
-    if !is_text_row(lines, row) {
-        return &[];
+    // The last of them that isn't below this row; where none is, this row.
+    fn part_start(self, row: usize) -> usize
+        ensures start { result ≡ part_start self.entry.rows.now row }
+        ensures above { result ≤ row }
+    {
+        if self.in_order {
+            return part_start_in_order(self.rows, row);
+        }
+        part_start(self.rows, row)
     }
-    let below = &lines[row + 1..];
-    let count = starts.part_end(row).saturating_sub(row + 1).min(most);
+}
+
+/// The row in which the line begins that a row is of, and the row behind its last one. Of code, tables and rules each row is a line: the rows of
+/// one line of code can't be told from those of the next.
+pub(crate) fn line_of(lines: &[FmtLine], starts: Starts, row: usize) -> (usize, usize)
+    requires { row < length lines.now }
+    ensures start { result.0 ≡ line_start lines.now starts.entry.rows.now row }
+    ensures end { result.1 ≡ line_end lines.now starts.entry.rows.now row }
+    ensures above { result.0 ≤ row }
+    ensures below { row < result.1 }
+{
+    let is_text = is_text_row(lines, row);
+    if !is_text {
+        return (row, row + 1);
+    }
+    (starts.part_start(row), starts.part_end(row))
+}
+
+/// The rows from one on, up to another.
+pub(crate) fn rows_between<'a, 's>(
+    lines: &'a [FmtLine<'s>],
+    start: usize,
+    end: usize,
+) -> &'a [FmtLine<'s>]
+    ensures { result.now ≡ slice_range lines.now start end }
+{
+    let below = &lines[start.min(lines.len())..];
+    let count = end.saturating_sub(start);
     &below[..count.min(below.len())]
-}
-
-/// The last rows of that line down to this row and with it, at most so many.
-pub fn rows_up_to<'a, 's>(
-    lines: &'a [FmtLine<'s>],
-    starts: &[usize],
-    row: usize,
-    most: usize,
-) -> &'a [FmtLine<'s>]
-    ensures { result.now ≡ rows_up_to lines.now starts.now row most }
-{
-    if !is_text_row(lines, row) {
-        return &[];
-    }
-    let count = (row + 1 - part_start(starts, row)).min(most);
-    &lines[row + 1 - count..row + 1]
 }
 
 // Whether the row of an index is one of text that isn't code. Past the last row none is.
@@ -141,7 +134,27 @@ fn part_start(starts: &[usize], row: usize) -> usize
     ensures start { result ≡ part_start starts.now row }
     ensures above { result ≤ row }
 {
-    let mut left = starts.len();
+    last_start(starts, row, starts.len())
+}
+
+// The same of rows that are in order: those below this one are behind the others.
+fn part_start_in_order(starts: &[usize], row: usize) -> usize
+    requires { IsNonDecreasing starts.now }
+    ensures start { result ≡ part_start starts.now row }
+    ensures above { result ≤ row }
+{
+    let end = starts.partition_point(|start| *start <= row);
+    last_start(starts, row, end)
+}
+
+// The same, where it is among so many.
+fn last_start(starts: &[usize], row: usize, end: usize) -> usize
+    requires within { end ≤ length starts.now }
+    requires found { find (λ start. nat_le start row) (reverse (take end starts.now)) ≡ find (λ start. nat_le start row) (reverse starts.now) }
+    ensures start { result ≡ part_start starts.now row }
+    ensures above { result ≤ row }
+{
+    let mut left = end;
     'starts: while left > 0 {
         left -= 1;
         let start = starts[left];
@@ -150,21 +163,4 @@ fn part_start(starts: &[usize], row: usize) -> usize
         }
     }
     row
-}
-
-/// Whether a blank is at this index of what is sought, and all before it ends a text.
-pub(crate) fn ends_at(sought: &[u8], before: &[u8], at: usize) -> bool
-    ensures { result ≡ ends_at sought.now before.now at }
-{
-    match sought.get(at) {
-        Some(b' ') => before.ends_with(&sought[..at]),
-        _ => false,
-    }
-}
-
-/// Whether what is sought begins a text, from an index on.
-pub(crate) fn begins_from(sought: &[u8], after: &[u8], at: usize) -> bool
-    ensures { result ≡ starts_with nat_eq after.now (drop at sought.now) }
-{
-    after.starts_with(&sought[at.min(sought.len())..])
 }

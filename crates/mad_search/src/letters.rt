@@ -1,44 +1,44 @@
-//! Texts in small letters, for searches in any case.
+//! Capitals in what is sought.
 
-ghost use Rattle.std.specs.Prelude.{◌≡◌, IfOk, string_bytes};
-ghost use Rattle.mad_search.specs.Capitals.{compared, has_capital, in_small, small};
+ghost use Rattle.std.specs.Prelude.{◌≡◌, ◌==◌, ◌&&◌, not};
+ghost use Rattle.mad_search.specs.Capitals.{has_capital, is_capital, small};
 
-use std::alloc::{AllocError, Global};
-
-/// A text as it is compared with what is sought: as it stands, where that has a capital, or else in small letters.
-///
-/// # Errors
-///
-/// Out of memory is the only error.
-pub fn compared(alloc: Global, sought: &str, text: String) -> Result<String, AllocError>
-    ensures { IfOk result (λ given. string_bytes given ≡ compared sought.now (string_bytes text)) }
-{
-    if has_capital(sought) {
-        return Ok(text);
-    }
-    in_small(alloc, text.as_str())
-}
-
-/// Whether a text has a capital: a character whose small form is another one.
-pub fn has_capital(text: &str) -> bool
+/// Whether a text has a capital: a character whose small form is another one. One behind a backslash doesn't count, as the W of `\W`.
+pub(crate) fn has_capital(text: &str) -> bool
     ensures { result ≡ has_capital text.now }
 {
-    text.chars().any(|c| small(c) != c)
-}
-
-// A text in small letters, character by character.
-fn in_small(alloc: Global, text: &str) -> Result<String, AllocError>
-    ensures { IfOk result (λ letters. string_bytes letters ≡ in_small text.now) }
-{
-    let mut letters = String::new(alloc);
+    let mut has_one = false;
+    let mut is_behind = false;
     for c in text.chars() {
-        letters.push(small(c))?;
+        has_one |= counts(c, is_behind);
+        is_behind = hides_next(c, is_behind);
     }
-    Ok(letters)
+    has_one
 }
 
-/// The small form of a character, as Unicode has it. A character whose small form isn't one character is its own.
-pub fn small(c: char) -> char
+// Whether a character is a capital that isn't behind a backslash.
+fn counts(c: char, is_behind: bool) -> bool
+    ensures { result ≡ (not is_behind && is_capital c) }
+{
+    !is_behind && is_capital(c)
+}
+
+// Whether it is a backslash that the next character is behind.
+fn hides_next(c: char, is_behind: bool) -> bool
+    ensures { result ≡ (not is_behind && (c == 92)) }
+{
+    !is_behind && c == '\\'
+}
+
+// Whether a character's small form is another one.
+fn is_capital(c: char) -> bool
+    ensures { result ≡ is_capital c }
+{
+    small(c) != c
+}
+
+// The small form of a character, as Unicode has it. A character whose small form isn't one character is its own.
+fn small(c: char) -> char
     ensures { result ≡ small c }
 {
     let mut letters = c.to_lowercase();

@@ -1,20 +1,21 @@
-//! Which row of a laid out text has what is sought.
+//! Which row of a laid out text has a hit.
 
-ghost use Rattle.std.specs.Prelude.{◌≡◌, ◌++◌, ◌⊎◌, IfOk, OnOk, IsTrue, ◌↔◌, MatchOption, string_bytes, length, ◌<◌, ◌≤◌};
-ghost use Rattle.std.specs.Str.Iter.{HasSubslice};
-ghost use Rattle.mad_search.specs.Breaks.{goes_over, rows_after};
-ghost use Rattle.mad_search.specs.Searches.{composite_text, compared_line, line_text, cells_text, row_text, text_after, GoesOn, HasText, IsFirstFrom, IsLastBefore, IsNextRowIn, IsPreviousRowIn, NoneBetween, NoneFrom};
+ghost use Rattle.std.specs.Prelude.{◌≡◌, ◌-◌, IfOk, OnOk, IsTrue, ◌↔◌, MatchOption, option_map, length, ◌<◌, ◌≤◌};
+ghost use Rattle.regex.specs.Strings.{matcher_pattern, regex_pattern};
+ghost use Rattle.mad_search.specs.Breaks.{line_rows, line_start};
+ghost use Rattle.mad_search.specs.Searches.{line_has_hit, row_has_hit, table_cells, HasHit, IsFirstFrom, IsKnown, IsLastBefore, IsNextRowIn, IsPreviousRowIn, NoneBetween, NoneFrom};
 
-use crate::breaks::{Starts, begins_from, ends_at, rows_below};
-use crate::letters::compared;
+use crate::breaks::{Starts, line_of};
+use crate::found::{FoundLine, cells_have_hit, know_line};
 use mad_format::{FmtComposite, FmtLine};
+use regex::{Matcher, Regex};
 use std::alloc::{AllocError, Global};
 
-/// The row in which what is sought begins, and which comes next from the one of this index on, around the end of the text. None, where it begins
-/// in no row, or nothing is sought.
+/// The row in which a hit begins, and which comes next from the one of this index on, around the end of the text. None, where none begins in any.
 ///
-/// Parts of the text begin in the rows `starts`, as [`crate::PagedText::lay`] tells. Between two rows that come of one line of the text is a blank:
-/// so words are found also where the row breaks between them, and a word that is broken itself isn't.
+/// Parts of the text begin in the rows `starts`, as [`crate::PagedText::lay`] tells. The rows of one line of the text are sought as one text, with a
+/// blank for each break: so words are found also where the row breaks between them, and a word that is broken itself isn't. Each cell of a table is
+/// sought for itself.
 ///
 /// # Errors
 ///
@@ -23,14 +24,11 @@ pub fn next_row_in(
     alloc: Global,
     lines: &[FmtLine],
     starts: &[usize],
-    sought: &str,
+    sought: &Regex,
     from: usize,
 ) -> Result<Option<usize>, AllocError>
-    ensures { IfOk result (IsNextRowIn sought.now lines.now starts.now from) }
+    ensures { IfOk result (IsNextRowIn (regex_pattern sought.now) lines.now starts.now from) }
 {
-    if sought.is_empty() {
-        return Ok(None);
-    }
     let starts = Starts::looked_over(starts);
     let after = first_row(alloc, lines, starts, sought, from)?;
     if let Some(found) = after {
@@ -40,8 +38,8 @@ pub fn next_row_in(
     Ok(around)
 }
 
-/// The row in which what is sought begins, and which comes next before the one of this index, around the start of the text. None, where it begins
-/// in no row, or nothing is sought. See [`next_row_in`].
+/// The row in which a hit begins, and which comes next before the one of this index, around the start of the text. None, where none begins in any.
+/// See [`next_row_in`].
 ///
 /// # Errors
 ///
@@ -50,14 +48,11 @@ pub fn previous_row_in(
     alloc: Global,
     lines: &[FmtLine],
     starts: &[usize],
-    sought: &str,
+    sought: &Regex,
     end: usize,
 ) -> Result<Option<usize>, AllocError>
-    ensures { IfOk result (IsPreviousRowIn sought.now lines.now starts.now end) }
+    ensures { IfOk result (IsPreviousRowIn (regex_pattern sought.now) lines.now starts.now end) }
 {
-    if sought.is_empty() {
-        return Ok(None);
-    }
     let starts = Starts::looked_over(starts);
     let before = last_row(alloc, lines, starts, sought, end.min(lines.len()))?;
     if let Some(found) = before {
@@ -67,18 +62,20 @@ pub fn previous_row_in(
     Ok(around)
 }
 
-// The first row from this index on that has what is sought.
+// The first row from this index on in which a hit begins.
 fn first_row(
     alloc: Global,
     lines: &[FmtLine],
     starts: Starts,
-    sought: &str,
+    sought: &Regex,
     from: usize,
 ) -> Result<Option<usize>, AllocError>
-    ensures { IfOk result (λ found. MatchOption found (NoneFrom sought.now lines.now starts.entry.rows.now from) (IsFirstFrom sought.now lines.now starts.entry.rows.now from)) }
+    ensures { IfOk result (λ found. MatchOption found (NoneFrom (regex_pattern sought.now) lines.now starts.entry.rows.now from) (IsFirstFrom (regex_pattern sought.now) lines.now starts.entry.rows.now from)) }
 {
+    let mut matcher = sought.matcher(alloc)?;
+    let mut known = FoundLine::new(alloc);
     for row in from..lines.len() {
-        let has = has_text_at(alloc, lines, starts, sought, row)?;
+        let has = has_hit(alloc, lines, starts, sought, &mut matcher, &mut known, row)?;
         if has {
             return Ok(Some(row));
         }
@@ -86,21 +83,23 @@ fn first_row(
     Ok(None)
 }
 
-// The last row before this index that has what is sought.
+// The last row before this index in which one begins.
 fn last_row(
     alloc: Global,
     lines: &[FmtLine],
     starts: Starts,
-    sought: &str,
+    sought: &Regex,
     end: usize,
 ) -> Result<Option<usize>, AllocError>
     requires { end ≤ length lines.now }
-    ensures { IfOk result (λ found. MatchOption found (NoneBetween sought.now lines.now starts.entry.rows.now 0 end) (IsLastBefore sought.now lines.now starts.entry.rows.now end)) }
+    ensures { IfOk result (λ found. MatchOption found (NoneBetween (regex_pattern sought.now) lines.now starts.entry.rows.now 0 end) (IsLastBefore (regex_pattern sought.now) lines.now starts.entry.rows.now end)) }
 {
+    let mut matcher = sought.matcher(alloc)?;
+    let mut known = FoundLine::new(alloc);
     let mut row = end;
     'rows: while row > 0 {
         row -= 1;
-        let has = has_text_at(alloc, lines, starts, sought, row)?;
+        let has = has_hit(alloc, lines, starts, sought, &mut matcher, &mut known, row)?;
         if has {
             return Ok(Some(row));
         }
@@ -108,160 +107,81 @@ fn last_row(
     Ok(None)
 }
 
-// Whether the row of an index has what is sought. Past the last row none has it.
-fn has_text_at(
+// Whether a hit begins in the row of an index. What was found in the last line is known, and so the rows of one line are read once. Past the last
+// row none begins.
+fn has_hit(
     alloc: Global,
     lines: &[FmtLine],
     starts: Starts,
-    sought: &str,
+    sought: &Regex,
+    matcher: &mut Matcher<'_>,
+    known: &mut FoundLine,
     row: usize,
 ) -> Result<bool, AllocError>
-    ensures { IfOk result (λ has. IsTrue has ↔ HasText sought.now lines.now starts.entry.rows.now row) }
+    requires same { matcher_pattern matcher.old ≡ regex_pattern sought.now }
+    requires known { IsKnown (regex_pattern sought.now) lines.now known.old }
+    ensures has { IfOk result (λ has. IsTrue has ↔ HasHit (regex_pattern sought.now) lines.now starts.entry.rows.now row) }
+    ensures same { OnOk result (matcher_pattern matcher.new ≡ regex_pattern sought.now) }
+    ensures known { OnOk result (IsKnown (regex_pattern sought.now) lines.now known.new) }
 {
-    let Some(line) = lines.get(row) else {
-        return Ok(false);
-    };
-    let has = has_text(alloc, line, lines, starts, sought, row)?;
-    Ok(has)
+    match lines.get(row) {
+        Some(line) => line_has_hit(alloc, lines, starts, sought, matcher, known, row, line),
+        None => Ok(false),
+    }
 }
 
-// Whether a line, which is the row of this index, has what is sought.
-fn has_text(
+// Whether one begins in the row of an index, which shows this line.
+fn line_has_hit(
     alloc: Global,
+    lines: &[FmtLine],
+    starts: Starts,
+    sought: &Regex,
+    matcher: &mut Matcher<'_>,
+    known: &mut FoundLine,
+    row: usize,
     line: &FmtLine,
-    lines: &[FmtLine],
-    starts: Starts,
-    sought: &str,
-    row: usize,
 ) -> Result<bool, AllocError>
-    ensures { IfOk result (λ has. IsTrue has ↔ (HasSubslice (compared_line sought.now line.now) sought.now ⊎ GoesOn sought.now (row_text sought.now line.now) (rows_after lines.now starts.entry.rows.now row (length sought.now)))) }
+    requires within { row < length lines.now }
+    requires same { matcher_pattern matcher.old ≡ regex_pattern sought.now }
+    requires known { IsKnown (regex_pattern sought.now) lines.now known.old }
+    ensures has { IfOk result (λ has. has ≡ line_has_hit (regex_pattern sought.now) lines.now starts.entry.rows.now row line.now) }
+    ensures same { OnOk result (matcher_pattern matcher.new ≡ regex_pattern sought.now) }
+    ensures known { OnOk result (IsKnown (regex_pattern sought.now) lines.now known.new) }
 {
-    let text = compared_line(alloc, line, sought)?;
-    let is_within = contains(text.as_str(), sought);
-    if is_within {
-        return Ok(true);
+    match table_cells(line) {
+        Some(cells) => cells_have_hit(alloc, sought, matcher, cells),
+        None => row_has_hit(alloc, lines, starts, sought, matcher, known, row),
     }
-    let goes_on = goes_on(alloc, text.as_str().trim_end(), lines, starts, sought, row)?;
-    Ok(goes_on)
 }
 
-// Whether what is sought begins in the text of a row, and goes over the break after it.
-fn goes_on(
-    alloc: Global,
-    text: &str,
-    lines: &[FmtLine],
-    starts: Starts,
-    sought: &str,
-    row: usize,
-) -> Result<bool, AllocError>
-    ensures { IfOk result (λ goes. IsTrue goes ↔ GoesOn sought.now text.now (rows_after lines.now starts.entry.rows.now row (length sought.now))) }
+// The cells of a row of a table; of another line there are none.
+fn table_cells<'l, 's>(line: &'l FmtLine<'s>) -> Option<&'l [FmtComposite<'s>]>
+    ensures { option_map (λ cells. cells.now) result ≡ table_cells line.now }
 {
-    for at in 0..sought.len() {
-        let goes = goes_over(alloc, text, lines, starts, sought, row, at)?;
-        if goes {
-            return Ok(true);
-        }
-    }
-    Ok(false)
-}
-
-// Whether it goes over that break at this index of it. The rows below are read only where it may.
-fn goes_over(
-    alloc: Global,
-    text: &str,
-    lines: &[FmtLine],
-    starts: Starts,
-    sought: &str,
-    row: usize,
-    at: usize,
-) -> Result<bool, AllocError>
-    ensures { IfOk result (λ goes. goes ≡ goes_over sought.now text.now (text_after sought.now (rows_after lines.now starts.entry.rows.now row (length sought.now))) at) }
-{
-    if !ends_at(sought.as_bytes(), text.as_bytes(), at) {
-        return Ok(false);
-    }
-    let rows = rows_below(lines, starts, row, sought.len());
-    let after = text_after(alloc, sought, rows)?;
-    Ok(begins_from(sought.as_bytes(), after.as_str().as_bytes(), at))
-}
-
-/// The texts of lines that follow a break, each with a blank before it, as they are compared with what is sought. Blanks at their ends don't count.
-///
-/// # Errors
-///
-/// Out of memory is the only error.
-pub fn text_after(alloc: Global, sought: &str, lines: &[FmtLine]) -> Result<String, AllocError>
-    ensures { IfOk result (λ text. string_bytes text ≡ text_after sought.now lines.now) }
-{
-    let mut text = String::new(alloc);
-    for line in lines {
-        let own = compared_line(alloc, line, sought)?;
-        text.push(' ')?;
-        text.push_str(own.as_str().trim_end())?;
-    }
-    Ok(text)
-}
-
-/// The text of a line at a break, as it is compared with what is sought: blanks at its end don't count.
-///
-/// # Errors
-///
-/// Out of memory is the only error.
-pub fn row_text(alloc: Global, sought: &str, line: &FmtLine) -> Result<String, AllocError>
-    ensures { IfOk result (λ text. string_bytes text ≡ row_text sought.now line.now) }
-{
-    let whole = compared_line(alloc, line, sought)?;
-    let mut text = String::new(alloc);
-    text.push_str(whole.as_str().trim_end())?;
-    Ok(text)
-}
-
-// The text of a line, as it is compared with what is sought.
-fn compared_line(alloc: Global, line: &FmtLine, sought: &str) -> Result<String, AllocError>
-    ensures { IfOk result (λ text. string_bytes text ≡ compared_line sought.now line.now) }
-{
-    let text = line_text(alloc, line)?;
-    let text = compared(alloc, sought, text)?;
-    Ok(text)
-}
-
-// Whether a text has another in it.
-fn contains(text: &str, sought: &str) -> bool
-    ensures { IsTrue result ↔ HasSubslice text.now sought.now }
-{
-    text.contains(sought)
-}
-
-// The text of a line; of a row of a table that of its cells, each with a newline after it; of a rule none.
-fn line_text(alloc: Global, line: &FmtLine) -> Result<String, AllocError>
-    ensures { IfOk result (λ text. string_bytes text ≡ line_text line.now) }
-{
-    let mut text = String::new(alloc);
     match line {
-        FmtLine::Normal(composite) => push_text(&mut text, composite)?,
-        FmtLine::TableRow(row) => push_cells(&mut text, row.cells.as_slice())?,
-        FmtLine::TableRule(_) | FmtLine::HorizontalRule => {}
+        FmtLine::TableRow(table) => Some(table.cells.as_slice()),
+        FmtLine::Normal(_) | FmtLine::TableRule(_) | FmtLine::HorizontalRule => None,
     }
-    Ok(text)
 }
 
-// Puts the text of each cell after a text, each with a newline after it.
-fn push_cells(text: &mut String, cells: &[FmtComposite]) -> Result<(), AllocError>
-    ensures { OnOk result (string_bytes text.new ≡ string_bytes text.old ++ cells_text cells.now) }
+// Whether one begins in the row of an index, by the text of its line.
+fn row_has_hit(
+    alloc: Global,
+    lines: &[FmtLine],
+    starts: Starts,
+    sought: &Regex,
+    matcher: &mut Matcher<'_>,
+    known: &mut FoundLine,
+    row: usize,
+) -> Result<bool, AllocError>
+    requires within { row < length lines.now }
+    requires same { matcher_pattern matcher.old ≡ regex_pattern sought.now }
+    requires known { IsKnown (regex_pattern sought.now) lines.now known.old }
+    ensures has { IfOk result (λ has. has ≡ row_has_hit (regex_pattern sought.now) (line_rows lines.now starts.entry.rows.now row) (row - line_start lines.now starts.entry.rows.now row)) }
+    ensures same { OnOk result (matcher_pattern matcher.new ≡ regex_pattern sought.now) }
+    ensures known { OnOk result (IsKnown (regex_pattern sought.now) lines.now known.new) }
 {
-    for cell in cells {
-        push_text(text, cell)?;
-        text.push('\n')?;
-    }
-    Ok(())
-}
-
-// Puts the text of a composite after a text.
-fn push_text(text: &mut String, composite: &FmtComposite) -> Result<(), AllocError>
-    ensures { OnOk result (string_bytes text.new ≡ string_bytes text.old ++ composite_text composite.now) }
-{
-    for compound in &composite.compounds {
-        text.push_str(compound.src)?;
-    }
-    Ok(())
+    let (start, end) = line_of(lines, starts, row);
+    know_line(alloc, lines, sought, matcher, known, start, end)?;
+    Ok(known.has_hit_in(row - start))
 }

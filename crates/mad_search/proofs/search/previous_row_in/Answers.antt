@@ -1,14 +1,11 @@
 use Rattle.std.proofs.Common.{rules}
-use Rattle.mad_search.proofs.SearchLemmas.{previous_here, previous_around, none_sought, some_sought}
+use Rattle.regex.specs.Strings.{regex_pattern}
+use Rattle.mad_search.proofs.SearchLemmas.{previous_here, previous_around}
 use Rattle.mad_search.proofs.search.previous_row_in.Goals as goal
 
-pub returns-then-is_empty : goal.returns-then-is_empty
-returns-then-is_empty c = none_sought c.args.sought.now c.args.lines.now c.args.starts.now c.is_empty.result c.is_empty.ensures c.if-is_empty.true
-
 pub returns-in-Some : goal.returns-in-Some
-returns-in-Some c =
-    previous_here c.args.sought.now c.args.lines.now c.args.starts.now c.args.end _ c.in-Some.found (some_sought _ _ c.is_empty.ensures c.if-is_empty.false) (search rules) (rw c.looked_over-starts.ensures at (rw c.in-Some.is at c.in_ok-before.ensures))
+returns-in-Some c = previous_here (regex_pattern c.args.sought.now) c.args.lines.now c.args.starts.now c.args.end _ c.in-Some.found (search rules) (rw c.looked_over-starts.ensures at (rw c.in-Some.is at c.in_ok-before.ensures))
 
 pub returns : goal.returns
 returns c =
-    previous_around c.args.sought.now c.args.lines.now c.args.starts.now c.args.end _ c.in_ok-around.around (some_sought _ _ c.is_empty.ensures c.if-is_empty.false) (search rules) (rw c.looked_over-starts.ensures at (rw c.in_default.is at c.in_ok-before.ensures)) (rw c.looked_over-starts.ensures at c.in_ok-around.ensures)
+    previous_around (regex_pattern c.args.sought.now) c.args.lines.now c.args.starts.now c.args.end _ c.in_ok-around.around (search rules) (rw c.looked_over-starts.ensures at (rw c.in_default.is at c.in_ok-before.ensures)) (rw c.looked_over-starts.ensures at c.in_ok-around.ensures)

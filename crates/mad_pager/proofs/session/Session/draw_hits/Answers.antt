@@ -1,13 +1,35 @@
-use Rattle.std.proofs.Common.{◌-◌}
-use Rattle.mad_pager.specs.Screens.{room_of}
-use Rattle.mad_pager.specs.Sessions.{paged_skin, state_of}
-use Rattle.mad_pager.proofs.DrawnLemmas.{hits_along}
+use Rattle.std.proofs.Common.{◌≡◌, ◌==◌, ◌&&◌, not, true, false, List, ℕ, ap, length, refl, subst, sym, ◌∙◌}
+use Rattle.mad_hits.proofs.TookLemmas.{took_so}
+use Rattle.mad_search.specs.Readings.{reading_of, IsReadingOf}
+use Rattle.mad_pager.specs.Screens.{AreHitsDrawn, AreMarks, marks_typed}
+use Rattle.mad_pager.specs.Sessions.{state_of}
 use Rattle.mad_pager.proofs.session.Session.draw_hits.Goals as goal
+
+pub returns-then-marks_typed : goal.returns-then-marks_typed
+returns-then-marks_typed g c =
+    let s = state_of c.args.self.now in
+    let skin = c.args.self.now.skin.now in
+    let is : marks_typed s ≡ true = ap (λ (t : List ℕ). s.is_typing && not (length t == 0)) (sym (c.as_str.ensures.value ∙ c.in_ok-typed.ensures)) ∙ (sym c.marks_typed-marks_typed.ensures ∙ c.if-marks_typed.true) in
+    took_so (g.O.Out.seen c.args.out.now) (g.O.Out.seen c.draw_marks.new.out) (AreMarks skin s (reading_of c.in_ok-reading.reading).pattern) (AreHitsDrawn skin s)
+    (λ text marks. record {
+      reading = reading_of c.in_ok-reading.reading;
+      is = record {
+        typed = λ e. subst (λ (t : List ℕ). IsReadingOf t (reading_of c.in_ok-reading.reading)) (c.as_str-2.ensures.value ∙ c.in_ok-typed.ensures) c.in_ok-reading.ensures;
+        sought = λ e. let never : true ≡ false = sym is ∙ e in absurd (cc);
+      };
+      marks = marks;
+    })
+    c.in_ok-draw_marks.ensures
 
 pub returns : goal.returns
 returns g c =
     let s = state_of c.args.self.now in
     let skin = c.args.self.now.skin.now in
-    hits_along (paged_skin skin) c.paged_skin.result skin.hit c.room.result (room_of skin s) c.body_rows.result (s.page.rows - 1) s.page.top c.as_str.result.now s.sought c.as_slice.result.now s.laid.lines.items
-    c.as_slice-2.result.now s.laid.fronts.items c.as_slice-3.result.now s.laid.parts.items (g.O.Out.seen c.args.out.now) (g.O.Out.seen c.draw_row_hits.new.out) c.paged_skin.ensures c.room.ensures
-    c.body_rows.ensures c.as_str.ensures.value c.as_slice.ensures.value c.as_slice-2.ensures.value c.as_slice-3.ensures.value c.in_ok-draw_row_hits.ensures.shown
+    let is : marks_typed s ≡ false = ap (λ (t : List ℕ). s.is_typing && not (length t == 0)) (sym (c.as_str.ensures.value ∙ c.in_ok-typed.ensures)) ∙ (sym c.marks_typed-marks_typed.ensures ∙ c.if-marks_typed.false) in
+    took_so (g.O.Out.seen c.args.out.now) (g.O.Out.seen c.draw_marks-2.new.out) (AreMarks skin s s.reading.pattern) (AreHitsDrawn skin s)
+    (λ text marks. record {
+      reading = s.reading;
+      is = record { typed = λ e. let never : false ≡ true = sym is ∙ e in absurd (cc); sought = λ e. refl };
+      marks = marks;
+    })
+    c.in_ok-draw_marks-2.ensures
