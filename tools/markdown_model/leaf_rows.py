@@ -129,10 +129,10 @@ def least_widths(rows: list[Cells], n: int) -> list[int]:
     return out
 
 
-def fits_as_table(table: Table, room: int) -> bool:
-    """Whether the longest words of the columns fit side by side."""
+def fits_as_table(table: Table, room: int, beside: int = 0) -> bool:
+    """Whether the longest words of the columns fit side by side, with so many blanks at each side of a cell."""
     n = len(table.heads)
-    return sum(least_widths([table.heads, *table.rows], n)) + n + 1 <= room
+    return sum(least_widths([table.heads, *table.rows], n)) + (2 * beside + 1) * n + 1 <= room
 
 
 def grants(widths: list[int], requests: list[int], excess: int) -> list[int]:
@@ -189,22 +189,24 @@ def placed(row: Row, width: int, align: Align) -> Row:
     return [Compound(" " * left)] * (left > 0) + list(row) + [Compound(" " * (free - left))] * (free > left)
 
 
-def table_rows(lines: list[Line], width: int | None) -> Iterator[Row]:
+def table_rows(lines: list[Line], width: int | None, beside: int = 0) -> Iterator[Row]:
+    """The rows of a table, with so many blanks at each side of a cell."""
     cells = [x.cells for x in lines if isinstance(x, TableRow)]
     n = max(len(x.cells) for x in lines)
-    widths = widths_of(cells, n, 2 ** 64 - 1 if width is None else width)
+    widths = widths_of(cells, n, (2 ** 64 - 1 if width is None else width) - 2 * beside * n)
+    blank = [Compound(" " * beside)] * (beside > 0)
     aligns = [Align.CENTER] * n
     for at, x in enumerate(lines):
         if isinstance(x, TableRule):
             aligns = (x.cells + [Align.UNSPECIFIED] * n)[:n]
             left, between, right = "┌┬┐" if at == 0 else "└┴┘" if at == len(lines) - 1 else "├┼┤"
-            yield [Compound(left + between.join("─" * w for w in widths) + right)]
+            yield [Compound(left + between.join("─" * (w + 2 * beside) for w in widths) + right)]
         else:
             parts = [wrap(x.cells[k].compounds if k < len(x.cells) else [], w) for k, w in enumerate(widths)]
             for r in range(max(map(len, parts), default=1)):
                 row: Row = []
                 for part, w, a in zip(parts, widths, aligns):
-                    row += [Compound("│")] + placed(part[r] if r < len(part) else [], w, a)
+                    row += [Compound("│")] + blank + placed(part[r] if r < len(part) else [], w, a) + blank
                 yield row + [Compound("│")]
 
 
@@ -219,10 +221,10 @@ def code_rows(lines: list[Normal], width: int | None) -> list[Row]:
     return [placed(row, place, Align.LEFT) for line in code for row in wrap(line, width)]
 
 
-def layout(width: int | None, lines: list[Line]) -> list[Row]:
+def layout(width: int | None, lines: list[Line], beside: int = 0) -> list[Row]:
     first = lines[0]
     if isinstance(first, TableRule):
-        return list(table_rows(lines, width))
+        return list(table_rows(lines, width, beside))
     if isinstance(first, Normal) and first.composite.style == CODE:
         return code_rows(lines, width)
     out: list[Row] = []

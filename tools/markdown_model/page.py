@@ -40,11 +40,12 @@ def room(width: int | None, gutters: list[Gutter]) -> int | None:
     return None if width is None else width - sum(g.columns for g in gutters_shown(width, gutters))
 
 
-def unfolded(width: int | None, section: Section) -> list[Section]:
-    """A table whose longest words don't fit side by side in its room is a list: an item for each row, in it a paragraph for each cell that isn't empty, behind
-    its head. Where a head is longer than half of the room, or there are no rows, the head row is the first item, and isn't said again."""
+def unfolded(width: int | None, section: Section, beside: int = 0) -> list[Section]:
+    """A table whose longest words don't fit side by side in its room, with so many blanks at each side of a cell, is a list: an item for each row, in it a
+    paragraph for each cell that isn't empty, behind its head. Where a head is longer than half of the room, or there are no rows, the head row is the first
+    item, and isn't said again."""
     table, columns_left = table_of(section.lines), room(width, section.gutters)
-    if table is None or columns_left is None or fits_as_table(table, columns_left):
+    if table is None or columns_left is None or fits_as_table(table, columns_left, beside):
         return [section]
     said = bool(table.rows) and all(2 * head_length(head.compounds) <= columns_left for head in table.heads)
     items = [item_lines(table.heads, row) for row in table.rows] if said else [item_lines([], row) for row in [table.heads, *table.rows]]
@@ -64,13 +65,13 @@ def item_lines(heads: Cells, row: Cells) -> list[Line]:
     return [paragraph(label(k) + cell.compounds) for k, cell in enumerate(row) if cell.compounds] or [EMPTY]
 
 
-def section_rows(width: int | None, section: Section) -> list[PageRow]:
+def section_rows(width: int | None, section: Section, beside: int = 0) -> list[PageRow]:
     """The layout of a section's lines in its room, each row behind the gutters that are shown."""
     shown = gutters_shown(width, section.gutters)
     late = len(shown) - min(section.fresh, len(shown))
     first = "".join(g.rest for g in shown[:late]) + "".join(g.first for g in shown[late:])
     rest = "".join(g.rest for g in shown)
-    return [(first if k == 0 else rest, row) for k, row in enumerate(layout(room(width, section.gutters), section.lines))]
+    return [(first if k == 0 else rest, row) for k, row in enumerate(layout(room(width, section.gutters), section.lines, beside))]
 
 
 def boxed_rows(width: int | None, section: Section) -> list[PageRow]:
@@ -97,8 +98,8 @@ def dressed(section: Section) -> list[Section]:
 
 
 def plain_rows(width: int | None, section: Section) -> list[PageRow]:
-    """The rows of a section with the characters of a page without styles."""
-    return [(front.replace("▐", "▌"), plain_row(section, row)) for front, row in section_rows(width, section)]
+    """The rows of a section with the characters of a page without styles, and a blank at each side of a cell."""
+    return [(front.replace("▐", "▌"), plain_row(section, row)) for front, row in section_rows(width, section, 1)]
 
 
 def plain_row(section: Section, row: Row) -> Row:
@@ -111,8 +112,8 @@ def plain_row(section: Section, row: Row) -> Row:
     return row
 
 
-def shown_sections(width: int | None, sections: list[Section]) -> list[Section]:
-    return [u for s in sections for u in unfolded(width, s)]
+def shown_sections(width: int | None, sections: list[Section], beside: int = 0) -> list[Section]:
+    return [u for s in sections for u in unfolded(width, s, beside)]
 
 
 def texts(width: int | None, sections: list[Section], look: str = "page") -> list[str]:
@@ -121,7 +122,7 @@ def texts(width: int | None, sections: list[Section], look: str = "page") -> lis
     if look == "ascii":
         sections = list(map(in_ascii, sections))
     sections = [d for s in sections for d in (dressed(s) if look == "plain" else [pictured(s)])]
-    return [ended(front + "".join(c.src for c in row), look, s) for s in shown_sections(width, sections) for front, row in rows_of(width, s)]
+    return [ended(front + "".join(c.src for c in row), look, s) for s in shown_sections(width, sections, int(look == "plain")) for front, row in rows_of(width, s)]
 
 
 def ended(row: str, look: str, section: Section) -> str:

@@ -1,6 +1,6 @@
 """Laws of pages, checked on files and random texts: python3 -m markdown_model.test_pages SEED COUNT [FILE ..]
 
-1. Fits: a row with its gutters takes at most the width, from three columns on.
+1. Fits: a row with its gutters takes at most the width, from three columns on, with blanks beside cells and without.
 2. Kept: each character of a section that isn't blank is shown once, in order, with its flags. In a table that is a list each cell's is, behind its head.
 3. Nested: the gutters of a section are in front of each of its rows, where they take less than half of the width. Each item's first face is shown once.
 4. Pieces: where no definition comes late, a text that comes in pieces is shown as it is shown whole.
@@ -11,6 +11,7 @@ import argparse
 import gzip
 import random
 from collections.abc import Iterator
+from itertools import product
 from pathlib import Path
 
 from .blocks import Node, read_blocks
@@ -48,14 +49,14 @@ def without_borders(found: list[Shown]) -> list[Shown]:
     return [ch for ch in found if ch[0] not in BORDERS]
 
 
-def check_kept(width: int, section: Section) -> None:
+def check_kept(width: int, section: Section, beside: int) -> None:
     first = section.lines[0]
     if isinstance(first, HorizontalRule):
         return
     if isinstance(first, TableRule):  # cells are side by side, so their rows alternate
-        assert sorted(without_borders(shown(section_rows(width, section)))) == sorted(without_borders(said(section))), (width, section)
+        assert sorted(without_borders(shown(section_rows(width, section, beside)))) == sorted(without_borders(said(section))), (width, section)
     else:
-        assert shown(section_rows(width, section)) == said(section), (width, section)
+        assert shown(section_rows(width, section, beside)) == said(section), (width, section)
 
 
 def check_list(section: Section, parts: list[Section]) -> None:
@@ -67,10 +68,10 @@ def check_list(section: Section, parts: list[Section]) -> None:
     assert all(ch in found for cell in cells for ch in (c[0] for c in characters(cell.compounds))), section
 
 
-def check_rows(width: int, section: Section) -> None:
+def check_rows(width: int, section: Section, beside: int) -> None:
     """Each row fits, and is behind its gutters."""
     all_shown = gutters_shown(width, section.gutters) == section.gutters
-    for k, (front, row) in enumerate(section_rows(width, section)):
+    for k, (front, row) in enumerate(section_rows(width, section, beside)):
         assert columns(front) + sum(columns(c.src) for c in row) <= max(width, 3), (width, front, row)
         late = len(section.gutters) - (section.fresh if k == 0 else 0)
         assert not all_shown or front == "".join(g.rest for g in section.gutters[:late]) + "".join(g.first for g in section.gutters[late:])
@@ -80,14 +81,14 @@ def check(source: str) -> None:
     sections = sections_of(source)
     first_faces = sum(g.hangs for s in sections for g in s.gutters[len(s.gutters) - s.fresh:])
     assert items(read_blocks(behind_mark(source))) == first_faces, source
-    for width in WIDTHS:
+    for width, beside in product(WIDTHS, (0, 1)):
         for section in sections:
-            parts = unfolded(width, section)
+            parts = unfolded(width, section, beside)
             if parts != [section]:
                 check_list(section, parts)
             for part in parts:
-                check_kept(width, part)
-                check_rows(width, part)
+                check_kept(width, part, beside)
+                check_rows(width, part, beside)
     if "]:" not in source:
         assert sections_of(source, streamed=True) == sections, source
 

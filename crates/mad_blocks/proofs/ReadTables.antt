@@ -1,5 +1,5 @@
 -- Tables as they were read: the columns of their cells, and what their lines become one after another.
-use Rattle.std.proofs.Common.{◌≡◌, ℕ, zero, suc, ◌+◌, ◌-◌, ◌/◌, ◌^◌, ◌<◌, ◌⊎◌, inl, inr, Bool, true, false, ◌==◌, List, [], ◌∷◌, ◌++◌, map, length, drop, replicate, max, refl, ap, sym, ◌∙◌, subst, arith, add-one, Result, Ok, Err, IfOk}
+use Rattle.std.proofs.Common.{◌≡◌, ℕ, zero, suc, ◌+◌, ◌-◌, ◌/◌, ◌^◌, ◌<◌, ◌≤◌, ◌⊎◌, inl, inr, Bool, true, false, ◌==◌, List, [], ◌∷◌, ◌++◌, map, length, drop, replicate, max, refl, ap, sym, ◌∙◌, subst, arith, add-one, Result, Ok, Err, IfOk}
 use Rattle.std.specs.Global.{Vec}
 use Rattle.std.specs.List.{flat_map}
 use Rattle.std.specs.Str.{chars}
@@ -31,9 +31,9 @@ use Rattle.mad_format.specs.declared.table.RelativePosition.{RelativePosition}
 use Rattle.mad_sections.specs.CellWords.{longest_word}
 use Rattle.mad_blocks.specs.Layouts.{AreRead}
 use Rattle.mad_blocks.specs.TableCursors.{BecomesBy}
-use Rattle.mad_blocks.specs.Tables.{columns_count, columns_from, columns_in, measure_of, measures_in, position_at, AreKeptWidths, AreTableLinesBy, IsTableLineBy, IsTableLaidOutBy, centered}
+use Rattle.mad_blocks.specs.Tables.{columns_count, columns_from, columns_in, measure_of, measures_in, position_at, most_columns, without_blanks, AreKeptWidths, AreSetWidths, AreTableLinesBy, IsTableLineBy, IsTableLaidOutBy, centered}
 use Rattle.mad_blocks.specs.TextParts.{columns_among, count_in}
-use Rattle.mad_blocks.proofs.TableWidths.{CellsSeen, RowsSeen, kept_narrow, rows_seen_more, rows_seen_other, seen_more}
+use Rattle.mad_blocks.proofs.TableWidths.{CellsSeen, RowsSeen, set_narrow, set_wide, rows_seen_more, rows_seen_other, seen_more}
 
 -- ---- what was read, one by one
 
@@ -193,10 +193,17 @@ read_rows_end skin table read i h none = lines_end skin (map content_of table) r
 -- ---- the widths
 
 -- columns that are more than fit have the least width, however the lines are read
-pub read_narrow : {E : Type 0} (r : Result (Vec ℕ) E) (skin : LineRules) (n width : ℕ) (cs : List LineContent) → 0 < width → (width - 1) / 4 < n → IfOk r (λ ws. ws.items ≡ replicate ((width - 1) / 4) 3)
-    → IfOk r (λ ws. (read : List FmtLine) → AreRead skin cs read → AreKeptWidths skin.whole_words n width read ws.items)
-read_narrow {E} (Ok ws) skin n width cs some few is = λ read h. kept_narrow skin.whole_words n width read ws.items some few is
+pub read_narrow : {E : Type 0} (r : Result (Vec ℕ) E) (skin : LineRules) (n width : ℕ) (cs : List LineContent) → 0 < width → most_columns skin.cell_blanks width < n → IfOk r (λ ws. ws.items ≡ replicate (most_columns skin.cell_blanks width) 3)
+    → IfOk r (λ ws. (read : List FmtLine) → AreRead skin cs read → AreSetWidths skin.whole_words skin.cell_blanks n width read ws.items)
+read_narrow {E} (Ok ws) skin n width cs some few is = λ read h. set_narrow skin.whole_words skin.cell_blanks n width read ws.items some few is
 read_narrow {E} (Err e) skin n width cs some few is = tt
+
+-- the widths that a table keeps beside its blanks are those that it has, however the lines are read
+pub read_wide : {E : Type 0} (r : Result (Vec ℕ) E) (skin : LineRules) (n width : ℕ) (cs : List LineContent) → 0 < width → n ≤ most_columns skin.cell_blanks width
+    → IfOk r (λ ws. (read : List FmtLine) → AreRead skin cs read → AreKeptWidths skin.whole_words n (without_blanks skin.cell_blanks n width) read ws.items)
+    → IfOk r (λ ws. (read : List FmtLine) → AreRead skin cs read → AreSetWidths skin.whole_words skin.cell_blanks n width read ws.items)
+read_wide {E} (Ok ws) skin n width cs some few kept = λ read h. set_wide skin.whole_words skin.cell_blanks n width read ws.items some few (kept read h)
+read_wide {E} (Err e) skin n width cs some few kept = tt
 
 -- the lines that were read are fewer than 2^64
 pub read_few : (skin : LineRules) (table : List Line) (read : List FmtLine) → AreRead skin (map content_of table) read → length table < 2 ^ 64 → length read < 2 ^ 64
@@ -255,12 +262,12 @@ table_stays skin width n cs lines_left widths columns lines same count none (rea
     (read, all, inl (subst (λ (k : ℕ). (k ≡ 0) ⊎ (width ≡ 0)) (sym counted) none, is))
 
 -- lines that are laid out one by one are the layout of their table
-pub table_by_lines : (skin : LineRules) (width n : ℕ) (cs lines_left : List LineContent) (widths : List ℕ) (columns : List Spacing) (lines : List FmtLine) → lines_left ≡ cs → n ≡ columns_among cs → 0 < n → 0 < width → ((read : List FmtLine) → AreRead skin cs read → AreKeptWidths skin.whole_words n width read widths)
+pub table_by_lines : (skin : LineRules) (width n : ℕ) (cs lines_left : List LineContent) (widths : List ℕ) (columns : List Spacing) (lines : List FmtLine) → lines_left ≡ cs → n ≡ columns_among cs → 0 < n → 0 < width → ((read : List FmtLine) → AreRead skin cs read → AreSetWidths skin.whole_words skin.cell_blanks n width read widths)
     → columns ≡ centered widths → Become skin lines_left false widths columns true lines → (read : List FmtLine) × AreRead skin cs read × IsTableLaidOutBy IsCompositeWrap skin (columns_count read) width read lines
 table_by_lines skin width n cs lines_left widths columns lines same count some wide kept columns_are (read, reads, laid) =
     let all : AreRead skin cs read = subst (λ (ds : List LineContent). AreRead skin ds read) same reads in
     let counted : n ≡ columns_count read = count ∙ sym (count_read skin cs read all) in (
       read,
       all,
-      inr (omega (arith, counted, some), wide, (widths, subst (λ (k : ℕ). AreKeptWidths skin.whole_words k width read widths) counted (kept read all), subst (λ (xs : List Spacing). AreTableLinesBy IsCompositeWrap skin widths xs true read lines) columns_are laid)),
+      inr (omega (arith, counted, some), wide, (widths, subst (λ (k : ℕ). AreSetWidths skin.whole_words skin.cell_blanks k width read widths) counted (kept read all), subst (λ (xs : List Spacing). AreTableLinesBy IsCompositeWrap skin widths xs true read lines) columns_are laid)),
     )

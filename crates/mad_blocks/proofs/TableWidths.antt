@@ -14,7 +14,8 @@ use Rattle.mad_widths.specs.WordWidths.{least_of, word_widths, IsWordFit, IsTabl
 use Rattle.mad_widths.specs.declared.tbl_fit.TblFit.{TblFit}
 use Rattle.mad_widths.specs.declared.tbl_fit.TblFitResult.{TblFitResult}
 use Rattle.mad_format.specs.FmtLines.{bordered}
-use Rattle.mad_blocks.specs.Tables.{rows_among, first_columns, measure_of, measures_in, lengths_in, words_in, widths_by, AreWhole, AreKeptWidths}
+use Rattle.mad_format.specs.LineRules.{around_cell}
+use Rattle.mad_blocks.specs.Tables.{rows_among, first_columns, measure_of, measures_in, lengths_in, words_in, widths_by, least_room, most_columns, rule_width, with_blanks, without_blanks, AreWhole, AreKeptWidths, AreSetWidths}
 use Rattle.mad_format.specs.declared.composite.FmtComposite.{FmtComposite}
 use Rattle.mad_format.specs.declared.line.FmtLine.{FmtLine}
 use Rattle.mad_format.specs.declared.line.FmtLine.TheVariants.{Normal, TableRow, TableRule, HorizontalRule}
@@ -250,22 +251,117 @@ kept_whole n width table fitted wide few fit =
     (subst (λ (k : ℕ). AreShared (width - 1 - k) (natural_widths (map needs_of cells)) fitted.reduced ws) count fit.shared)
     (λ _. subst (λ (k : ℕ). AreWhole (width - 1 - k) cells words ws) count fit.whole)
 
+-- ---- with blanks beside cells
+
+-- each column takes two more for its blanks
+bordered_blanked : (ws : List ℕ) → bordered (with_blanks true ws) ≡ bordered ws + 2 * length ws
+bordered_blanked [] = refl
+bordered_blanked (w ∷ ws) = let rest : bordered (with_blanks true ws) ≡ bordered ws + 2 * length ws = bordered_blanked ws in omega (arith, rest)
+
+blanked_threes : (k : ℕ) → bordered (with_blanks true (replicate k 3)) ≡ 6 * k
+blanked_threes zero = refl
+blanked_threes (suc k) = let rest : bordered (with_blanks true (replicate k 3)) ≡ 6 * k = blanked_threes k in omega (arith, rest)
+
+-- rules across columns that fit are as wide as these with their blanks
+pub rule_widths : (b : Bool) (ws : List ℕ) → bordered (with_blanks b ws) < 2 ^ 64 → map (rule_width b) ws ≡ with_blanks b ws
+rule_widths true [] fit = refl
+rule_widths true (w ∷ ws) fit =
+    let inside : w + 2 + 1 + bordered (with_blanks true ws) < 2 ^ 64 = fit in
+    let one : rule_width true w ≡ w + 2 = omega (arith, inside) in
+    ap (λ (v : ℕ). v ∷ map (rule_width true) ws) one ∙ ap (λ (vs : List ℕ). (w + 2) ∷ vs) (rule_widths true ws (omega (arith, inside)))
+rule_widths false [] fit = refl
+rule_widths false (w ∷ ws) fit = ap (λ (vs : List ℕ). w ∷ vs) (rule_widths false ws (omega (arith, fit)))
+
+-- no columns take none
+pub blanked_none : (b : Bool) → bordered (with_blanks b []) ≡ 0
+blanked_none true = refl
+blanked_none false = refl
+
+-- the first column takes its width, its blanks and a border
+pub blanked_first : (b : Bool) (w : ℕ) (ws : List ℕ) → bordered (with_blanks b (w ∷ ws)) ≡ w + around_cell b + 1 + bordered (with_blanks b ws)
+blanked_first true w ws = omega arith
+blanked_first false w ws = omega arith
+
+-- with blanks columns take as much as without or more
+pub blanked_least : (b : Bool) (ws : List ℕ) → bordered ws ≤ bordered (with_blanks b ws)
+blanked_least true ws = omega (arith, bordered_blanked ws)
+blanked_least false ws = omega arith
+
+-- columns with their blanks are as many
+pub blanks_count : (b : Bool) (ws : List ℕ) → length (with_blanks b ws) ≡ length ws
+blanks_count true ws = length-map ws (λ w. w + 2)
+blanks_count false ws = refl
+
+-- where columns have room with their blanks, what is left beside these has room for three of each
+pub room_left : (b : Bool) (n width : ℕ) → least_room b n ≤ width → 4 * n + 1 ≤ without_blanks b n width
+room_left true n width room = omega (arith, room)
+room_left false n width room = room
+
+-- where columns have room, fewer have it too
+pub least_more : (b : Bool) (m n width : ℕ) → m ≤ n → least_room b n ≤ width → least_room b m ≤ width
+least_more true m n width fewer room = omega (arith, fewer, room)
+least_more false m n width fewer room = omega (arith, fewer, room)
+
+-- no columns take one border
+pub least_none : (b : Bool) → least_room b 0 ≡ 1
+least_none true = refl
+least_none false = refl
+
+-- so it has where they are as many as have room
+pub room_beside : (b : Bool) (n width : ℕ) → 0 < width → n ≤ most_columns b width → 4 * n + 1 ≤ without_blanks b n width
+room_beside true n width some few = omega (arith, some, few)
+room_beside false n width some few = omega (arith, some, few)
+
+-- the widths that a table keeps beside its blanks are those that it has
+pub set_wide : (w b : Bool) (n width : ℕ) (table : List FmtLine) (ws : List ℕ) → 0 < width → n ≤ most_columns b width → AreKeptWidths w n (without_blanks b n width) table ws → AreSetWidths w b n width table ws
+set_wide w true n width table ws some few kept =
+    let room : 6 * n + 1 ≤ width = omega (arith, some, few) in
+    let inside : bordered ws + 1 ≤ width - 2 * n = kept.fit in
+    let count : length ws ≡ n = kept.kept (omega (arith, room)) in
+    let borders : bordered (with_blanks true ws) ≡ bordered ws + 2 * length ws = bordered_blanked ws in
+    record {
+      least = kept.least;
+      fit = omega (arith, inside, count, borders, room);
+      wide = λ _. kept;
+      narrow = λ less. absurd (omega (arith, room, less));
+    }
+set_wide w false n width table ws some few kept =
+    let room : 4 * n + 1 ≤ width = omega (arith, some, few) in
+    record {
+      least = kept.least;
+      fit = kept.fit;
+      wide = λ _. kept;
+      narrow = λ less. absurd (omega (arith, room, less));
+    }
+
 -- where not all columns have room, those that have get three columns each
-pub kept_narrow : (b : Bool) (n width : ℕ) (table : List FmtLine) (ws : List ℕ) → 0 < width → (width - 1) / 4 < n → ws ≡ replicate ((width - 1) / 4) 3 → AreKeptWidths b n width table ws
-kept_narrow b n width table ws some few is =
-    let k : ℕ = (width - 1) / 4 in
-    let borders : bordered (replicate k 3) ≡ 4 * k = bordered_threes k in
-    subst (AreKeptWidths b n width table) (sym is) (record {
+pub set_narrow : (w b : Bool) (n width : ℕ) (table : List FmtLine) (ws : List ℕ) → 0 < width → most_columns b width < n → ws ≡ replicate (most_columns b width) 3 → AreSetWidths w b n width table ws
+set_narrow w true n width table ws some few is =
+    let k : ℕ = (width - 1) / 6 in
+    let borders : bordered (with_blanks true (replicate k 3)) ≡ 6 * k = blanked_threes k in
+    subst (AreSetWidths w true n width table) (sym is) (record {
       least = all_threes k;
       fit = omega (arith, borders, some);
-      kept = λ wide. absurd (omega (arith, few, wide, some));
-      are = λ wide. absurd (omega (arith, few, wide, some));
-      shared = λ wide. absurd (omega (arith, few, wide, some));
-      whole = λ _ wide. absurd (omega (arith, few, wide, some));
+      wide = λ wide. absurd (omega (arith, few, wide, some));
+      narrow = λ less. refl;
+    })
+set_narrow w false n width table ws some few is =
+    let k : ℕ = (width - 1) / 4 in
+    let borders : bordered (replicate k 3) ≡ 4 * k = bordered_threes k in
+    subst (AreSetWidths w false n width table) (sym is) (record {
+      least = all_threes k;
+      fit = omega (arith, borders, some);
+      wide = λ wide. absurd (omega (arith, few, wide, some));
       narrow = λ less. refl;
     })
 
 -- so it is where a call answers these widths
-pub ok_narrow : {E : Type 0} (r : Result (Vec ℕ) E) (b : Bool) (n width : ℕ) (table : List FmtLine) → 0 < width → (width - 1) / 4 < n → IfOk r (λ ws. ws.items ≡ replicate ((width - 1) / 4) 3) → IfOk r (λ ws. AreKeptWidths b n width table ws.items)
-ok_narrow {E} (Ok ws) b n width table some few is = kept_narrow b n width table ws.items some few is
-ok_narrow {E} (Err e) b n width table some few is = tt
+pub ok_narrow : {E : Type 0} (r : Result (Vec ℕ) E) (w b : Bool) (n width : ℕ) (table : List FmtLine) → 0 < width → most_columns b width < n → IfOk r (λ ws. ws.items ≡ replicate (most_columns b width) 3) → IfOk r (λ ws. AreSetWidths w b n width table ws.items)
+ok_narrow {E} (Ok ws) w b n width table some few is = set_narrow w b n width table ws.items some few is
+ok_narrow {E} (Err e) w b n width table some few is = tt
+
+-- and where it answers those that are kept beside the blanks
+pub ok_wide : {E : Type 0} (r : Result (Vec ℕ) E) (w b : Bool) (n width : ℕ) (table : List FmtLine) → 0 < width → n ≤ most_columns b width → IfOk r (λ ws. AreKeptWidths w n (without_blanks b n width) table ws.items)
+    → IfOk r (λ ws. AreSetWidths w b n width table ws.items)
+ok_wide {E} (Ok ws) w b n width table some few kept = set_wide w b n width table ws.items some few kept
+ok_wide {E} (Err e) w b n width table some few kept = tt

@@ -25,6 +25,8 @@ worked_tables = record {
   narrow = λ lines widths kept. kept.narrow (omega arith);
   parted = λ lines widths lengths kept. kept.are (omega arith) ∙ ap (λ cells. column_widths 20 (map needs_of cells)) lengths;
   whole = λ lines widths lengths words kept. kept.are (omega arith) ∙ ap₂ (λ cells words. word_widths 20 (map needs_of cells) (least_of cells words)) lengths words;
+  blanked = λ lines widths lengths set. (set.wide (omega arith)).are (omega arith) ∙ ap (λ cells. column_widths 10 (map needs_of cells)) lengths;
+  blanked_narrow = λ lines widths set. set.narrow (omega arith);
   too_narrow = λ lines widths lengths words kept. kept.are (omega arith) ∙ ap₂ (λ cells words. word_widths 20 (map needs_of cells) (least_of cells words)) lengths words;
 }
 

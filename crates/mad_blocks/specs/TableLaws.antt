@@ -1,7 +1,7 @@
 -- What the layout of given tables is, and what it isn't.
 use Rattle.std.specs.Prelude.{◌≡◌, ◌≢◌, ℕ, ◌+◌, ◌*◌, ◌<◌, ◌≤◌, Bool, true, false, List, [], ◌∷◌, length, Some}
 use Rattle.mad_measure.specs.declared.spacing.Spacing.{Spacing}
-use Rattle.mad_blocks.specs.Tables.{AreDown, rows_among, lengths_in, words_in, AreKeptWidths, IsTableLaidOutBy}
+use Rattle.mad_blocks.specs.Tables.{AreDown, rows_among, lengths_in, words_in, AreKeptWidths, AreSetWidths, IsTableLaidOutBy}
 use Rattle.mad_format.specs.WrappedLines.{Wrap}
 use Rattle.mad_format.specs.LineRules.{LineRules}
 use Rattle.mad_format.specs.declared.composite.FmtComposite.{FmtComposite}
@@ -20,7 +20,8 @@ abbrev pub HaveWords : List FmtLine → List (List ℕ) → Type 0
 HaveWords lines words = words_in (length words) (rows_among lines) ≡ words
 
 -- Worked tables: two columns with cells of 9 columns and of 1 at a width of 13, with cells of 3 and of 20, and nine columns at 11. Then two columns with cells
--- of 9 and of 20 at a width of 23: words of 9 and of 5 stay whole, and words of 9 and of 12 don't fit together.
+-- of 9 and of 20 at a width of 23: words of 9 and of 5 stay whole, and words of 9 and of 12 don't fit together. With blanks beside cells the first at 17,
+-- and nine columns at 13.
 pub record AreWorkedTables : Type 0 where
   pub reduced : (lines : List FmtLine) (widths : List ℕ) → HaveLengths lines ((9 ∷ []) ∷ (1 ∷ []) ∷ []) → AreKeptWidths false 2 13 lines widths → widths ≡ 7 ∷ 3 ∷ []
   pub shared : (lines : List FmtLine) (widths : List ℕ) → HaveLengths lines ((3 ∷ []) ∷ (20 ∷ []) ∷ []) → AreKeptWidths false 2 13 lines widths → widths ≡ 3 ∷ 7 ∷ []
@@ -28,6 +29,8 @@ pub record AreWorkedTables : Type 0 where
   pub narrow : (lines : List FmtLine) (widths : List ℕ) → AreKeptWidths false 9 11 lines widths → widths ≡ 3 ∷ 3 ∷ []
   pub parted : (lines : List FmtLine) (widths : List ℕ) → HaveLengths lines ((9 ∷ []) ∷ (20 ∷ []) ∷ []) → AreKeptWidths false 2 23 lines widths → widths ≡ 7 ∷ 13 ∷ []
   pub whole : (lines : List FmtLine) (widths : List ℕ) → HaveLengths lines ((9 ∷ []) ∷ (20 ∷ []) ∷ []) → HaveWords lines ((9 ∷ []) ∷ (5 ∷ []) ∷ []) → AreKeptWidths true 2 23 lines widths → widths ≡ 9 ∷ 11 ∷ []
+  pub blanked : (lines : List FmtLine) (widths : List ℕ) → HaveLengths lines ((9 ∷ []) ∷ (1 ∷ []) ∷ []) → AreSetWidths false true 2 17 lines widths → widths ≡ 7 ∷ 3 ∷ []
+  pub blanked_narrow : (lines : List FmtLine) (widths : List ℕ) → AreSetWidths false true 9 13 lines widths → widths ≡ 3 ∷ 3 ∷ []
   pub too_narrow : (lines : List FmtLine) (widths : List ℕ) → HaveLengths lines ((9 ∷ []) ∷ (20 ∷ []) ∷ []) → HaveWords lines ((9 ∷ []) ∷ (12 ∷ []) ∷ []) → AreKeptWidths true 2 23 lines widths → widths ≡ 7 ∷ 13 ∷ []
 
 -- What is no layout of a table: a column narrower than its longest word beside one with room; widths whose sum is one too few; widths for fewer columns than have room; a row in which the second line of

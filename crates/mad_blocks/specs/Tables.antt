@@ -12,6 +12,7 @@ use Rattle.mad_format.specs.WrappedLines.{Wrap}
 use Rattle.mad_format.specs.Wraps.{text_of}
 use Rattle.mad_wrap.specs.WrapLines.{capped}
 use Rattle.mad_sections.specs.CellWords.{longest_word}
+use Rattle.mad_sections.specs.declared.table_rooms.TableRules.{TableRules}
 use Rattle.mad_format.specs.LineRules.{LineRules}
 use Rattle.mad_format.specs.Lists.{most}
 use Rattle.mad_format.specs.declared.composite.FmtComposite.{FmtComposite}
@@ -150,6 +151,40 @@ pub record AreKeptWidths (whole_words : Bool) (n width : ℕ) (lines : List FmtL
   pub whole : whole_words ≡ true → 4 * n + 1 ≤ width → AreWhole (width - 1 - n) (lengths_in n (rows_among lines)) (words_in n (rows_among lines)) widths
   pub narrow : width < 4 * n + 1 → widths ≡ replicate ((width - 1) / 4) 3
 
+-- ---- blanks beside cells
+
+-- what laying out a table asks of a skin
+abbrev pub table_rules : LineRules → TableRules
+table_rules skin = record { whole_words = skin.whole_words; cell_blanks = skin.cell_blanks }
+
+-- the least width of n columns with their borders: three each, and their blanks
+abbrev pub least_room : Bool → ℕ → ℕ
+least_room true n = 6 * n + 1
+least_room false n = 4 * n + 1
+
+-- how many columns have such room at a width
+abbrev pub most_columns : Bool → ℕ → ℕ
+most_columns true width = (width - 1) / 6
+most_columns false width = (width - 1) / 4
+
+-- what is left of a width beside the blanks of n columns
+abbrev pub without_blanks : Bool → ℕ → ℕ → ℕ
+without_blanks true n width = width - 2 * n
+without_blanks false n width = width
+
+-- the widths of columns with their blanks
+abbrev pub with_blanks : Bool → List ℕ → List ℕ
+with_blanks true widths = map (λ w. w + 2) widths
+with_blanks false widths = widths
+
+-- The widths that a table of n columns has in a skin: at least three each, and with their blanks and borders they fit. Where each of the n
+-- has room for three and its blanks, they are those that it keeps in what is left beside the blanks; else as many as have room, of three.
+pub record AreSetWidths (whole_words cell_blanks : Bool) (n width : ℕ) (lines : List FmtLine) (widths : List ℕ) : Type 0 where
+  pub least : AllByRecursion (λ w. 3 ≤ w) widths
+  pub fit : bordered (with_blanks cell_blanks widths) + 1 ≤ width
+  pub wide : least_room cell_blanks n ≤ width → AreKeptWidths whole_words n (without_blanks cell_blanks n width) lines widths
+  pub narrow : width < least_room cell_blanks n → widths ≡ replicate (most_columns cell_blanks width) 3
+
 -- ---- a table
 
 -- the columns from a line on, where they were these above it: a rule says how cells are aligned below it
@@ -163,10 +198,15 @@ position_at true last = Top
 position_at false true = Bottom
 position_at false false = Other
 
+-- the columns of a rule across a column of this width, and its blanks; a sum stays at the greatest number
+abbrev pub rule_width : Bool → ℕ → ℕ
+rule_width true w = capped (w + 2)
+rule_width false w = w
+
 -- a rule across columns, at its position in its table
-pub record IsRuleLaidOut (position : RelativePosition) (columns : List Spacing) (rule : FmtTableRule) : Type 0 where
+pub record IsRuleLaidOut (cell_blanks : Bool) (position : RelativePosition) (columns : List Spacing) (rule : FmtTableRule) : Type 0 where
   pub position_is : rule.position ≡ position
-  pub widths_are : rule.widths.items ≡ map (λ c. c.width) columns
+  pub widths_are : rule.widths.items ≡ map (λ c. rule_width cell_blanks c.width) columns
   pub aligns_are : rule.aligns.items ≡ map (λ c. c.align) columns
 
 -- What a line of a table becomes in columns at its position in the table: a row its rows, a rule a rule across the columns.
@@ -175,7 +215,7 @@ IsTableLineBy wraps skin columns position (Normal l) lines = lines ≡ Normal l 
 IsTableLineBy wraps skin columns position (TableRow row) lines =
     (rows : List FmtTableRow) × (lines ≡ map TableRow rows) × IsRowLaidOutBy wraps skin columns row.cells.items rows
 IsTableLineBy wraps skin columns position (TableRule source) lines =
-    (rule : FmtTableRule) × (lines ≡ TableRule rule ∷ []) × IsRuleLaidOut position columns rule
+    (rule : FmtTableRule) × (lines ≡ TableRule rule ∷ []) × IsRuleLaidOut skin.cell_blanks position columns rule
 IsTableLineBy wraps skin columns position HorizontalRule lines = lines ≡ HorizontalRule ∷ []
 
 -- What the lines of a table become, in order, at these widths, in these columns up to the first rule; `first` says whether no
@@ -191,7 +231,7 @@ AreTableLinesBy wraps skin widths columns first (l ∷ ls) lines =
 abbrev pub IsTableLaidOutBy : Wrap → LineRules → ℕ → ℕ → List FmtLine → List FmtLine → Type 0
 IsTableLaidOutBy wraps skin n width table lines =
     (((n ≡ 0) ⊎ (width ≡ 0)) × (lines ≡ table))
-    ⊎ ((0 < n) × (0 < width) × ((widths : List ℕ) × AreKeptWidths skin.whole_words n width table widths × AreTableLinesBy wraps skin widths (centered widths) true table lines))
+    ⊎ ((0 < n) × (0 < width) × ((widths : List ℕ) × AreSetWidths skin.whole_words skin.cell_blanks n width table widths × AreTableLinesBy wraps skin widths (centered widths) true table lines))
 
 -- the count of cells or alignments of a line of a table
 abbrev pub columns_in : FmtLine → ℕ

@@ -27,6 +27,6 @@ pub use code_blocks::{CodeBlock, find_blocks, justify_blocks};
 pub use laying::{push_read_at, wrap_width};
 pub use part_cursor::PartCursor;
 pub use table_cursor::TableCursor;
-pub use table_layout::{Table, fix_all_tables};
+pub use table_layout::{Table, fix_all_tables, table_rules};
 pub use table_rows::lay_row;
 pub use texts::{lay_front, lay_source, lay_text};

@@ -4,7 +4,7 @@ ghost use Rattle.std.specs.Prelude.{◌≡◌, ◌<◌, ◌≤◌, ◌*◌, ◌+
 ghost use Rattle.mad_md.specs.Lines.{content_of, styled_runs};
 ghost use Rattle.mad_md.specs.declared.alignment.Alignment.TheVariants.{Unspecified};
 ghost use Rattle.mad_widths.specs.SeenCells.{TableHasSeen};
-ghost use Rattle.mad_blocks.specs.Tables.{columns_with, centered, columns_from, columns_count, columns_in, rows_among, measure_of, measures_in, AreKeptWidths};
+ghost use Rattle.mad_blocks.specs.Tables.{columns_with, centered, columns_from, columns_count, columns_in, rows_among, measure_of, measures_in, most_columns, without_blanks, AreKeptWidths, AreSetWidths};
 ghost use Rattle.mad_blocks.specs.Layouts.{AreRead};
 ghost use Rattle.mad_blocks.specs.TextParts.{columns_among, count_in};
 ghost use Rattle.mad_format.specs.FmtLines.{AreCompositesRead, IsCompositeRead};
@@ -15,26 +15,66 @@ use mad_format::{FmtComposite, FmtLine, LineSkin, composite_columns};
 use mad_md::{Alignment, Composite, Line};
 use mad_measure::Spacing;
 use mad_sections::cell_words::longest_word;
+use mad_sections::table_rooms::TableRules;
 use mad_style::CompositeKind;
 use mad_widths::TblFit;
 use std::alloc::{AllocError, Global};
 
 /// The widths of the columns that a table of `nbcols` columns keeps at a width, from the cached lengths of its cells, and where words
-/// stay whole from their longest words too.
+/// stay whole from their longest words too. Blanks beside cells come off the width first.
 pub(crate) fn kept_widths(
+    alloc: Global,
+    table: &[FmtLine],
+    nbcols: usize,
+    width: usize,
+    rules: TableRules,
+) -> Result<Vec<usize>, AllocError>
+    requires { 0 < width }
+    ensures { IfOk result (λ widths. AreSetWidths rules.whole_words rules.cell_blanks nbcols width table.now widths.items) }
+{
+    let most = most_columns(rules.cell_blanks, width);
+    if most < nbcols {
+        return vec![in alloc; 3; most];
+    }
+    let room = without_blanks(rules.cell_blanks, nbcols, width);
+    fitted_widths(alloc, table, nbcols, room, rules.whole_words)
+}
+
+// The most columns that have room at a width, for three and their blanks each.
+fn most_columns(cell_blanks: bool, width: usize) -> usize
+    requires { 0 < width }
+    ensures { result ≡ most_columns cell_blanks width }
+{
+    if cell_blanks {
+        (width - 1) / 6
+    } else {
+        (width - 1) / 4
+    }
+}
+
+// What is left of a width beside the blanks of the columns.
+fn without_blanks(cell_blanks: bool, nbcols: usize, width: usize) -> usize
+    requires { nbcols ≤ most_columns cell_blanks width }
+    ensures { result ≡ without_blanks cell_blanks nbcols width }
+{
+    if cell_blanks {
+        width - 2 * nbcols
+    } else {
+        width
+    }
+}
+
+// The widths of columns without blanks, each of which has room for three.
+fn fitted_widths(
     alloc: Global,
     table: &[FmtLine],
     nbcols: usize,
     width: usize,
     whole_words: bool,
 ) -> Result<Vec<usize>, AllocError>
-    requires { 0 < width }
+    requires { 4 * nbcols + 1 ≤ width }
     ensures { IfOk result (λ widths. AreKeptWidths whole_words nbcols width table.now widths.items) }
 {
-    let most = (width - 1) / 4;
-    if most < nbcols {
-        return vec![in alloc; 3; most];
-    }
     let cells = seen_table(alloc, table, nbcols, width, false)?;
     if whole_words {
         let words = seen_table(alloc, table, nbcols, width, true)?;
@@ -99,12 +139,27 @@ pub(crate) fn read_widths<S: LineSkin>(
     skin: &S,
 ) -> Result<Vec<usize>, AllocError>
     requires { 0 < width }
-    ensures { IfOk result (λ widths. (read : List FmtLine) → AreRead (S.rules skin.now) (map content_of table.now) read → AreKeptWidths (S.rules skin.now).whole_words nbcols width read widths.items) }
+    ensures { IfOk result (λ widths. (read : List FmtLine) → AreRead (S.rules skin.now) (map content_of table.now) read → AreSetWidths (S.rules skin.now).whole_words (S.rules skin.now).cell_blanks nbcols width read widths.items) }
 {
-    let most = (width - 1) / 4;
+    let most = most_columns(skin.cell_blanks(), width);
     if most < nbcols {
         return vec![in alloc; 3; most];
     }
+    let room = without_blanks(skin.cell_blanks(), nbcols, width);
+    fitted_lines(alloc, table, nbcols, room, skin)
+}
+
+// What [`fitted_widths`] has of a table, from its lines as they were read.
+fn fitted_lines<S: LineSkin>(
+    alloc: Global,
+    table: &[Line],
+    nbcols: usize,
+    width: usize,
+    skin: &S,
+) -> Result<Vec<usize>, AllocError>
+    requires { 4 * nbcols + 1 ≤ width }
+    ensures { IfOk result (λ widths. (read : List FmtLine) → AreRead (S.rules skin.now) (map content_of table.now) read → AreKeptWidths (S.rules skin.now).whole_words nbcols width read widths.items) }
+{
     let cells = seen_lines(alloc, table, nbcols, width, false, skin)?;
     if skin.whole_words() {
         let words = seen_lines(alloc, table, nbcols, width, true, skin)?;

@@ -8,7 +8,7 @@ ghost use Rattle.std.specs.List.{AllByRecursion};
 ghost use Rattle.mad_blocks.specs.FittingRows.{AllFit, ArePlaced};
 ghost use Rattle.mad_format.specs.Wraps.{IsMeasured};
 ghost use Rattle.mad_format.specs.declared.table.FmtTableRow.{FmtTableRow};
-ghost use Rattle.mad_blocks.specs.Tables.{centered, columns_count, position_at, IsRuleLaidOut, IsRowLaidOutBy, IsTableLineBy, AreTableLinesBy, IsTableLaidOutBy};
+ghost use Rattle.mad_blocks.specs.Tables.{centered, columns_count, position_at, rule_width, table_rules, IsRuleLaidOut, IsRowLaidOutBy, IsTableLineBy, AreTableLinesBy, IsTableLaidOutBy};
 ghost use Rattle.mad_format.specs.WrappedLines.{AllMeasured, IsLineMeasured};
 ghost use Rattle.mad_format.specs.declared.line.FmtLine.{FmtLine};
 ghost use Rattle.mad_format.specs.declared.line.FmtLine.TheVariants.{TableRow};
@@ -19,6 +19,7 @@ use mad_format::{
     FmtComposite, FmtLine, FmtTableRow, FmtTableRule, LineSkin, RelativePosition, put_line,
 };
 use mad_measure::Spacing;
+use mad_sections::table_rooms::TableRules;
 use std::alloc::{AllocError, Global};
 use std::mem;
 use std::vec::IntoIter;
@@ -157,7 +158,7 @@ fn push_table<'s, S: LineSkin>(
     if nbcols == 0 || width == 0 {
         return push_rest(lines, table.into_iter());
     }
-    let widths = kept_widths(alloc, &table, nbcols, width, skin.whole_words())?;
+    let widths = kept_widths(alloc, &table, nbcols, width, table_rules(skin))?;
     push_table_lines(alloc, lines, table, &widths, skin)
 }
 
@@ -212,7 +213,7 @@ pub(crate) fn push_table_line<'s, S: LineSkin>(
     match line {
         FmtLine::TableRow(row) => push_row(alloc, lines, row, columns, skin),
         FmtLine::TableRule(_) => {
-            let rule = rule_across(alloc, columns, position)?;
+            let rule = rule_across(alloc, columns, position, skin.cell_blanks())?;
             put_line(lines, FmtLine::TableRule(rule))
         }
         other => put_line(lines, other),
@@ -276,18 +277,40 @@ fn push_rows<'s>(lines: &mut Vec<FmtLine<'s>>, rows: Vec<FmtTableRow<'s>>) -> Re
     Ok(())
 }
 
-// A rule across these columns, with their alignments.
+/// What laying out a table asks of a skin.
+pub fn table_rules<S: LineSkin>(skin: &S) -> TableRules
+    ensures { result ≡ table_rules (S.rules skin.now) }
+{
+    TableRules {
+        whole_words: skin.whole_words(),
+        cell_blanks: skin.cell_blanks(),
+    }
+}
+
+// The columns of a rule across a column of this width, and its blanks.
+fn rule_width(cell_blanks: bool, width: usize) -> usize
+    ensures { result ≡ rule_width cell_blanks width }
+{
+    if cell_blanks {
+        width.saturating_add(2)
+    } else {
+        width
+    }
+}
+
+// A rule across these columns and their blanks, with their alignments.
 fn rule_across(
     alloc: Global,
     columns: &[Spacing],
     position: RelativePosition,
+    cell_blanks: bool,
 ) -> Result<FmtTableRule, AllocError>
-    ensures { IfOk result (λ rule. IsRuleLaidOut position columns.now rule) }
+    ensures { IfOk result (λ rule. IsRuleLaidOut cell_blanks position columns.now rule) }
 {
     let mut widths = Vec::with_capacity(alloc, columns.len())?;
     let mut aligns = Vec::with_capacity(alloc, columns.len())?;
     for column in columns {
-        widths.push(column.width)?;
+        widths.push(rule_width(cell_blanks, column.width))?;
         aligns.push(column.align)?;
     }
     Ok(FmtTableRule {

@@ -29,7 +29,7 @@ pub use composite::FmtComposite;
 pub use fitter::Fitter;
 pub use indents::{composite_columns, composite_kind_widths, follow_up, indent_of};
 pub use line::{FmtLine, put_line, rule_columns};
-pub use line_skin::LineSkin;
+pub use line_skin::{LineSkin, around_cell, beside_cell};
 pub use plain::wrap_text;
 pub use room::{margins_and_rest, room_of};
 pub use table::{FmtTableRow, FmtTableRule, RelativePosition};

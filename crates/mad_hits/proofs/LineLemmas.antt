@@ -13,7 +13,7 @@ use Rattle.mad_wrap.specs.WrapLines.{capped}
 use Rattle.mad_search.specs.Capitals.{has_capital}
 use Rattle.mad_format.specs.declared.composite.FmtComposite.{FmtComposite}
 use Rattle.mad_rows.specs.RowStyles.{compound_style, line_style}
-use Rattle.mad_rows.specs.Rows.{inner_columns}
+use Rattle.mad_rows.specs.Rows.{cell_columns, cell_margins}
 use Rattle.mad_rows.specs.declared.row_skin.RowSkin.{RowSkin}
 use Rattle.mad_hits.specs.Matches.{AreStarts, compared_char}
 use Rattle.mad_hits.specs.Styled.{styled_compound}
@@ -69,16 +69,16 @@ no_cell skin sought cells start column hits at = record { now = start; at = at; 
 
 -- the hits of one cell more are there
 pub cell_more : (skin : RowSkin) (sought : List ℕ) (cells : List FmtComposite) (i start column inside blank text next wide : ℕ) (d : FmtComposite) (old mid new : List Hit)
-    → CellsSoFar skin sought cells i start column old mid → i < length cells → inside ≡ min (column + 1) (2 ^ 64 - 1) → blank ≡ capped (text_column skin None (0, 0) (get_or cells i d)) → text ≡ min (inside + blank) (2 ^ 64 - 1)
-    → wide ≡ inner_columns (get_or cells i d) → next ≡ min (inside + wide) (2 ^ 64 - 1)
+    → CellsSoFar skin sought cells i start column old mid → i < length cells → inside ≡ min (column + 1) (2 ^ 64 - 1) → blank ≡ capped (text_column skin None (cell_margins skin) (get_or cells i d)) → text ≡ min (inside + blank) (2 ^ 64 - 1)
+    → wide ≡ capped (cell_columns skin (get_or cells i d)) → next ≡ min (inside + wide) (2 ^ 64 - 1)
     → ((n : ℕ) → text ≡ capped n → Adds (AreTextHits skin sought (record { column = n; text = get_or cells i d })) mid new)
     → CellsSoFar skin sought cells (i + 1) start next old new
 cell_more skin sought cells i start column inside blank text next wide d old mid new s within in_is blank_is text_is wide_is next_is put =
     let here = s.at in
     let cell = get_or cells i d in
-    let it = put (s.now + 1 + text_column skin None (0, 0) cell) (omega (arith, here, in_is, blank_is, text_is)) in
+    let it = put (s.now + 1 + text_column skin None (cell_margins skin) cell) (omega (arith, here, in_is, blank_is, text_is)) in
     record {
-      now = s.now + 1 + inner_columns cell;
+      now = s.now + 1 + cell_columns skin cell;
       at = omega (arith, here, in_is, wide_is, next_is);
       first = s.first ++ it.0;
       added = it.1 ∙ (ap (λ (m : List Marked). m ++ it.0) s.added ∙ append_assoc (map marked_of old) s.first it.0);

@@ -1,5 +1,5 @@
 -- All hits of a row stand in it, those of a table's row too.
-use Rattle.std.proofs.Common.{◌≡◌, ℕ, ◌+◌, ◌-◌, ◌^◌, ◌<◌, true, false, List, [], ◌∷◌, ◌++◌, drop, map, take, length, Option, Some, None, refl, ap, sym, ◌∙◌, subst, arith, append_assoc}
+use Rattle.std.proofs.Common.{◌≡◌, ℕ, ◌+◌, ◌-◌, ◌^◌, ◌<◌, true, List, [], ◌∷◌, ◌++◌, drop, map, take, length, Option, Some, None, refl, ap, sym, ◌∙◌, subst, arith, append_assoc}
 use Rattle.std.specs.Prelude.{chars, slice_get}
 use Rattle.std.specs.List.{AllByRecursion, flat_map}
 use Rattle.std.proofs.lemmas.List.{append-nil, drop-map, map-append, take-map}
@@ -21,7 +21,7 @@ use Rattle.mad_draw.proofs.PieceLemmas.{columns-both, pieces_cells, shown_spaces
 use Rattle.mad_format.specs.declared.composite.FmtComposite.{FmtComposite}
 use Rattle.mad_format.specs.declared.line.FmtLine.{FmtLine}
 use Rattle.mad_format.specs.declared.line.FmtLine.TheVariants.{Normal, TableRow, TableRule, HorizontalRule}
-use Rattle.mad_rows.specs.Rows.{cell_pieces, composite_pieces, inner_columns, left_of_place, line_pieces, margins_of, right_of_place, row_columns, vertical_piece}
+use Rattle.mad_rows.specs.Rows.{cell_margins, cell_pieces, composite_pieces, cell_columns, left_of_place, line_pieces, margins_of, right_of_place, row_columns, vertical_piece}
 use Rattle.mad_rows.specs.declared.row_skin.RowSkin.{RowSkin}
 use Rattle.mad_page_rows.specs.FaceLaws.{fronts}
 use Rattle.mad_page_rows.specs.Faces.{backs, behind_pieces, blanks, faces, has_ascii_boxes, line_skin, page_row_pieces}
@@ -92,17 +92,17 @@ parts_stand skin width rest nf sought l f b above below narrow wide prefix shown
 
 -- a cell is behind its border, and before the other cells
 cell_amid : (skin : RowSkin) (cell : FmtComposite) (cells : List FmtComposite) (f b : List RowPiece)
-    → amid skin None (0, 0) false cell (f ++ vertical_piece skin ∷ []) (flat_map (cell_pieces skin) cells ++ b) ≡ f ++ (flat_map (cell_pieces skin) (cell ∷ cells) ++ b)
+    → amid skin None (cell_margins skin) true cell (f ++ vertical_piece skin ∷ []) (flat_map (cell_pieces skin) cells ++ b) ≡ f ++ (flat_map (cell_pieces skin) (cell ∷ cells) ++ b)
 cell_amid skin cell cells f b =
-    let own : List RowPiece = composite_pieces skin None (0, 0) false cell in
+    let own : List RowPiece = composite_pieces skin None (cell_margins skin) true cell in
     let rest : List RowPiece = flat_map (cell_pieces skin) cells in
     append_assoc f (vertical_piece skin ∷ []) (own ++ (rest ++ b)) ∙ ap (λ (ps : List RowPiece). f ++ vertical_piece skin ∷ ps) (sym (append_assoc own rest b))
 
 -- the others are behind it
 others_amid : (skin : RowSkin) (cell : FmtComposite) (cells : List FmtComposite) (f b : List RowPiece)
-    → ((f ++ vertical_piece skin ∷ []) ++ composite_pieces skin None (0, 0) false cell) ++ (flat_map (cell_pieces skin) cells ++ b) ≡ f ++ (flat_map (cell_pieces skin) (cell ∷ cells) ++ b)
+    → ((f ++ vertical_piece skin ∷ []) ++ composite_pieces skin None (cell_margins skin) true cell) ++ (flat_map (cell_pieces skin) cells ++ b) ≡ f ++ (flat_map (cell_pieces skin) (cell ∷ cells) ++ b)
 others_amid skin cell cells f b =
-    append_assoc (f ++ vertical_piece skin ∷ []) (composite_pieces skin None (0, 0) false cell) (flat_map (cell_pieces skin) cells ++ b) ∙ cell_amid skin cell cells f b
+    append_assoc (f ++ vertical_piece skin ∷ []) (composite_pieces skin None (cell_margins skin) true cell) (flat_map (cell_pieces skin) cells ++ b) ∙ cell_amid skin cell cells f b
 
 cells_stand : (skin : RowSkin) (width nf : ℕ) (sought : List ℕ) (f b : List RowPiece) (column : ℕ) (cells : List FmtComposite) (hits : List Marked) → width < 2 ^ 16 → pieces_columns f ≡ nf + column → pieces_columns (vertical_piece skin ∷ []) ≡ 1
     → AllByRecursion (IsCountedCell skin) cells → AreShownPieces (f ++ (flat_map (cell_pieces skin) cells ++ b)) → AreTextsHits skin sought (placed_cells skin column cells) hits
@@ -115,20 +115,20 @@ cells_stand skin width nf sought f b column (cell ∷ cells) hits narrow wide bo
     let row : List RowPiece = f ++ (flat_map (cell_pieces skin) (cell ∷ cells) ++ b) in
     let P : Marked → Type 0 = StandsWithin width row in
     let inside : ℕ = column + 1 in
-    let text : ℕ = inside + text_column skin None (0, 0) cell in
+    let text : ℕ = inside + text_column skin None (cell_margins skin) cell in
     let wide_border : pieces_columns bordered ≡ nf + inside = let both = columns-both f (vertical_piece skin ∷ []) in omega (arith, both, wide, border) in
-    let wide_cell : pieces_columns (bordered ++ composite_pieces skin None (0, 0) false cell) ≡ nf + (inside + inner_columns cell) =
-    let both = columns-both bordered (composite_pieces skin None (0, 0) false cell) in let place = counted.0.place in omega (arith, both, wide_border, place) in
+    let wide_cell : pieces_columns (bordered ++ composite_pieces skin None (cell_margins skin) true cell) ≡ nf + (inside + cell_columns skin cell) =
+    let both = columns-both bordered (composite_pieces skin None (cell_margins skin) true cell) in let place = counted.0.place in omega (arith, both, wide_border, place) in
     let own_stand : AllByRecursion P (map (further n) first) =
     text_stands skin width n sought row cell text first
     (λ count start.
     subst P (sym (moved nf text (styled_text skin cell) count start))
     (subst (λ (ps : List RowPiece). StandsWithin width ps (marked_at (nf + text) (styled_text skin cell) count start)) (cell_amid skin cell cells f b)
-    (mark_stands skin None (0, 0) false cell bordered behind (nf + inside) (nf + text) width count start wide_border counted.0.indent (subst AreShownPieces (sym (cell_amid skin cell cells f b)) shown) (omega arith) narrow)))
+    (mark_stands skin None (cell_margins skin) true cell bordered behind (nf + inside) (nf + text) width count start wide_border counted.0.indent (subst AreShownPieces (sym (cell_amid skin cell cells f b)) shown) (omega arith) narrow)))
     own in
     let rest_stand : AllByRecursion P (map (further n) others) =
     subst (λ (ps : List RowPiece). AllByRecursion (StandsWithin width ps) (map (further n) others)) (others_amid skin cell cells f b)
-    (cells_stand skin width nf sought (bordered ++ composite_pieces skin None (0, 0) false cell) b (inside + inner_columns cell) cells others narrow wide_cell border counted.1 (subst AreShownPieces (sym (others_amid skin cell cells f b)) shown) rest) in
+    (cells_stand skin width nf sought (bordered ++ composite_pieces skin None (cell_margins skin) true cell) b (inside + cell_columns skin cell) cells others narrow wide_cell border counted.1 (subst AreShownPieces (sym (others_amid skin cell cells f b)) shown) rest) in
     subst (λ (m : List Marked). AllByRecursion P (map (further n) m)) (sym are) (both_behind P n first others own_stand rest_stand)
 
 -- the pieces of a row of a table, amid what is in front of it and behind it
@@ -140,12 +140,12 @@ table_amid f l all r b v =
     ∙ sym (append_assoc f l (all ++ (v ∷ r ++ b)))
 
 table_stands : (skin : RowSkin) (width rest nf : ℕ) (sought : List ℕ) (cells : List FmtComposite) (hits : List Marked) (f b row : List RowPiece) → width < 2 ^ 16 → pieces_columns f ≡ nf → pieces_columns (vertical_piece skin ∷ []) ≡ 1 → AllByRecursion (IsCountedCell skin) cells
-    → row ≡ spaces skin.paragraph.compound_style (left_of_place skin.table.align (row_columns cells) (Some rest)) ++ ((flat_map (cell_pieces skin) cells ++ vertical_piece skin ∷ []) ++ spaces skin.paragraph.compound_style (right_of_place skin.table.align (row_columns cells) (Some rest)))
-    → AreShownPieces (f ++ (row ++ b)) → AreTextsHits skin sought (placed_cells skin (left_of_place skin.table.align (row_columns cells) (Some rest)) cells) hits → AllByRecursion (StandsWithin width (f ++ (row ++ b))) (map (further (capped nf)) hits)
+    → row ≡ spaces skin.paragraph.compound_style (left_of_place skin.table.align (row_columns skin cells) (Some rest)) ++ ((flat_map (cell_pieces skin) cells ++ vertical_piece skin ∷ []) ++ spaces skin.paragraph.compound_style (right_of_place skin.table.align (row_columns skin cells) (Some rest)))
+    → AreShownPieces (f ++ (row ++ b)) → AreTextsHits skin sought (placed_cells skin (left_of_place skin.table.align (row_columns skin cells) (Some rest)) cells) hits → AllByRecursion (StandsWithin width (f ++ (row ++ b))) (map (further (capped nf)) hits)
 table_stands skin width rest nf sought cells hits f b row narrow wide border counted is shown are =
-    let left : ℕ = left_of_place skin.table.align (row_columns cells) (Some rest) in
+    let left : ℕ = left_of_place skin.table.align (row_columns skin cells) (Some rest) in
     let l : List RowPiece = spaces skin.paragraph.compound_style left in
-    let right : List RowPiece = spaces skin.paragraph.compound_style (right_of_place skin.table.align (row_columns cells) (Some rest)) in
+    let right : List RowPiece = spaces skin.paragraph.compound_style (right_of_place skin.table.align (row_columns skin cells) (Some rest)) in
     let all : List RowPiece = flat_map (cell_pieces skin) cells in
     let same : f ++ (row ++ b) ≡ (f ++ l) ++ (all ++ (vertical_piece skin ∷ right ++ b)) = ap (λ (ps : List RowPiece). f ++ (ps ++ b)) is ∙ table_amid f l all right b (vertical_piece skin) in
     let wide_left : pieces_columns (f ++ l) ≡ nf + left = let both = columns-both f l in let blank = spaces_columns skin.paragraph.compound_style left in omega (arith, both, wide, blank) in

@@ -1,5 +1,5 @@
 -- Laws of hits: what they change of the rows that they are drawn over.
-use Rattle.std.specs.Prelude.{◌≡◌, ℕ, ◌+◌, ◌^◌, ◌<◌, ◌≤◌, true, false, List, [], ◌∷◌, map, take, drop, Some, None, slice_get}
+use Rattle.std.specs.Prelude.{◌≡◌, ℕ, ◌+◌, ◌^◌, ◌<◌, ◌≤◌, true, List, [], ◌∷◌, map, take, drop, Some, None, slice_get}
 use Rattle.std.specs.List.{AllByRecursion}
 use Rattle.mad_screen.specs.Glyph.{Glyph}
 use Rattle.mad_screen.specs.Painting.{IsWhole, look_of_style}
@@ -12,7 +12,7 @@ use Rattle.mad_format.specs.Indents.{indent}
 use Rattle.mad_format.specs.declared.composite.FmtComposite.{FmtComposite}
 use Rattle.mad_format.specs.declared.line.FmtLine.{FmtLine}
 use Rattle.mad_format.specs.declared.line.FmtLine.TheVariants.{Normal, TableRow}
-use Rattle.mad_rows.specs.Rows.{composite_pieces, inner_columns, prefix_pieces, vertical_piece}
+use Rattle.mad_rows.specs.Rows.{cell_margins, composite_pieces, cell_columns, prefix_pieces, vertical_piece}
 use Rattle.mad_rows.specs.declared.row_skin.RowSkin.{RowSkin}
 use Rattle.mad_hits.specs.Drawn.{marked_columns}
 use Rattle.mad_hits.specs.Hits.{Marked}
@@ -49,10 +49,10 @@ StandsWithin width row hit = hit.column + marked_columns hit ≤ width → IsWho
 abbrev pub HasIndent : RowSkin → FmtComposite → Type 0
 HasIndent skin l = pieces_columns (prefix_pieces skin l.kind) ≡ indent skin.list_items_indentation_mode l.kind
 
--- a cell takes the columns of its place
+-- a cell takes the columns of its place and of its blanks
 pub record IsCountedCell (skin : RowSkin) (cell : FmtComposite) : Type 0 where
   pub indent : HasIndent skin cell
-  pub place : pieces_columns (composite_pieces skin None (0, 0) false cell) ≡ inner_columns cell
+  pub place : pieces_columns (composite_pieces skin None (cell_margins skin) true cell) ≡ cell_columns skin cell
 
 -- The columns of a line are as they are counted: those of its prefix, or in a table those of each cell, and one for a border.
 abbrev pub IsCounted : RowSkin → FmtLine → Type 0

@@ -10,7 +10,7 @@ use Rattle.mad_format.specs.declared.composite.FmtComposite.{FmtComposite}
 use Rattle.mad_format.specs.declared.line.FmtLine.{FmtLine}
 use Rattle.mad_format.specs.declared.line.FmtLine.TheVariants.{Normal, TableRow}
 use Rattle.mad_rows.specs.RowStyles.{line_style}
-use Rattle.mad_rows.specs.Rows.{inner_blanks, inner_columns, left_of_place, margins_of, outer_blanks, row_columns}
+use Rattle.mad_rows.specs.Rows.{cell_margins, inner_blanks, cell_columns, left_of_place, margins_of, outer_blanks, row_columns}
 use Rattle.mad_rows.specs.declared.row_skin.RowSkin.{RowSkin}
 use Rattle.mad_hits.specs.Matches.{compared_chars, AreStarts}
 use Rattle.mad_hits.specs.Styled.{styled_text}
@@ -32,11 +32,11 @@ pub record PlacedText : Type 0 where
 abbrev pub placed_cells : RowSkin → ℕ → List FmtComposite → List PlacedText
 placed_cells skin column [] = []
 placed_cells skin column (cell ∷ cells) =
-    record { column = column + 1 + text_column skin None (0, 0) cell; text = cell } ∷ placed_cells skin (column + 1 + inner_columns cell) cells
+    record { column = column + 1 + text_column skin None (cell_margins skin) cell; text = cell } ∷ placed_cells skin (column + 1 + cell_columns skin cell) cells
 
 -- the cells of a row of `width` columns
 abbrev pub placed_row : RowSkin → ℕ → List FmtComposite → List PlacedText
-placed_row skin width cells = placed_cells skin (left_of_place skin.table.align (row_columns cells) (Some width)) cells
+placed_row skin width cells = placed_cells skin (left_of_place skin.table.align (row_columns skin cells) (Some width)) cells
 
 -- the composites of a line in a row of `width` columns; a rule has none
 abbrev pub placed_texts : RowSkin → ℕ → FmtLine → List PlacedText

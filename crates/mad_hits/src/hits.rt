@@ -12,7 +12,7 @@ use crate::places::{column_in_cell, column_in_row, table_column};
 use crate::styled::styled_text;
 use mad_characters::char_columns;
 use mad_format::{FmtComposite, FmtLine};
-use mad_rows::{RowSkin, inner_columns};
+use mad_rows::{RowSkin, cell_columns};
 use mad_search::has_capital;
 use mad_style::StyledChar;
 use std::alloc::{AllocError, Global};
@@ -96,7 +96,7 @@ fn push_cells_hits(
         let inside = column.saturating_add(1);
         let text = inside.saturating_add(column_in_cell(skin, cell));
         push_hits(alloc, hits, skin, cell, text, sought)?;
-        column = inside.saturating_add(inner_columns(cell));
+        column = inside.saturating_add(cell_columns(skin, cell));
     }
     Ok(())
 }

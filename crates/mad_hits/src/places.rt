@@ -2,14 +2,16 @@
 
 ghost use Rattle.std.specs.Prelude.{◌≡◌, ◌+◌, ℕ, Some, None};
 ghost use Rattle.mad_wrap.specs.WrapLines.{capped};
-ghost use Rattle.mad_rows.specs.Rows.{inner_blanks, left_of_place, margins_of, row_columns};
+ghost use Rattle.mad_rows.specs.Rows.{cell_margins, inner_blanks, left_of_place, margins_of, row_columns};
 ghost use Rattle.mad_format.specs.Indents.{indent};
 ghost use Rattle.mad_hits.specs.Hits.{text_column};
 
 use mad_format::{FmtComposite, indent_of};
 use mad_md::Alignment;
 use mad_measure::Spacing;
-use mad_rows::{RowPlace, RowSkin, inner_blanks, margins_of, outer_blanks, row_columns};
+use mad_rows::{
+    RowPlace, RowSkin, cell_margins, inner_blanks, margins_of, outer_blanks, row_columns,
+};
 
 /// The column in which the text of a line begins in a row of `width` columns, after its blanks and its prefix.
 pub(crate) fn column_in_row(skin: &RowSkin, composite: &FmtComposite, width: usize) -> usize
@@ -27,11 +29,11 @@ pub(crate) fn column_in_row(skin: &RowSkin, composite: &FmtComposite, width: usi
 
 /// The column in which the text of a cell begins, after its border.
 pub(crate) fn column_in_cell(skin: &RowSkin, cell: &FmtComposite) -> usize
-    ensures { result ≡ capped (text_column skin.now None (0, 0) cell.now) }
+    ensures { result ≡ capped (text_column skin.now None (cell_margins skin.now) cell.now) }
 {
     let place = RowPlace {
         outer: None,
-        margins: (0, 0),
+        margins: cell_margins(skin),
         filled: false,
     };
     let align = skin.line_style(cell.kind).align;
@@ -41,9 +43,9 @@ pub(crate) fn column_in_cell(skin: &RowSkin, cell: &FmtComposite) -> usize
 
 /// The column of the first border of a row of cells, in a row of `width` columns.
 pub(crate) fn table_column(skin: &RowSkin, cells: &[FmtComposite], width: usize) -> usize
-    ensures { result ≡ left_of_place skin.now.table.align (row_columns cells.now) (Some width) }
+    ensures { result ≡ left_of_place skin.now.table.align (row_columns skin.now cells.now) (Some width) }
 {
-    left_blank(skin.table.align, row_columns(cells), Some(width))
+    left_blank(skin.table.align, row_columns(skin, cells), Some(width))
 }
 
 // The columns before the text of a composite in its own place: blanks, and its prefix.

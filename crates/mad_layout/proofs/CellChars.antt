@@ -17,11 +17,12 @@ use Rattle.mad_draw.specs.TableRules.{border_piece, horizontals, junction, rule_
 use Rattle.mad_draw.specs.declared.table_rules.RuleChars.{RuleChars}
 use Rattle.mad_layout.specs.Drawable.{AreShownChars}
 use Rattle.mad_layout.specs.FlaggedLines.{skin_char, front_of}
-use Rattle.mad_layout.specs.FlaggedTables.{row_in_column, CellInColumn, first_row, first_rows, rows_down, rule_row, table_across, rule_across}
+use Rattle.mad_layout.specs.FlaggedTables.{cell_blank, row_in_column, CellInColumn, first_row, first_rows, rows_down, rule_row, table_across, rule_across}
 use Rattle.mad_format.specs.FmtLines.{bordered, rule_columns}
-use Rattle.mad_rows.specs.Rows.{prefix_pieces, compound_piece, composite_pieces, cell_pieces, vertical_piece, placed_pieces, row_columns, rule_chars, left_of_place, right_of_place, align_in, place_of, inner_blanks}
+use Rattle.mad_format.specs.LineRules.{beside_cell}
+use Rattle.mad_rows.specs.Rows.{cell_margins, prefix_pieces, compound_piece, composite_pieces, cell_pieces, vertical_piece, placed_pieces, row_columns, rule_chars, left_of_place, right_of_place, align_in, place_of, inner_blanks}
 use Rattle.mad_rows.specs.RowStyles.{line_rules, line_style}
-use Rattle.mad_blocks.specs.Tables.{in_column, IsBlankIn, IsTop, IsLineAcross, AreDown, below}
+use Rattle.mad_blocks.specs.Tables.{with_blanks, in_column, IsBlankIn, IsTop, IsLineAcross, AreDown, below}
 use Rattle.mad_format.specs.Wraps.{text_of, columns_of}
 use Rattle.mad_rows.specs.declared.row_skin.RowSkin.{RowSkin}
 use Rattle.mad_format.specs.declared.composite.FmtComposite.{FmtComposite}
@@ -54,6 +55,30 @@ between_blanks skin l prefix =
     let e1 : chars_in tail1 ≡ front_of skin l.kind ++ (text ++ replicate (inner_blanks l).1 32) =
     both (prefix_pieces skin l.kind) tail2 ∙ ap (λ x. x ++ chars_in tail2) (front_chars skin l.kind prefix) ∙ ap (λ x. front_of skin l.kind ++ x) e2 in
     both (spaces own (inner_blanks l).0) tail1 ∙ ap (λ x. x ++ chars_in tail1) (spaces_chars own (inner_blanks l).0) ∙ ap (λ x. replicate (inner_blanks l).0 32 ++ x) e1
+
+-- blanks at the end of four parts
+at_end : (a b c d s : List RowPiece) → a ++ (b ++ (c ++ (d ++ s))) ≡ (a ++ (b ++ (c ++ (d ++ [])))) ++ s
+at_end a b c d s =
+    sym
+    (ap (λ (x : List RowPiece). (a ++ (b ++ (c ++ x))) ++ s) (append-nil d) ∙ append_assoc a (b ++ (c ++ d)) s
+    ∙ ap (λ (x : List RowPiece). a ++ x) (append_assoc b (c ++ d) s ∙ ap (λ (x : List RowPiece). b ++ x) (append_assoc c d s)))
+
+-- what is written of a cell between its blanks
+beside_blanks : (skin : RowSkin) (x : FmtComposite) → chars_in (composite_pieces skin None (cell_margins skin) true x) ≡ cell_blank skin ++ (cell_chars skin x ++ cell_blank skin)
+beside_blanks skin x =
+    let style : LineStyle = line_style skin x.kind in
+    let n : ℕ = 0 + beside_cell skin.cell_blanks in
+    let same : n ≡ beside_cell skin.cell_blanks = omega arith in
+    let beside : List RowPiece = spaces skin.paragraph.compound_style n in
+    let before : List RowPiece = spaces style.compound_style (inner_blanks x).0 in
+    let prefix : List RowPiece = prefix_pieces skin x.kind in
+    let text : List RowPiece = map (compound_piece skin style) x.compounds.items in
+    let after : List RowPiece = spaces style.compound_style (inner_blanks x).1 in
+    let own : List RowPiece = before ++ (prefix ++ (text ++ (after ++ []))) in
+    let blank : chars_in beside ≡ cell_blank skin = spaces_chars skin.paragraph.compound_style n ∙ ap (λ k. replicate k 32) same in
+    let ends : chars_in (before ++ (prefix ++ (text ++ (after ++ beside)))) ≡ cell_chars skin x ++ cell_blank skin =
+    ap chars_in (at_end before prefix text after beside) ∙ both own beside ∙ ap (λ t. chars_in own ++ t) blank in
+    both beside (before ++ (prefix ++ (text ++ (after ++ beside)))) ∙ ap (λ t. t ++ chars_in (before ++ (prefix ++ (text ++ (after ++ beside))))) blank ∙ ap (λ t. cell_blank skin ++ t) ends
 
 -- a line of a cell is a row in its column
 pub column_chars : (skin : RowSkin) (c : Spacing) (l : FmtComposite) → IsSoundPrefix skin l.kind → l.visible_length ≡ columns_of (line_rules skin) l → cell_chars skin (in_column c l) ≡ row_in_column skin c l.kind (text_of l)
@@ -103,7 +128,7 @@ across_chars skin (c ∷ cs) (ls ∷ lines) (x ∷ xs) across =
     let rest : List CellInColumn = placed_lines skin cs lines in
     ap chars_in (append_assoc (cell_pieces skin x) (flat_map (cell_pieces skin) xs) last)
     ∙ both (cell_pieces skin x) (flat_map (cell_pieces skin) xs ++ last)
-    ∙ ap (λ t. t ++ chars_in (flat_map (cell_pieces skin) xs ++ last)) (first_piece (vertical_piece skin) (composite_pieces skin None (0, 0) false x) ∙ ap (λ t. border ++ t) (top_chars skin c ls x across.0))
+    ∙ ap (λ t. t ++ chars_in (flat_map (cell_pieces skin) xs ++ last)) (first_piece (vertical_piece skin) (composite_pieces skin None (cell_margins skin) true x) ∙ ap (λ t. border ++ t) (beside_blanks skin x ∙ ap (λ t. cell_blank skin ++ (t ++ cell_blank skin)) (top_chars skin c ls x across.0)))
     ∙ ap (λ t. first_row skin cell ++ t) (across_chars skin cs lines xs across.1)
     ∙ sym (append_assoc (first_row skin cell) (flat_map (first_row skin) rest) border)
 across_chars skin _ _ _ across = absurd across
@@ -125,14 +150,14 @@ placed_chars skin drawn columns ps =
 
 -- the lines of a row of a table have the characters of its cells' rows across the columns
 pub down_chars : (skin : RowSkin) (drawn : ℕ) (cs : List Spacing) (lines : List (List FmtComposite)) (rows : List FmtTableRow) → AreDown cs lines rows
-    → map (line_chars skin drawn) (map TableRow rows) ≡ map (table_across skin drawn (1 + bordered (widths_of cs))) (rows_down skin (length rows) (placed_lines skin cs lines))
+    → map (line_chars skin drawn) (map TableRow rows) ≡ map (table_across skin drawn (1 + bordered (with_blanks skin.cell_blanks (widths_of cs)))) (rows_down skin (length rows) (placed_lines skin cs lines))
 down_chars skin drawn cs lines [] down = refl
 down_chars skin drawn cs lines (row ∷ rows) down =
     let pieces : List RowPiece = flat_map (cell_pieces skin) row.cells.items ++ vertical_piece skin ∷ [] in
-    let columns : ℕ = 1 + bordered (widths_of cs) in
+    let columns : ℕ = 1 + bordered (with_blanks skin.cell_blanks (widths_of cs)) in
     let across : ℕ → List ℕ → List ℕ = table_across skin drawn in
     let first : line_chars skin drawn (TableRow row) ≡ across columns (first_rows skin (placed_lines skin cs lines)) =
-    placed_chars skin drawn (row_columns row.cells.items) pieces ∙ ap (λ n. across n (chars_in pieces)) (across_columns cs lines row.cells.items down.0) ∙ ap (across columns) (across_chars skin cs lines row.cells.items down.0) in
+    placed_chars skin drawn (row_columns skin row.cells.items) pieces ∙ ap (λ n. across n (chars_in pieces)) (across_columns skin cs lines row.cells.items down.0) ∙ ap (across columns) (across_chars skin cs lines row.cells.items down.0) in
     let rest = down_chars skin drawn cs (map below lines) rows down.1 ∙ ap (λ cells. map (across columns) (rows_down skin (length rows) cells)) (below_placed skin cs lines) in
     ap (λ (t : List ℕ). t ∷ map (line_chars skin drawn) (map TableRow rows)) first ∙ ap (λ ts. across columns (first_rows skin (placed_lines skin cs lines)) ∷ ts) rest
 
@@ -162,10 +187,11 @@ rule_pieces_chars skin b (w ∷ ws) shown =
     ∙ ap (λ t. skin_char b.left ++ t) (both (horizontals style b w) rest ∙ ap (λ t. t ++ chars_in rest) (across w) ∙ ap (λ t. repeat w (skin_char b.horizontal) ++ t) (junctions_chars style b ws across))
 
 -- the line of a rule has the characters of the rule across its columns
-pub rule_line_chars : (skin : RowSkin) (drawn : ℕ) (position : RelativePosition) (ws : List ℕ) (rule : FmtTableRule) → AreShownChars skin (rule_chars skin.table_border_chars position) → rule.position ≡ position → rule.widths.items ≡ ws
+pub rule_line_chars : (skin : RowSkin) (drawn : ℕ) (position : RelativePosition) (ws : List ℕ) (rule : FmtTableRule) → AreShownChars skin (rule_chars skin.table_border_chars position) → rule.position ≡ position → rule.widths.items ≡ with_blanks skin.cell_blanks ws
     → line_chars skin drawn (TableRule rule) ≡ rule_across skin drawn position ws
 rule_line_chars skin drawn position ws rule shown place widths =
     let pieces : RelativePosition → List ℕ → List RowPiece = λ p vs. rule_pieces skin.table.compound_style (rule_chars skin.table_border_chars p) vs in
+    let all : List ℕ = with_blanks skin.cell_blanks ws in
     ap (λ p. chars_in (placed_pieces skin (Some drawn) true (rule_columns rule.widths.items) (pieces p rule.widths.items))) place
     ∙ ap (λ vs. chars_in (placed_pieces skin (Some drawn) true (rule_columns vs) (pieces position vs))) widths
-    ∙ placed_chars skin drawn (rule_columns ws) (pieces position ws) ∙ ap (table_across skin drawn (rule_columns ws)) (rule_pieces_chars skin (rule_chars skin.table_border_chars position) ws shown)
+    ∙ placed_chars skin drawn (rule_columns all) (pieces position all) ∙ ap (table_across skin drawn (rule_columns all)) (rule_pieces_chars skin (rule_chars skin.table_border_chars position) all shown)

@@ -28,7 +28,7 @@ use Rattle.mad_format.specs.FmtLines.{bordered, rule_columns, AreCompositesRead,
 use Rattle.mad_layout.specs.Premises.{runs_text, AreBordersShown}
 use Rattle.mad_rows.specs.Rows.{compound_piece, inner_columns, prefix_pieces, place_of, row_columns, rule_chars}
 use Rattle.mad_rows.specs.RowStyles.{line_rules, line_style}
-use Rattle.mad_blocks.specs.Tables.{AreKeptWidths, in_column, IsBlankIn, columns_with, centered, columns_from, columns_count, columns_in, position_at, IsTop, IsLineAcross, AreDown, below, IsCellLaidOut, AreCellsLaidOut, IsRuleLaidOut, IsTableLineBy, AreTableLinesBy, IsTableLaidOutBy}
+use Rattle.mad_blocks.specs.Tables.{AreSetWidths, rule_width, with_blanks, in_column, IsBlankIn, columns_with, centered, columns_from, columns_count, columns_in, position_at, IsTop, IsLineAcross, AreDown, below, IsCellLaidOut, AreCellsLaidOut, IsRuleLaidOut, IsTableLineBy, AreTableLinesBy, IsTableLaidOutBy}
 use Rattle.mad_layout.specs.TableColumns.{kept_widths}
 use Rattle.mad_blocks.specs.TextParts.{LineInPart, aligns_at, lines_in}
 use Rattle.mad_format.specs.Wraps.{text_of, columns_of, IsMeasured}
@@ -43,6 +43,7 @@ use Rattle.mad_layout.proofs.DrawnParts.{each_of, pieces_shown, runs_are, some_j
 use Rattle.mad_layout.proofs.PrefixLemmas.{prefix_shown, prefix_columns, follow_up_printable}
 use Rattle.mad_blocks.proofs.PartRuns.{AllTableLines}
 use Rattle.mad_blocks.proofs.TableLemmas.{top_spacing}
+use Rattle.mad_blocks.proofs.TableWidths.{blanked_first, blanked_least, blanked_none, rule_widths}
 use Rattle.mad_layout.proofs.KeptWidths.{AreTableRead, widths_kept}
 use Rattle.mad_layout.proofs.ReadParts.{table_raw}
 use Rattle.mad_layout.proofs.ColumnChars.{column_border, column_rule}
@@ -149,14 +150,15 @@ across_fill skin [] [] [] h across = tt
 across_fill skin (c ∷ cs) (ls ∷ lines) (x ∷ xs) h across = (top_fills skin c ls x h.0 across.0, across_fill skin cs lines xs h.1 across.1)
 across_fill skin _ _ _ h across = absurd across
 
--- a row across columns takes their widths and its borders
-pub across_columns : (cs : List Spacing) (lines : List (List FmtComposite)) (xs : List FmtComposite) → IsLineAcross cs lines xs → row_columns xs ≡ 1 + bordered (widths_of cs)
-across_columns [] [] [] across = refl
-across_columns (c ∷ cs) (ls ∷ lines) (x ∷ xs) across =
-    let rest : row_columns xs ≡ 1 + bordered (widths_of cs) = across_columns cs lines xs across.1 in
+-- a row across columns takes their widths, its blanks and its borders
+pub across_columns : (skin : RowSkin) (cs : List Spacing) (lines : List (List FmtComposite)) (xs : List FmtComposite) → IsLineAcross cs lines xs → row_columns skin xs ≡ 1 + bordered (with_blanks skin.cell_blanks (widths_of cs))
+across_columns skin [] [] [] across = let none = blanked_none skin.cell_blanks in omega (arith, none)
+across_columns skin (c ∷ cs) (ls ∷ lines) (x ∷ xs) across =
+    let rest : row_columns skin xs ≡ 1 + bordered (with_blanks skin.cell_blanks (widths_of cs)) = across_columns skin cs lines xs across.1 in
     let own : inner_columns x ≡ c.width = ap (λ s. unwrap_or (place_of s) x.visible_length) (top_spacing c ls x across.0) in
-    omega (arith, rest, own)
-across_columns _ _ _ across = absurd across
+    let first = blanked_first skin.cell_blanks c.width (widths_of cs) in
+    omega (arith, rest, own, first)
+across_columns skin _ _ _ across = absurd across
 
 below_fill : (skin : RowSkin) (cs : List Spacing) (lines : List (List FmtComposite)) → FillColumns skin cs lines → FillColumns skin cs (map below lines)
 below_fill skin [] lines h = tt
@@ -164,12 +166,12 @@ below_fill skin (c ∷ cs) [] h = tt
 below_fill skin (c ∷ cs) ([] ∷ lines) h = (tt, below_fill skin cs lines h.1)
 below_fill skin (c ∷ cs) ((l ∷ ls) ∷ lines) h = (h.0.1, below_fill skin cs lines h.1)
 
-rows_drawable : (skin : RowSkin) (drawn : ℕ) (cs : List Spacing) (lines : List (List FmtComposite)) (rows : List FmtTableRow) → 1 + bordered (widths_of cs) ≤ drawn → AreBordersShown skin
+rows_drawable : (skin : RowSkin) (drawn : ℕ) (cs : List Spacing) (lines : List (List FmtComposite)) (rows : List FmtTableRow) → 1 + bordered (with_blanks skin.cell_blanks (widths_of cs)) ≤ drawn → AreBordersShown skin
     → FillColumns skin cs lines → AreDown cs lines rows → AreDrawable skin drawn (map TableRow rows)
 rows_drawable skin drawn cs lines [] fit borders h down = tt
 rows_drawable skin drawn cs lines (row ∷ rows) fit borders h down = (
   record {
-    fits = let columns_are : row_columns row.cells.items ≡ 1 + bordered (widths_of cs) = across_columns cs lines row.cells.items down.0 in omega (arith, columns_are, fit);
+    fits = let columns_are : row_columns skin row.cells.items ≡ 1 + bordered (with_blanks skin.cell_blanks (widths_of cs)) = across_columns skin cs lines row.cells.items down.0 in omega (arith, columns_are, fit);
     each = across_fill skin cs lines row.cells.items h down.0;
     border = column_border skin.table.compound_style skin.table_border_chars.vertical borders.vertical;
   },
@@ -178,24 +180,32 @@ rows_drawable skin drawn cs lines (row ∷ rows) fit borders h down = (
 
 -- ---- a rule
 
+widths_mapped : (b : Bool) (cs : List Spacing) → map (λ (c : Spacing). rule_width b c.width) cs ≡ map (rule_width b) (widths_of cs)
+widths_mapped b [] = refl
+widths_mapped b (c ∷ cs) = ap (λ (ws : List ℕ). rule_width b c.width ∷ ws) (widths_mapped b cs)
+
+-- a rule across columns that fit is as wide as these with their blanks
+pub rule_across_columns : (b : Bool) (drawn : ℕ) (cs : List Spacing) → drawn < 2 ^ 64 - 1 → 1 + bordered (with_blanks b (widths_of cs)) ≤ drawn → map (λ (c : Spacing). rule_width b c.width) cs ≡ with_blanks b (widths_of cs)
+rule_across_columns b drawn cs bound fit = widths_mapped b cs ∙ rule_widths b (widths_of cs) (omega (arith, bound, fit))
+
 rule_fits : (ws : List ℕ) (drawn : ℕ) → 2 ≤ drawn → 1 + bordered ws ≤ drawn → rule_columns ws ≤ drawn
 rule_fits [] drawn two fit = two
 rule_fits (w ∷ ws) drawn two fit = fit
 
-rule_drawable : (skin : RowSkin) (drawn : ℕ) (position : RelativePosition) (cs : List Spacing) (rule : FmtTableRule) → 2 ≤ drawn → 1 + bordered (widths_of cs) ≤ drawn
-    → AreBordersShown skin → IsRuleLaidOut position cs rule → IsDrawableRule skin drawn rule
-rule_drawable skin drawn position cs rule two fit borders h = record {
-  fits = subst (λ ws. rule_columns ws ≤ drawn) (sym h.widths_are) (rule_fits (widths_of cs) drawn two fit);
+rule_drawable : (skin : RowSkin) (drawn : ℕ) (position : RelativePosition) (cs : List Spacing) (rule : FmtTableRule) → 2 ≤ drawn → drawn < 2 ^ 64 - 1 → 1 + bordered (with_blanks skin.cell_blanks (widths_of cs)) ≤ drawn
+    → AreBordersShown skin → IsRuleLaidOut skin.cell_blanks position cs rule → IsDrawableRule skin drawn rule
+rule_drawable skin drawn position cs rule two bound fit borders h = record {
+  fits = subst (λ ws. rule_columns ws ≤ drawn) (sym (h.widths_are ∙ rule_across_columns skin.cell_blanks drawn cs bound fit)) (rule_fits (with_blanks skin.cell_blanks (widths_of cs)) drawn two fit);
   chars = column_rule skin (rule_chars skin.table_border_chars rule.position) (borders.rules rule.position);
 }
 
 -- ---- a line of a table
 
--- the columns of a table have these widths, and fit
-record FitColumns (drawn : ℕ) (ws : List ℕ) (cs : List Spacing) : Type 0 where
+-- the columns of a table have these widths, and fit with their blanks
+record FitColumns (b : Bool) (drawn : ℕ) (ws : List ℕ) (cs : List Spacing) : Type 0 where
   two : 2 ≤ drawn
   bound : drawn < 2 ^ 64 - 1
-  fit : 1 + bordered ws ≤ drawn
+  fit : 1 + bordered (with_blanks b ws) ≤ drawn
   are : widths_of cs ≡ ws
 
 -- columns that were given widths have these
@@ -213,8 +223,8 @@ from-widths : (ws : List ℕ) (cs : List Spacing) (l : FmtLine) → widths_of cs
 from-widths ws cs (TableRule rule) h = columns_with-widths ws rule.aligns.items
 from-widths ws cs _ h = h
 
-fit_from : (drawn : ℕ) (ws : List ℕ) (cs : List Spacing) (l : FmtLine) → FitColumns drawn ws cs → FitColumns drawn ws (columns_from ws cs l)
-fit_from drawn ws cs l h = record { two = h.two; bound = h.bound; fit = h.fit; are = from-widths ws cs l h.are }
+fit_from : (b : Bool) (drawn : ℕ) (ws : List ℕ) (cs : List Spacing) (l : FmtLine) → FitColumns b drawn ws cs → FitColumns b drawn ws (columns_from ws cs l)
+fit_from b drawn ws cs l h = record { two = h.two; bound = h.bound; fit = h.fit; are = from-widths ws cs l h.are }
 
 -- the columns of a table that fits can be counted
 pub widths_small : (drawn : ℕ) (cs : List Spacing) → drawn < 2 ^ 64 - 1 → 1 + bordered (widths_of cs) ≤ drawn → AllByRecursion (λ c. c.width < 2 ^ 64 - 1) cs
@@ -226,17 +236,18 @@ pub map_some : (rows : List FmtTableRow) → 0 < length rows → 0 < length (map
 map_some [] h = absurd (omega (arith, h))
 map_some (row ∷ rows) h = omega arith
 
-table_line_drawable : (skin : RowSkin) (drawn : ℕ) (ws : List ℕ) (cs : List Spacing) (position : RelativePosition) (l : FmtLine) (own : List FmtLine) → FitColumns drawn ws cs
+table_line_drawable : (skin : RowSkin) (drawn : ℕ) (ws : List ℕ) (cs : List Spacing) (position : RelativePosition) (l : FmtLine) (own : List FmtLine) → FitColumns skin.cell_blanks drawn ws cs
     → AreBordersShown skin → IsSoundTableLine skin ws l → IsTableLineBy IsFittingWrap (line_rules skin) cs position l own → (0 < length own) × AreDrawable skin drawn own
 table_line_drawable skin drawn ws cs position (TableRow row) own fit borders printable (rows, is, laid) =
-    let inside : 1 + bordered (widths_of cs) ≤ drawn = subst (λ vs. 1 + bordered vs ≤ drawn) (sym fit.are) fit.fit in
+    let inside : 1 + bordered (with_blanks skin.cell_blanks (widths_of cs)) ≤ drawn = subst (λ vs. 1 + bordered (with_blanks skin.cell_blanks vs) ≤ drawn) (sym fit.are) fit.fit in
+    let without : 1 + bordered (widths_of cs) ≤ drawn = let least = blanked_least skin.cell_blanks (widths_of cs) in omega (arith, inside, least) in
     let cells : AreSoundCells skin (widths_of cs) row.cells.items = subst (λ vs. AreSoundCells skin vs row.cells.items) (sym fit.are) printable in
-    let fill : FillColumns skin cs laid.lines = cells_fill skin cs row.cells.items laid.lines (widths_small drawn cs fit.bound inside) cells laid.laid_out in
+    let fill : FillColumns skin cs laid.lines = cells_fill skin cs row.cells.items laid.lines (widths_small drawn cs fit.bound without) cells laid.laid_out in
     let count : length rows ≡ max _ 1 = laid.count in
     subst (λ (ls : List FmtLine). (0 < length ls) × AreDrawable skin drawn ls) (sym is) (map_some rows (omega (arith, count)), rows_drawable skin drawn cs laid.lines rows inside borders fill laid.rows_are)
 table_line_drawable skin drawn ws cs position (TableRule source) own fit borders printable (rule, is, laid) =
     subst (λ (ls : List FmtLine). (0 < length ls) × AreDrawable skin drawn ls) (sym is)
-    (omega arith, (rule_drawable skin drawn position cs rule fit.two (subst (λ vs. 1 + bordered vs ≤ drawn) (sym fit.are) fit.fit) borders laid, tt))
+    (omega arith, (rule_drawable skin drawn position cs rule fit.two fit.bound (subst (λ vs. 1 + bordered (with_blanks skin.cell_blanks vs) ≤ drawn) (sym fit.are) fit.fit) borders laid, tt))
 table_line_drawable skin drawn ws cs position _ own fit borders printable _ = absurd printable
 
 -- ---- lines without columns
@@ -291,7 +302,7 @@ content_printable skin width part ws _ _ columns printable read is = absurd read
 abbrev pub Later : RowSkin → ℕ → ℕ → List LineInPart → List FmtLine → Type 0
 Later skin width drawn xs others = (m : ℕ) → AreSoundLines skin width (take m xs) → AreDrawable skin drawn (take m others)
 
-laid_drawable : (skin : RowSkin) (width drawn n : ℕ) (part : List LineContent) (above : Option (List Alignment)) (text : List LineContent) (xs : List LineInPart) (ws : List ℕ) (cs : List Spacing) (first : Bool) (table own others : List FmtLine) → 1 + bordered ws ≤ width → width ≤ drawn → drawn < 2 ^ 64 - 1
+laid_drawable : (skin : RowSkin) (width drawn n : ℕ) (part : List LineContent) (above : Option (List Alignment)) (text : List LineContent) (xs : List LineInPart) (ws : List ℕ) (cs : List Spacing) (first : Bool) (table own others : List FmtLine) → 1 + bordered (with_blanks skin.cell_blanks ws) ≤ width → width ≤ drawn → drawn < 2 ^ 64 - 1
     → widths_of cs ≡ ws → ArePartColumns skin width part ws → Later skin width drawn xs others → AreSoundLines skin width (take n (lines_in part above first text ++ xs)) → AreRead (line_rules skin) text table → AllTableLines table
     → AreTableLinesBy IsFittingWrap (line_rules skin) ws cs first table own → AreDrawable skin drawn (take n (own ++ others))
 laid_drawable skin width drawn zero part above text xs ws cs first table own others fit narrower bound are columns later keeps reads lines laid = tt
@@ -300,8 +311,8 @@ laid_drawable skin width drawn (suc n) part above [] xs ws cs first [] own other
 laid_drawable skin width drawn (suc n) part above (c ∷ text) xs ws cs first (l ∷ ls) own others fit narrower bound are columns later keeps reads lines (front, more, joins, here, below_it) =
     let content : TableContent skin width ws l = content_printable skin width part ws c l columns keeps.0 reads.0 lines.0 in
     let two : 2 ≤ width = content.two in
-    let columns_fit : FitColumns drawn ws cs = record { two = omega (arith, two, narrower); bound = bound; fit = omega (arith, fit, narrower); are = are } in
-    let one = table_line_drawable skin drawn ws (columns_from ws cs l) (position_at first (length ls == 0)) l front (fit_from drawn ws cs l columns_fit) content.borders content.printable here in
+    let columns_fit : FitColumns skin.cell_blanks drawn ws cs = record { two = omega (arith, two, narrower); bound = bound; fit = omega (arith, fit, narrower); are = are } in
+    let one = table_line_drawable skin drawn ws (columns_from ws cs l) (position_at first (length ls == 0)) l front (fit_from skin.cell_blanks drawn ws cs l columns_fit) content.borders content.printable here in
     subst (λ (xs : List FmtLine). AreDrawable skin drawn (take (suc n) xs)) (sym (ap (λ xs. xs ++ others) joins ∙ append_assoc front more others))
     (some_joined skin drawn front (more ++ others) n one.0 one.1
     (laid_drawable skin width drawn n part (aligns_at above c) text xs ws (columns_from ws cs l) false ls more others fit narrower bound (from-widths ws cs l are) columns later keeps.1 reads.1 lines.1 below_it))
@@ -329,16 +340,16 @@ table_drawable skin width drawn n c text xs l ls own others narrower bound later
     let two : 2 ≤ width = content.two in
     absurd (omega (arith, none, two))
 table_drawable skin width drawn n c text xs l ls own others narrower bound later keeps reads lines (inr (some, place, (ws, kept, laid))) =
-    let fit : 1 + bordered ws ≤ width = let inside : bordered ws + 1 ≤ width = kept.fit in omega (arith, inside) in
+    let fit : 1 + bordered (with_blanks skin.cell_blanks ws) ≤ width = let inside : bordered (with_blanks skin.cell_blanks ws) + 1 ≤ width = kept.fit in omega (arith, inside) in
     laid_drawable skin width drawn (suc n) (c ∷ text) None (c ∷ text) xs ws (centered ws) true (l ∷ ls) own others fit narrower bound (centered-widths ws) (kept_columns skin width (c ∷ text) ws (widths_kept skin width (c ∷ text) (l ∷ ls) ws reads kept)) later keeps (table_raw skin (c ∷ text) (l ∷ ls) reads) lines laid
 
 -- ---- a table by itself
 
-alone_drawable : (skin : RowSkin) (drawn : ℕ) (ws : List ℕ) (cs : List Spacing) (first : Bool) (table own : List FmtLine) → FitColumns drawn ws cs → AreBordersShown skin
+alone_drawable : (skin : RowSkin) (drawn : ℕ) (ws : List ℕ) (cs : List Spacing) (first : Bool) (table own : List FmtLine) → FitColumns skin.cell_blanks drawn ws cs → AreBordersShown skin
     → AllByRecursion (IsSoundTableLine skin ws) table → AreTableLinesBy IsFittingWrap (line_rules skin) ws cs first table own → AreDrawable skin drawn own
 alone_drawable skin drawn ws cs first [] own fit borders printable laid = subst (AreDrawable skin drawn) (sym laid) tt
 alone_drawable skin drawn ws cs first (l ∷ ls) own fit borders printable (front, more, joins, here, below_it) =
-    let below_fit : FitColumns drawn ws (columns_from ws cs l) = fit_from drawn ws cs l fit in
+    let below_fit : FitColumns skin.cell_blanks drawn ws (columns_from ws cs l) = fit_from skin.cell_blanks drawn ws cs l fit in
     let one = table_line_drawable skin drawn ws (columns_from ws cs l) (position_at first (length ls == 0)) l front below_fit borders printable.0 here in
     subst (AreDrawable skin drawn) (sym joins) (all_joined (IsDrawableLine skin drawn) front more one.1 (alone_drawable skin drawn ws (columns_from ws cs l) false ls more below_fit borders printable.1 below_it))
 
@@ -349,11 +360,11 @@ bare_alone skin drawn (l ∷ ls) two borders none printable =
 
 -- A table's lines fit where its columns do with their borders.
 pub tables_fitting : (skin : RowSkin) (width drawn : ℕ) (table lines : List FmtLine) → 2 ≤ width → width ≤ drawn → drawn < 2 ^ 64 - 1 → AreBordersShown skin
-    → AllByRecursion (IsPrintableTableLine skin []) table → ((ws : List ℕ) → AreKeptWidths skin.whole_words (columns_count table) width table ws → AllByRecursion (IsPrintableTableLine skin ws) table)
+    → AllByRecursion (IsPrintableTableLine skin []) table → ((ws : List ℕ) → AreSetWidths skin.whole_words skin.cell_blanks (columns_count table) width table ws → AllByRecursion (IsPrintableTableLine skin ws) table)
     → IsTableLaidOutBy IsFittingWrap (line_rules skin) (columns_count table) width table lines → AreDrawable skin drawn lines
 tables_fitting skin width drawn table lines two narrower bound borders bare printable (inl (inl none, stays)) =
     subst (AreDrawable skin drawn) (sym stays) (bare_alone skin drawn table (omega (arith, two, narrower)) borders none (sound_table skin [] table bare))
 tables_fitting skin width drawn table lines two narrower bound borders bare printable (inl (inr none, stays)) = absurd (omega (arith, none, two))
 tables_fitting skin width drawn table lines two narrower bound borders bare printable (inr (some, place, (ws, kept, laid))) =
-    let inside : bordered ws + 1 ≤ width = kept.fit in
+    let inside : bordered (with_blanks skin.cell_blanks ws) + 1 ≤ width = kept.fit in
     alone_drawable skin drawn ws (centered ws) true table lines (record { two = omega (arith, two, narrower); bound = bound; fit = omega (arith, inside, narrower); are = centered-widths ws }) borders (sound_table skin ws table (printable ws kept)) laid

@@ -1,5 +1,5 @@
 -- The kept widths of a table are those that its text says.
-use Rattle.std.proofs.Common.{◌≡◌, ℕ, ◌+◌, ◌-◌, ◌*◌, ◌/◌, ◌<◌, ◌≤◌, Bool, true, false, List, [], ◌∷◌, map, length, replicate, if◌then◌else◌, nat_le, refl, ap, ap₂, sym, ◌∙◌, arith}
+use Rattle.std.proofs.Common.{◌≡◌, ℕ, ◌+◌, ◌-◌, ◌*◌, ◌/◌, ◌<◌, ◌≤◌, Bool, true, false, List, [], ◌∷◌, map, length, replicate, if◌then◌else◌, nat_le, refl, ap, ap₂, sym, ◌∙◌, subst, arith}
 use Rattle.std.proofs.lemmas.Bool.Decides.{nat_tests}
 use Rattle.mad_md.specs.Flagged.{FlaggedChar}
 use Rattle.mad_md.specs.Lines.{StyledRuns, LineContent, normal, table_row, table_rule, horizontal_rule}
@@ -14,7 +14,8 @@ use Rattle.mad_layout.specs.TableColumns.{measure_among, measures_among, cells_a
 use Rattle.mad_format.specs.Indents.{indent}
 use Rattle.mad_format.specs.FmtLines.{AreCompositesRead, IsCompositeRead, IsLineRead, is_table_line}
 use Rattle.mad_layout.specs.Premises.{runs_text}
-use Rattle.mad_blocks.specs.Tables.{rows_among, first_columns, measure_of, lengths_in, words_in, widths_by, AreKeptWidths, columns_count, columns_in}
+use Rattle.mad_blocks.proofs.TableWidths.{room_left}
+use Rattle.mad_blocks.specs.Tables.{rows_among, first_columns, measure_of, lengths_in, words_in, widths_by, least_room, most_columns, without_blanks, AreSetWidths, columns_count, columns_in}
 use Rattle.mad_format.specs.Wraps.{text_of}
 use Rattle.mad_rows.specs.declared.row_skin.RowSkin.{RowSkin}
 use Rattle.mad_format.specs.declared.composite.FmtComposite.{FmtComposite}
@@ -97,14 +98,16 @@ cells_read b skin (horizontal_rule ∷ cs) (HorizontalRule ∷ ls) h = cells_rea
 cells_read b skin _ _ h = absurd h
 
 -- the kept widths of what was read of a table are those that its text says
-pub widths_kept : (skin : RowSkin) (width : ℕ) (cs : List LineContent) (ls : List FmtLine) (ws : List ℕ) → AreTableRead skin cs ls → AreKeptWidths skin.whole_words (columns_count ls) width ls ws → ws ≡ kept_widths skin width cs
-widths_kept skin width cs ls ws reads kept =
+pub widths_kept : (skin : RowSkin) (width : ℕ) (cs : List LineContent) (ls : List FmtLine) (ws : List ℕ) → AreTableRead skin cs ls → AreSetWidths skin.whole_words skin.cell_blanks (columns_count ls) width ls ws → ws ≡ kept_widths skin width cs
+widths_kept skin width cs ls ws reads set =
+    let b : Bool = skin.cell_blanks in
     let n : ℕ = columns_among cs in
     let count : columns_count ls ≡ n = count_read skin cs ls reads in
-    let shared : List ℕ = widths_by skin.whole_words (width - 1 - n) (first_columns n (cells_among skin cs)) (first_columns n (words_among skin cs)) in
-    let narrow : List ℕ = replicate ((width - 1) / 4) 3 in
-    by_bool (λ b. nat_le (4 * n + 1) width ≡ b → ws ≡ (if b then shared else narrow)) (nat_le (4 * n + 1) width)
-    (λ on e. let room : 4 * n + 1 ≤ width = grind (arith, nat_tests) in
-    kept.are (omega (arith, room, count)) ∙ ap (λ k. widths_by skin.whole_words (width - 1 - k) (lengths_in k (rows_among ls)) (words_in k (rows_among ls))) count
-    ∙ ap₂ (λ cells words. widths_by skin.whole_words (width - 1 - n) cells words) (ap (first_columns n) (cells_read false skin cs ls reads)) (ap (first_columns n) (cells_read true skin cs ls reads)))
-    (λ off e. let less : width < 4 * n + 1 = grind (arith, nat_tests) in kept.narrow (omega (arith, less, count))) refl
+    let shared : List ℕ = widths_by skin.whole_words (without_blanks b n width - 1 - n) (first_columns n (cells_among skin cs)) (first_columns n (words_among skin cs)) in
+    let narrow : List ℕ = replicate (most_columns b width) 3 in
+    by_bool (λ t. nat_le (least_room b n) width ≡ t → ws ≡ (if t then shared else narrow)) (nat_le (least_room b n) width)
+    (λ on e. let room : least_room b n ≤ width = grind (arith, nat_tests) in
+    let fits : least_room b (columns_count ls) ≤ width = subst (λ (k : ℕ). least_room b k ≤ width) (sym count) room in
+    (set.wide fits).are (room_left b (columns_count ls) width fits) ∙ ap (λ k. widths_by skin.whole_words (without_blanks b k width - 1 - k) (lengths_in k (rows_among ls)) (words_in k (rows_among ls))) count
+    ∙ ap₂ (λ cells words. widths_by skin.whole_words (without_blanks b n width - 1 - n) cells words) (ap (first_columns n) (cells_read false skin cs ls reads)) (ap (first_columns n) (cells_read true skin cs ls reads)))
+    (λ off e. let less : width < least_room b n = grind (arith, nat_tests) in set.narrow (subst (λ (k : ℕ). width < least_room b k) (sym count) less)) refl

@@ -7,6 +7,7 @@ use Rattle.mad_md.specs.declared.alignment.Alignment.TheVariants.{Unspecified, L
 use Rattle.mad_md.specs.declared.compound.Compound.{Compound}
 use Rattle.mad_md.specs.Flagged.{flagged_text, flagged_of, flags_of}
 use Rattle.mad_style.specs.declared.compound_styles.CompoundStyle.{CompoundStyle}
+use Rattle.mad_format.specs.LineRules.{around_cell, beside_cell}
 use Rattle.mad_style.specs.declared.line_styles.LineStyle.{LineStyle}
 use Rattle.mad_style.specs.LineStyles.{margins_at}
 use Rattle.mad_measure.specs.TextColumns.{columns, width_of}
@@ -20,7 +21,7 @@ use Rattle.mad_rows.specs.declared.row_skin.RowSkin.{RowSkin}
 use Rattle.mad_format.specs.declared.composite.FmtComposite.{FmtComposite}
 use Rattle.mad_format.specs.declared.line.FmtLine.TheVariants.{Normal}
 use Rattle.mad_layout.specs.Drawable.{FillsItsPlace, IsDrawable}
-use Rattle.mad_rows.specs.Rows.{compound_piece, prefix_pieces, left_of_place, right_of_place, align_in, place_of, inner_columns, inner_blanks, outer_blanks, margins_of, composite_pieces, line_pieces}
+use Rattle.mad_rows.specs.Rows.{cell_margins, compound_piece, prefix_pieces, left_of_place, right_of_place, align_in, place_of, inner_columns, inner_blanks, outer_blanks, margins_of, composite_pieces, line_pieces}
 use Rattle.mad_rows.specs.RowStyles.{line_style}
 
 -- ---- compounds
@@ -112,10 +113,19 @@ line_shown skin width l h = composite_shown skin (Some width) (margins_of skin (
 
 -- ---- a cell
 
--- a cell that fills its place takes the columns of that
-pub cell_columns : (skin : RowSkin) (l : FmtComposite) → FillsItsPlace skin l → pieces_columns (composite_pieces skin None (0, 0) false l) ≡ inner_columns l
-cell_columns skin l h = let all : pieces_columns (composite_pieces skin None (0, 0) false l) ≡ 0 + 0 + inner_columns l + 0 = composite_columns skin None (0, 0) false l h in omega (arith, all)
+both_sides : (b : Bool) → beside_cell b + beside_cell b ≡ around_cell b
+both_sides true = refl
+both_sides false = refl
+
+-- a cell that fills its place takes the columns of that, and those of its blanks
+pub cell_columns : (skin : RowSkin) (l : FmtComposite) → FillsItsPlace skin l → pieces_columns (composite_pieces skin None (cell_margins skin) true l) ≡ inner_columns l + around_cell skin.cell_blanks
+cell_columns skin l h =
+    let n : ℕ = beside_cell skin.cell_blanks in
+    let blank : CompoundStyle = skin.paragraph.compound_style in
+    let all : pieces_columns (composite_pieces skin None (cell_margins skin) true l) ≡ 0 + n + inner_columns l + pieces_columns (spaces blank (0 + n)) = composite_columns skin None (cell_margins skin) true l h in
+    let last : pieces_columns (spaces blank (0 + n)) ≡ 0 + n = spaces_columns blank (0 + n) in
+    omega (arith, all, last, both_sides skin.cell_blanks)
 
 -- its pieces show cells of their own
-pub cell_shown : (skin : RowSkin) (l : FmtComposite) → FillsItsPlace skin l → AreShownPieces (composite_pieces skin None (0, 0) false l)
-cell_shown skin l h = composite_shown skin None (0, 0) false l h
+pub cell_shown : (skin : RowSkin) (l : FmtComposite) → FillsItsPlace skin l → AreShownPieces (composite_pieces skin None (cell_margins skin) true l)
+cell_shown skin l h = composite_shown skin None (cell_margins skin) true l h

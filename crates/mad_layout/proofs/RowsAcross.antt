@@ -24,6 +24,7 @@ use Rattle.mad_layout.specs.FlaggedRows.{AreRowsOf}
 use Rattle.mad_layout.specs.FlaggedTables.{kept_widths, columns_below, rows_in_column, CellInColumn, AreInColumns, rows_down, most_rows, table_across, IsRowAcross, rule_across}
 use Rattle.mad_format.specs.Indents.{indent, follow_up, room_of}
 use Rattle.mad_format.specs.FmtLines.{bordered}
+use Rattle.mad_blocks.specs.Tables.{with_blanks}
 use Rattle.mad_blocks.specs.LayoutParts.{is_code_kind, IsLineAt, AreLinesAt}
 use Rattle.mad_layout.specs.Premises.{inner_width, runs_text}
 use Rattle.mad_rows.specs.RowStyles.{line_rules, line_style}
@@ -236,7 +237,7 @@ cells_exist skin (c ∷ cs) (cell ∷ cells) =
 row_exists : (skin : RowSkin) (drawn : ℕ) (cs : List Spacing) (cells : List StyledRuns) → (across : List (List ℕ)) × IsRowAcross skin drawn cs cells across
 row_exists skin drawn cs cells =
     let placed = cells_exist skin cs cells in
-    (map (table_across skin drawn (1 + bordered (map (λ (c : Spacing). c.width) cs))) (rows_down skin (max (most_rows placed.0) 1) placed.0), (placed.0, placed.1, refl))
+    (map (table_across skin drawn (1 + bordered (with_blanks skin.cell_blanks (map (λ (c : Spacing). c.width) cs)))) (rows_down skin (max (most_rows placed.0) 1) placed.0), (placed.0, placed.1, refl))
 
 line_across : (skin : RowSkin) (width drawn : ℕ) (x : LineInPart) (line : LineContent) → (across : List (List ℕ)) × IsAcross skin width drawn x line across
 line_across skin width drawn x (normal said) =

@@ -1,6 +1,6 @@
 -- Lines of any kind: the columns that they fill, and that they are shown.
 use Rattle.std.proofs.Common.{◌≡◌, ℕ, ◌+◌, ◌-◌, ◌≤◌, List, [], ◌∷◌, ◌++◌, Some, true, refl, arith}
-use Rattle.std.specs.Prelude.{None, false}
+use Rattle.std.specs.Prelude.{None}
 use Rattle.std.specs.List.{AllByRecursion, flat_map}
 use Rattle.std.specs.Str.{chars}
 use Rattle.mad_md.specs.declared.alignment.Alignment.{Alignment}
@@ -20,20 +20,21 @@ use Rattle.mad_format.specs.declared.line.FmtLine.{FmtLine}
 use Rattle.mad_format.specs.declared.line.FmtLine.TheVariants.{Normal, TableRow, TableRule, HorizontalRule}
 use Rattle.mad_layout.specs.Drawable.{AreShownChars, FillsItsPlace, IsDrawableLine}
 use Rattle.mad_format.specs.FmtLines.{bordered, rule_columns}
-use Rattle.mad_rows.specs.Rows.{cell_pieces, composite_pieces, inner_columns, left_of_place, line_pieces, placed_pieces, right_of_place, row_columns, rule_chars, vertical_piece}
+use Rattle.mad_format.specs.LineRules.{around_cell}
+use Rattle.mad_rows.specs.Rows.{cell_margins, cell_pieces, composite_pieces, inner_columns, left_of_place, line_pieces, placed_pieces, right_of_place, row_columns, rule_chars, vertical_piece}
 use Rattle.mad_layout.proofs.RowLemmas.{cell_columns, cell_shown, left_completion-le, line_columns, line_shown}
 
 -- ---- a row of cells
 
 cells_columns : (skin : RowSkin) (cells : List FmtComposite) → AllByRecursion (FillsItsPlace skin) cells → IsColumnPiece (vertical_piece skin)
-    → pieces_columns (flat_map (cell_pieces skin) cells ++ vertical_piece skin ∷ []) ≡ row_columns cells
+    → pieces_columns (flat_map (cell_pieces skin) cells ++ vertical_piece skin ∷ []) ≡ row_columns skin cells
 cells_columns skin [] h b = let one : columns (chars (vertical_piece skin).text) ≡ 1 = b.one in omega (arith, one)
 cells_columns skin (l ∷ ls) h b =
     let last : List RowPiece = vertical_piece skin ∷ [] in
-    let front : List RowPiece = composite_pieces skin None (0, 0) false l in
+    let front : List RowPiece = composite_pieces skin None (cell_margins skin) true l in
     let others : List RowPiece = flat_map (cell_pieces skin) ls in
-    let rest : pieces_columns (others ++ last) ≡ row_columns ls = cells_columns skin ls h.1 b in
-    let own : pieces_columns front ≡ inner_columns l = cell_columns skin l h.0 in
+    let rest : pieces_columns (others ++ last) ≡ row_columns skin ls = cells_columns skin ls h.1 b in
+    let own : pieces_columns front ≡ inner_columns l + around_cell skin.cell_blanks = cell_columns skin l h.0 in
     let one : columns (chars (vertical_piece skin).text) ≡ 1 = b.one in
     let e1 : pieces_columns ((front ++ others) ++ last) ≡ pieces_columns (front ++ others) + pieces_columns last = columns-both (front ++ others) last in
     let e2 : pieces_columns (front ++ others) ≡ pieces_columns front + pieces_columns others = columns-both front others in
@@ -121,7 +122,7 @@ placed_shown skin width n ps h =
 pub any_columns : (skin : RowSkin) (width : ℕ) (line : FmtLine) → IsDrawableLine skin width line → pieces_columns (line_pieces skin (Some width) true line) ≡ width
 any_columns skin width (Normal l) h = line_columns skin width l h
 any_columns skin width (TableRow row) h =
-    placed_columns skin width (row_columns row.cells.items) (flat_map (cell_pieces skin) row.cells.items ++ vertical_piece skin ∷ []) (cells_columns skin row.cells.items h.each h.border) h.fits
+    placed_columns skin width (row_columns skin row.cells.items) (flat_map (cell_pieces skin) row.cells.items ++ vertical_piece skin ∷ []) (cells_columns skin row.cells.items h.each h.border) h.fits
 any_columns skin width (TableRule rule) h =
     let ends : RuleChars = rule_chars skin.table_border_chars rule.position in
     placed_columns skin width (rule_columns rule.widths.items) (rule_pieces skin.table.compound_style ends rule.widths.items) (across_columns skin ends rule.widths.items h.chars) h.fits
@@ -131,7 +132,7 @@ any_columns skin width HorizontalRule h = run_columns skin.horizontal_rule width
 pub any_shown : (skin : RowSkin) (width : ℕ) (line : FmtLine) → IsDrawableLine skin width line → AreShownPieces (line_pieces skin (Some width) true line)
 any_shown skin width (Normal l) h = line_shown skin width l h
 any_shown skin width (TableRow row) h =
-    placed_shown skin width (row_columns row.cells.items) (flat_map (cell_pieces skin) row.cells.items ++ vertical_piece skin ∷ [])
+    placed_shown skin width (row_columns skin row.cells.items) (flat_map (cell_pieces skin) row.cells.items ++ vertical_piece skin ∷ [])
     (all_joined IsShownPiece (flat_map (cell_pieces skin) row.cells.items) (vertical_piece skin ∷ []) (cells_shown skin row.cells.items h.each h.border) (h.border.shown, tt))
 any_shown skin width (TableRule rule) h =
     let ends : RuleChars = rule_chars skin.table_border_chars rule.position in

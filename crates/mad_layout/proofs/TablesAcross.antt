@@ -23,7 +23,7 @@ use Rattle.mad_layout.specs.FlaggedTables.{columns_among, cells_among, words_amo
 use Rattle.mad_layout.specs.FlaggedTexts.{LineInPart, aligns_at, position_in, lines_in, IsAcross}
 use Rattle.mad_format.specs.Indents.{indent, follow_up, room_of}
 use Rattle.mad_format.specs.FmtLines.{bordered, IsCompositeRead, AreCompositesRead, IsLineRead, is_table_line}
-use Rattle.mad_blocks.specs.Tables.{first_columns, widths_by, in_column, IsCellLaidOut, AreCellsLaidOut, below, tallest, IsRowLaidOutBy, columns_with, columns_from, columns_count, columns_in, position_at, IsTableLineBy, AreTableLinesBy, IsTableLaidOutBy}
+use Rattle.mad_blocks.specs.Tables.{first_columns, least_room, most_columns, widths_by, with_blanks, without_blanks, in_column, IsCellLaidOut, AreCellsLaidOut, below, tallest, IsRowLaidOutBy, columns_with, columns_from, columns_count, columns_in, position_at, IsTableLineBy, AreTableLinesBy, IsTableLaidOutBy}
 use Rattle.mad_blocks.specs.Tables as tables
 use Rattle.mad_format.specs.Wraps.{text_of, columns_of, IsMeasured}
 use Rattle.mad_rows.specs.declared.row_skin.RowSkin.{RowSkin}
@@ -34,8 +34,9 @@ use Rattle.mad_format.specs.declared.table.FmtTableRow.{FmtTableRow}
 use Rattle.mad_format.specs.declared.table.RelativePosition.{RelativePosition}
 use Rattle.mad_format.specs.declared.table.RelativePosition.TheVariants.{Other}
 use Rattle.mad_layout.proofs.CellChars.{cell_chars, column_chars, lines_rows, placed_lines, down_chars, rule_line_chars}
-use Rattle.mad_layout.proofs.DrawableTables.{TableContent, content_printable, kept_columns, widths_of, centered-widths, columns_with-widths, widths_small, map_some}
+use Rattle.mad_layout.proofs.DrawableTables.{TableContent, content_printable, kept_columns, rule_across_columns, widths_of, centered-widths, columns_with-widths, widths_small, map_some}
 use Rattle.mad_layout.proofs.DrawnParts.{runs_are}
+use Rattle.mad_blocks.proofs.TableWidths.{blanked_least, blanked_none, least_none}
 use Rattle.mad_layout.proofs.KeptWidths.{AreTableRead, count_read, widths_kept}
 use Rattle.mad_layout.proofs.PrefixLemmas.{follow_up_printable}
 use Rattle.mad_layout.proofs.RowChars.{AreWidths, line_chars}
@@ -143,7 +144,7 @@ row_is_across skin drawn cs said cells rows bound read printable laid =
     let count : length rows ≡ max (most_rows placed) 1 = omega (arith, tall, same) in (
       placed,
       cells_in_columns skin cs said cells laid.lines bound read printable laid.laid_out,
-      down_chars skin drawn cs laid.lines rows laid.rows_are ∙ ap (λ n. map (table_across skin drawn (1 + bordered (widths_of cs))) (rows_down skin n placed)) count,
+      down_chars skin drawn cs laid.lines rows laid.rows_are ∙ ap (λ n. map (table_across skin drawn (1 + bordered (with_blanks skin.cell_blanks (widths_of cs)))) (rows_down skin n placed)) count,
     )
 
 -- ---- a line in its table
@@ -159,21 +160,27 @@ pub record IsLaidIn (skin : RowSkin) (width : ℕ) (ws : List ℕ) (x : LineInPa
   pub read : IsLineRead (line_rules skin) x.line l
   pub laid : IsTableLineBy IsCompositeWrap (line_rules skin) (columns_below ws x.aligns) x.position l own
 
-line_rows : (skin : RowSkin) (width drawn : ℕ) (ws : List ℕ) (x : LineInPart) (c : LineContent) (l : FmtLine) (own : List FmtLine) → AreWidths width drawn → 1 + bordered ws ≤ width → ws ≡ kept_widths skin width x.part
+line_rows : (skin : RowSkin) (width drawn : ℕ) (ws : List ℕ) (x : LineInPart) (c : LineContent) (l : FmtLine) (own : List FmtLine) → AreWidths width drawn → 1 + bordered (with_blanks skin.cell_blanks ws) ≤ width → ws ≡ kept_widths skin width x.part
     → TableContent skin width ws l → IsLineRead (line_rules skin) c l → is_table_line l ≡ true → IsTableLineBy IsCompositeWrap (line_rules skin) (columns_below ws x.aligns) x.position l own
     → (0 < length own) × IsAcross skin width drawn x c (map (line_chars skin drawn) own)
 line_rows skin width drawn ws x (normal said) (Normal l) own bound fit is content read table laid = absurd (cc)
 line_rows skin width drawn ws x (table_row cells) (TableRow row) own bound fit is content read table (rows, same, laid) =
     let cs : List Spacing = columns_below ws x.aligns in
     let widths : widths_of cs ≡ ws = below-widths ws x.aligns in
-    let inside : 1 + bordered (widths_of cs) ≤ width = subst (λ vs. 1 + bordered vs ≤ width) (sym widths) fit in
+    let inside : 1 + bordered (with_blanks skin.cell_blanks (widths_of cs)) ≤ width = subst (λ vs. 1 + bordered (with_blanks skin.cell_blanks vs) ≤ width) (sym widths) fit in
+    let without : 1 + bordered (widths_of cs) ≤ width = let least = blanked_least skin.cell_blanks (widths_of cs) in omega (arith, inside, least) in
     let printable : AreSoundCells skin (widths_of cs) row.cells.items = subst (λ vs. AreSoundCells skin vs row.cells.items) (sym widths) content.printable in
-    let across = row_is_across skin drawn cs cells row.cells.items rows (widths_small width cs (omega (arith, bound.narrower, bound.small)) inside) read printable laid in
+    let across = row_is_across skin drawn cs cells row.cells.items rows (widths_small width cs (omega (arith, bound.narrower, bound.small)) without) read printable laid in
     let count : length rows ≡ max _ 1 = laid.count in
     subst (λ (ls : List FmtLine). (0 < length ls) × IsAcross skin width drawn x (table_row cells) (map (line_chars skin drawn) ls)) (sym same)
     (map_some rows (omega (arith, count)), subst (λ vs. IsRowAcross skin drawn (columns_below vs x.aligns) cells (map (line_chars skin drawn) (map TableRow rows))) is across)
 line_rows skin width drawn ws x (table_rule aligns) (TableRule source) own bound fit is content read table (rule, same, laid) =
-    let chars = rule_line_chars skin drawn x.position ws rule (column_rule skin (rule_chars skin.table_border_chars x.position) (content.borders.rules x.position)) laid.position_is (laid.widths_are ∙ below-widths ws x.aligns) in
+    let cs : List Spacing = columns_below ws x.aligns in
+    let widths : widths_of cs ≡ ws = below-widths ws x.aligns in
+    let inside : 1 + bordered (with_blanks skin.cell_blanks (widths_of cs)) ≤ width = subst (λ vs. 1 + bordered (with_blanks skin.cell_blanks vs) ≤ width) (sym widths) fit in
+    let small : width < 2 ^ 64 - 1 = omega (arith, bound.narrower, bound.small) in
+    let wide = laid.widths_are ∙ rule_across_columns skin.cell_blanks width cs small inside ∙ ap (with_blanks skin.cell_blanks) widths in
+    let chars = rule_line_chars skin drawn x.position ws rule (column_rule skin (rule_chars skin.table_border_chars x.position) (content.borders.rules x.position)) laid.position_is wide in
     subst (λ (ls : List FmtLine). (0 < length ls) × IsAcross skin width drawn x (table_rule aligns) (map (line_chars skin drawn) ls)) (sym same)
     (omega arith, ap (λ (t : List ℕ). t ∷ []) (chars ∙ ap (rule_across skin drawn x.position) is))
 line_rows skin width drawn ws x horizontal_rule HorizontalRule own bound fit is content read table laid = absurd (cc)
@@ -188,7 +195,7 @@ AreLaidIn skin width ws (x ∷ xs) (l ∷ ls) lines = (own : List FmtLine) × (o
 AreLaidIn skin width ws _ _ lines = ⊥
 
 -- The first rows of these lines and of those after them, whose rows are there for any number of lines that keep the premises.
-pub table_front : (skin : RowSkin) (width drawn : ℕ) (n : ℕ) (ws : List ℕ) (xs ys : List LineInPart) (read own others : List FmtLine) → AreWidths width drawn → 1 + bordered ws ≤ width
+pub table_front : (skin : RowSkin) (width drawn : ℕ) (n : ℕ) (ws : List ℕ) (xs ys : List LineInPart) (read own others : List FmtLine) → AreWidths width drawn → 1 + bordered (with_blanks skin.cell_blanks ws) ≤ width
     → ((m : ℕ) → AreSoundLines skin width (take m ys) → HaveFirstRows skin width drawn m ys others)
     → AreSoundLines skin width (take n (xs ++ ys)) → AreLaidIn skin width ws xs read own → HaveFirstRows skin width drawn n (xs ++ ys) (own ++ others)
 table_front skin width drawn zero ws xs ys read own others bound fit later keeps laid = let all = across_exist skin width drawn (xs ++ ys) in (all.0, all.1, refl)
@@ -257,10 +264,15 @@ no_columns false available = no_columns_shared available
 
 no_widths : (skin : RowSkin) (width : ℕ) (part : List LineContent) → 0 < width → columns_among part ≡ 0 → [] ≡ kept_widths skin width part
 no_widths skin width part some none =
-    let test : nat_le (4 * columns_among part + 1) width ≡ true = grind (arith, nat_tests) in
-    sym (ap (λ n. if nat_le (4 * n + 1) width then widths_by skin.whole_words (width - 1 - n) (first_columns n (cells_among skin part)) (first_columns n (words_among skin part)) else replicate ((width - 1) / 4) 3) none
-    ∙ ap (λ (b : Bool). if b then widths_by skin.whole_words (width - 1 - 0) [] [] else replicate ((width - 1) / 4) 3) (ap (λ n. nat_le (4 * n + 1) width) (sym none) ∙ test)
-    ∙ no_columns skin.whole_words (width - 1 - 0))
+    let blanks : Bool = skin.cell_blanks in
+    let left : ℕ → ℕ = λ n. without_blanks blanks n width - 1 - n in
+    let fits : ℕ → Bool = λ n. nat_le (least_room blanks n) width in
+    let narrow : List ℕ = replicate (most_columns blanks width) 3 in
+    let one : nat_le 1 width ≡ true = grind (arith, nat_tests) in
+    let test : fits 0 ≡ true = ap (λ k. nat_le k width) (least_none blanks) ∙ one in
+    sym (ap (λ n. if fits n then widths_by skin.whole_words (left n) (first_columns n (cells_among skin part)) (first_columns n (words_among skin part)) else narrow) none
+    ∙ ap (λ (b : Bool). if b then widths_by skin.whole_words (left 0) [] [] else narrow) test
+    ∙ no_columns skin.whole_words (left 0))
 
 none_below : (aligns : Option (List Alignment)) → columns_below [] aligns ≡ []
 none_below None = refl
@@ -310,11 +322,11 @@ pub table_rows_across : (skin : RowSkin) (width drawn : ℕ) (n : ℕ) (part : L
 table_rows_across skin width drawn n part ys read own others bound wide later keeps reads (inl (inl none, stays)) =
     let empty : columns_among part ≡ 0 = sym (count_read skin part read reads) ∙ none in
     subst (λ (ls : List FmtLine). HaveFirstRows skin width drawn n (lines_in part None true part ++ ys) (ls ++ others)) (sym stays)
-    (table_front skin width drawn n [] (lines_in part None true part) ys read read others bound (omega (arith, wide)) later keeps
+    (table_front skin width drawn n [] (lines_in part None true part) ys read read others bound (let none_wide = blanked_none skin.cell_blanks in omega (arith, none_wide, wide)) later keeps
     (bare_in skin width part None true part read (no_widths skin width part (omega (arith, wide)) empty) empty none reads))
 table_rows_across skin width drawn n part ys read own others bound wide later keeps reads (inl (inr none, stays)) = absurd (omega (arith, none, wide))
 table_rows_across skin width drawn n part ys read own others bound wide later keeps reads (inr (some, place, (ws, kept, laid))) =
-    let fit : 1 + bordered ws ≤ width = let inside : bordered ws + 1 ≤ width = kept.fit in omega (arith, inside) in
+    let fit : 1 + bordered (with_blanks skin.cell_blanks ws) ≤ width = let inside : bordered (with_blanks skin.cell_blanks ws) + 1 ≤ width = kept.fit in omega (arith, inside) in
     let count : columns_count read ≡ columns_among part = count_read skin part read reads in
     let columns : (columns_among part == 0) ≡ false = grind (arith, nat_tests) in
     table_front skin width drawn n ws (lines_in part None true part) ys read own others bound fit later keeps

@@ -33,7 +33,7 @@ pub record IsDrawable (skin : RowSkin) (width : ℕ) (l : FmtComposite) : Type 0
 
 -- a row of a table that fits a row of `width` columns: each cell fills its place, and a vertical border is shown in one column
 pub record IsDrawableRow (skin : RowSkin) (width : ℕ) (cells : List FmtComposite) : Type 0 where
-  pub fits : row_columns cells ≤ width
+  pub fits : row_columns skin cells ≤ width
   pub each : AllByRecursion (FillsItsPlace skin) cells
   pub border : IsColumnPiece (vertical_piece skin)
 

@@ -13,8 +13,10 @@ use Rattle.mad_layout.specs.FlaggedLines.{skin_char, front_of, marked_parts}
 use Rattle.mad_layout.specs.FlaggedRows.{AreRowsOf}
 use Rattle.mad_format.specs.Indents.{indent, follow_up, room_of}
 use Rattle.mad_format.specs.FmtLines.{bordered, rule_columns}
+use Rattle.mad_format.specs.LineRules.{beside_cell}
 use Rattle.mad_format.specs.Lists.{most}
 use Rattle.mad_rows.specs.Rows.{rule_chars}
+use Rattle.mad_blocks.specs.Tables.{with_blanks}
 pub use Rattle.mad_layout.specs.TableColumns.{cell_columns, cells_among, words_among, kept_widths, columns_below}
 pub use Rattle.mad_blocks.specs.TextParts.{count_in, columns_among}
 use Rattle.mad_rows.specs.declared.row_skin.RowSkin.{RowSkin}
@@ -50,9 +52,13 @@ AreInColumns skin (c ∷ cs) (cell ∷ cells) placed =
 
 -- ---- across the table
 
--- a border, and the first row of a cell: spaces where it has none
+-- the blanks at each side of a cell
+abbrev pub cell_blank : RowSkin → List ℕ
+cell_blank skin = replicate (beside_cell skin.cell_blanks) 32
+
+-- a border, and the first row of a cell between its blanks: spaces where it has none
 abbrev pub first_row : RowSkin → CellInColumn → List ℕ
-first_row skin cell = skin_char skin.table_border_chars.vertical ++ unwrap_or (slice_get cell.rows 0) (replicate cell.width 32)
+first_row skin cell = skin_char skin.table_border_chars.vertical ++ (cell_blank skin ++ (unwrap_or (slice_get cell.rows 0) (replicate cell.width 32) ++ cell_blank skin))
 
 -- the first row of each cell, and a last border
 abbrev pub first_rows : RowSkin → List CellInColumn → List ℕ
@@ -86,8 +92,10 @@ table_across skin drawn columns row =
 abbrev pub IsRowAcross : RowSkin → ℕ → List Spacing → List StyledRuns → List (List ℕ) → Type 0
 IsRowAcross skin drawn columns cells across =
     (placed : List CellInColumn) × AreInColumns skin columns cells placed
-    × (across ≡ map (table_across skin drawn (1 + bordered (map (λ c. c.width) columns))) (rows_down skin (max (most_rows placed) 1) placed))
+    × (across ≡ map (table_across skin drawn (1 + bordered (with_blanks skin.cell_blanks (map (λ c. c.width) columns)))) (rows_down skin (max (most_rows placed) 1) placed))
 
--- a rule's row, at its position in its table
+-- a rule's row across columns of these widths and their blanks, at its position in its table
 abbrev pub rule_across : RowSkin → ℕ → RelativePosition → List ℕ → List ℕ
-rule_across skin drawn position widths = table_across skin drawn (rule_columns widths) (rule_row (rule_chars skin.table_border_chars position) widths)
+rule_across skin drawn position widths =
+    let all = with_blanks skin.cell_blanks widths in
+    table_across skin drawn (rule_columns all) (rule_row (rule_chars skin.table_border_chars position) all)

@@ -7,7 +7,7 @@ use Rattle.mad_style.specs.declared.kinds.CompositeKind.{CompositeKind}
 use Rattle.mad_style.specs.declared.kinds.CompositeKind.TheVariants.{OrderedListItem}
 use Rattle.mad_layout.specs.Drawable.{AreDrawable}
 use Rattle.mad_layout.specs.Premises.{AreBordersShown, IsPrintableText}
-use Rattle.mad_blocks.specs.Tables.{AreKeptWidths, IsTableLaidOutBy, columns_count}
+use Rattle.mad_blocks.specs.Tables.{AreSetWidths, IsTableLaidOutBy, columns_count}
 use Rattle.mad_format.specs.WrappedLines.{Wrap}
 use Rattle.mad_format.specs.Wraps.{IsMeasured}
 use Rattle.mad_rows.specs.declared.row_skin.RowSkin.{RowSkin}
@@ -43,5 +43,5 @@ IsPrintableTableLine skin ws _ = ⊥
 abbrev pub TablesFit : Wrap → Type 0
 TablesFit wraps =
     (skin : RowSkin) (width drawn : ℕ) (table lines : List FmtLine) → 2 ≤ width → width ≤ drawn → drawn < 2 ^ 64 - 1 → AreBordersShown skin
-    → AllByRecursion (IsPrintableTableLine skin []) table → ((ws : List ℕ) → AreKeptWidths skin.whole_words (columns_count table) width table ws → AllByRecursion (IsPrintableTableLine skin ws) table)
+    → AllByRecursion (IsPrintableTableLine skin []) table → ((ws : List ℕ) → AreSetWidths skin.whole_words skin.cell_blanks (columns_count table) width table ws → AllByRecursion (IsPrintableTableLine skin ws) table)
     → IsTableLaidOutBy wraps (line_rules skin) (columns_count table) width table lines → AreDrawable skin drawn lines

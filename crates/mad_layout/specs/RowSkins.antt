@@ -1,5 +1,5 @@
 -- What rows show of a skin.
-use Rattle.std.specs.Prelude.{None}
+use Rattle.std.specs.Prelude.{None, false}
 use Rattle.mad_style.specs.CompoundStyles.{unstyled}
 use Rattle.mad_style.specs.StyledChars.{shown_as}
 use Rattle.mad_rows.specs.RowStyles.{unstyled_titles}
@@ -46,6 +46,7 @@ row_skin skin =
       table_border_chars = skin.table_border_chars;
       list_items_indentation_mode = skin.list_items_indentation_mode;
       whole_words = skin.whole_words;
+      cell_blanks = false;
       page = page_styles skin;
       head = unstyled;
       titles = unstyled_titles;

@@ -1,5 +1,5 @@
 -- The columns of a table, by its text.
-use Rattle.std.specs.Prelude.{ℕ, ◌+◌, ◌-◌, ◌*◌, ◌/◌, nat_le, if◌then◌else◌, Bool, true, false, List, [], ◌∷◌, map, replicate, Option, Some, None}
+use Rattle.std.specs.Prelude.{ℕ, ◌+◌, ◌-◌, nat_le, if◌then◌else◌, Bool, true, false, List, [], ◌∷◌, map, replicate, Option, Some, None}
 use Rattle.mad_md.specs.Lines.{StyledRuns, LineContent, normal, table_row, table_rule, horizontal_rule}
 use Rattle.mad_md.specs.declared.alignment.Alignment.{Alignment}
 use Rattle.mad_style.specs.Kinds.{kind_of}
@@ -9,7 +9,7 @@ use Rattle.mad_wrap.specs.WrapLines.{capped}
 use Rattle.mad_format.specs.Indents.{indent}
 use Rattle.mad_layout.specs.LineTexts.{runs_text}
 use Rattle.mad_sections.specs.CellWords.{longest_word}
-use Rattle.mad_blocks.specs.Tables.{columns_with, centered, first_columns, widths_by}
+use Rattle.mad_blocks.specs.Tables.{columns_with, centered, first_columns, least_room, most_columns, widths_by, without_blanks}
 use Rattle.mad_blocks.specs.TextParts.{columns_among}
 use Rattle.mad_rows.specs.declared.row_skin.RowSkin.{RowSkin}
 
@@ -42,13 +42,14 @@ cells_among skin ls = measures_among false skin ls
 abbrev pub words_among : RowSkin → List LineContent → List (List ℕ)
 words_among skin ls = measures_among true skin ls
 
--- The widths of a table's kept columns: where there is room for three in each, what their cells need or their share of it; else as many
--- columns are kept as have room, of three. Where words stay whole, no column is narrower than its longest word if the longest words fit
--- together.
+-- The widths of a table's kept columns: where there is room for three and its blanks in each, what their cells need or their share of what is
+-- left beside the blanks; else as many columns are kept as have room, of three. Where words stay whole, no column is narrower than its longest
+-- word if the longest words fit together.
 abbrev pub kept_widths : RowSkin → ℕ → List LineContent → List ℕ
 kept_widths skin width table =
     let n = columns_among table in
-    if nat_le (4 * n + 1) width then widths_by skin.whole_words (width - 1 - n) (first_columns n (cells_among skin table)) (first_columns n (words_among skin table)) else replicate ((width - 1) / 4) 3
+    let room = without_blanks skin.cell_blanks n width in
+    if nat_le (least_room skin.cell_blanks n) width then widths_by skin.whole_words (room - 1 - n) (first_columns n (cells_among skin table)) (first_columns n (words_among skin table)) else replicate (most_columns skin.cell_blanks width) 3
 
 -- columns of these widths below a rule with these alignments; centered ones where no rule is above
 abbrev pub columns_below : List ℕ → Option (List Alignment) → List Spacing

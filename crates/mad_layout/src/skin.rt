@@ -223,6 +223,7 @@ impl MadSkin {
             table_border_chars: self.table_border_chars,
             list_items_indentation_mode: self.list_items_indentation_mode,
             whole_words: self.whole_words,
+            cell_blanks: false,
             page: self.page_styles(),
             head: CompoundStyle::default(),
             titles: TitleStyles::default(),
@@ -266,6 +267,10 @@ impl LineSkin for MadSkin {
 
     fn whole_words(&self) -> bool {
         self.whole_words
+    }
+
+    fn cell_blanks(&self) -> bool {
+        false
     }
 
     fn style_of(&self, kind: CompositeKind) -> &LineStyle {

@@ -18,7 +18,7 @@ use Rattle.mad_format.specs.declared.composite.FmtComposite.{FmtComposite}
 use Rattle.mad_format.specs.declared.line.FmtLine.{FmtLine}
 use Rattle.mad_format.specs.declared.line.FmtLine.TheVariants.{Normal, TableRow, TableRule, HorizontalRule}
 use Rattle.mad_rows.specs.RowStyles.{compound_style, line_style}
-use Rattle.mad_rows.specs.Rows.{cell_pieces, composite_pieces, compound_piece, inner_blanks, left_of_place, line_pieces, margins_of, outer_blanks, prefix_pieces, right_of_place, row_columns, vertical_piece}
+use Rattle.mad_rows.specs.Rows.{cell_margins, cell_pieces, composite_pieces, compound_piece, inner_blanks, left_of_place, line_pieces, margins_of, outer_blanks, prefix_pieces, right_of_place, row_columns, vertical_piece}
 use Rattle.mad_rows.specs.declared.row_skin.RowSkin.{RowSkin}
 use Rattle.mad_mark_runs.specs.declared.mark_runs.MarkRun.{MarkRun}
 use Rattle.mad_marks.specs.RowMarks.{counted}
@@ -75,9 +75,9 @@ row_cells_told : (tell : Look → Look) (paint : ℕ → ContentStyle → Conten
     → AllByRecursion (λ (l : FmtComposite). AllByRecursion (λ k. IsUtf8 k.src.now) l.compounds.items) cs → told_chars tell (marked_cells paint has runs skin ns cs) ≡ told_chars tell (flat_map (cell_pieces skin) cs)
 row_cells_told tell paint has runs skin ns [] nothing utf8 = refl
 row_cells_told tell paint has runs skin ns (c ∷ cs) nothing utf8 =
-    let own : List RowPiece = vertical_piece skin ∷ marked_composite paint has runs skin None (0, 0) false (slice_index ns 0) c in
+    let own : List RowPiece = vertical_piece skin ∷ marked_composite paint has runs skin None (cell_margins skin) true (slice_index ns 0) c in
     told_before tell own (cell_pieces skin c) (marked_cells paint has runs skin (drop 1 ns) cs)
-    (told_after tell (vertical_piece skin ∷ []) _ _ (composite_told tell paint has runs skin None (0, 0) false (slice_index ns 0) c nothing utf8.0))
+    (told_after tell (vertical_piece skin ∷ []) _ _ (composite_told tell paint has runs skin None (cell_margins skin) true (slice_index ns 0) c nothing utf8.0))
     ∙ told_after tell (cell_pieces skin c) _ _ (row_cells_told tell paint has runs skin (drop 1 ns) cs nothing utf8.1)
 
 -- what is told of the characters of a line is the same with marks
@@ -86,8 +86,8 @@ pub chars_told : (tell : Look → Look) (paint : ℕ → ContentStyle → Conten
 chars_told tell paint has runs skin outer filled numbers (Normal l) nothing utf8 = composite_told tell paint has runs skin outer (margins_of skin outer l) filled (slice_index numbers 0) l nothing utf8.0
 chars_told tell paint has runs skin outer filled numbers (TableRow row) nothing utf8 =
     let cells = row.cells.items in
-    let right : List RowPiece = if filled then spaces skin.paragraph.compound_style (right_of_place skin.table.align (row_columns cells) outer) else [] in
-    told_after tell (spaces skin.paragraph.compound_style (left_of_place skin.table.align (row_columns cells) outer)) _ _ (
+    let right : List RowPiece = if filled then spaces skin.paragraph.compound_style (right_of_place skin.table.align (row_columns skin cells) outer) else [] in
+    told_after tell (spaces skin.paragraph.compound_style (left_of_place skin.table.align (row_columns skin cells) outer)) _ _ (
     told_before tell (marked_cells paint has runs skin numbers cells ++ vertical_piece skin ∷ []) (flat_map (cell_pieces skin) cells ++ vertical_piece skin ∷ []) right (
     told_before tell (marked_cells paint has runs skin numbers cells) (flat_map (cell_pieces skin) cells) (vertical_piece skin ∷ []) (row_cells_told tell paint has runs skin numbers cells nothing utf8)))
 chars_told tell paint has runs skin outer filled numbers (TableRule rule) nothing utf8 = refl
@@ -157,9 +157,9 @@ cells_shown : (paint : ℕ → ContentStyle → ContentStyle) (has : CompositeKi
     → AreShownPieces (marked_cells paint has runs skin ns cs)
 cells_shown paint has runs skin ns [] h = tt
 cells_shown paint has runs skin ns (c ∷ cs) h =
-    let own : List RowPiece = vertical_piece skin ∷ marked_composite paint has runs skin None (0, 0) false (slice_index ns 0) c in
+    let own : List RowPiece = vertical_piece skin ∷ marked_composite paint has runs skin None (cell_margins skin) true (slice_index ns 0) c in
     let first = shown_left (cell_pieces skin c) (flat_map (cell_pieces skin) cs) h in
-    shown_both own (marked_cells paint has runs skin (drop 1 ns) cs) (first.0, composite_shown paint has runs skin None (0, 0) false (slice_index ns 0) c first.1)
+    shown_both own (marked_cells paint has runs skin (drop 1 ns) cs) (first.0, composite_shown paint has runs skin None (cell_margins skin) true (slice_index ns 0) c first.1)
     (cells_shown paint has runs skin (drop 1 ns) cs (shown_right (cell_pieces skin c) (flat_map (cell_pieces skin) cs) h))
 
 -- where a line shows cells of its own, it does so with marks
@@ -168,8 +168,8 @@ pub line_shown : (paint : ℕ → ContentStyle → ContentStyle) (has : Composit
 line_shown paint has runs skin outer filled numbers (Normal l) h = composite_shown paint has runs skin outer (margins_of skin outer l) filled (slice_index numbers 0) l h
 line_shown paint has runs skin outer filled numbers (TableRow row) h =
     let cells = row.cells.items in
-    let right : List RowPiece = if filled then spaces skin.paragraph.compound_style (right_of_place skin.table.align (row_columns cells) outer) else [] in
-    shown_after (spaces skin.paragraph.compound_style (left_of_place skin.table.align (row_columns cells) outer)) _ _ (
+    let right : List RowPiece = if filled then spaces skin.paragraph.compound_style (right_of_place skin.table.align (row_columns skin cells) outer) else [] in
+    shown_after (spaces skin.paragraph.compound_style (left_of_place skin.table.align (row_columns skin cells) outer)) _ _ (
     shown_before (marked_cells paint has runs skin numbers cells ++ vertical_piece skin ∷ []) (flat_map (cell_pieces skin) cells ++ vertical_piece skin ∷ []) right (
     shown_before (marked_cells paint has runs skin numbers cells) (flat_map (cell_pieces skin) cells) (vertical_piece skin ∷ []) (cells_shown paint has runs skin numbers cells))) h
 line_shown paint has runs skin outer filled numbers (TableRule rule) h = h

@@ -20,7 +20,7 @@ use Rattle.mad_format.specs.declared.composite.FmtComposite.{FmtComposite}
 use Rattle.mad_format.specs.declared.line.FmtLine.{FmtLine}
 use Rattle.mad_format.specs.declared.line.FmtLine.TheVariants.{Normal, TableRow, TableRule, HorizontalRule}
 use Rattle.mad_rows.specs.RowStyles.{compound_style, line_style}
-use Rattle.mad_rows.specs.Rows.{cell_pieces, composite_pieces, compound_piece, inner_blanks, left_of_place, line_pieces, margins_of, outer_blanks, prefix_pieces, right_of_place, row_columns, vertical_piece}
+use Rattle.mad_rows.specs.Rows.{cell_margins, cell_pieces, composite_pieces, compound_piece, inner_blanks, left_of_place, line_pieces, margins_of, outer_blanks, prefix_pieces, right_of_place, row_columns, vertical_piece}
 use Rattle.mad_rows.specs.declared.row_skin.RowSkin.{RowSkin}
 use Rattle.mad_links.specs.LinkRows.{LinkedPiece, AreLinkedPieces, linked_bytes, piece_linked_cells, row_cells, target, unlinked_bytes, written_link}
 use Rattle.mad_links.specs.LinkTerminal.{LinkedCell, LinkPaints}
@@ -86,9 +86,9 @@ composite_without paint has runs skin outer margins filled n l =
 cells_without : (paint : ℕ → ContentStyle → ContentStyle) (has : CompositeKind → Flags → Bool) (runs : List MarkRun) (skin : RowSkin) (ns : List ℕ) (cs : List FmtComposite) → without_links (linked_cells paint has runs skin ns cs) ≡ marked_cells paint has runs skin ns cs
 cells_without paint has runs skin ns [] = refl
 cells_without paint has runs skin ns (c ∷ cs) =
-    ap (λ l. vertical_piece skin ∷ l) (both (linked_composite paint has runs skin None (0, 0) false (slice_index ns 0) c) (linked_cells paint has runs skin (drop 1 ns) cs)
-    (marked_composite paint has runs skin None (0, 0) false (slice_index ns 0) c) (marked_cells paint has runs skin (drop 1 ns) cs)
-    (composite_without paint has runs skin None (0, 0) false (slice_index ns 0) c) (cells_without paint has runs skin (drop 1 ns) cs))
+    ap (λ l. vertical_piece skin ∷ l) (both (linked_composite paint has runs skin None (cell_margins skin) true (slice_index ns 0) c) (linked_cells paint has runs skin (drop 1 ns) cs)
+    (marked_composite paint has runs skin None (cell_margins skin) true (slice_index ns 0) c) (marked_cells paint has runs skin (drop 1 ns) cs)
+    (composite_without paint has runs skin None (cell_margins skin) true (slice_index ns 0) c) (cells_without paint has runs skin (drop 1 ns) cs))
 
 -- THE LAW: the pieces of a line with links, without the links
 pub line_without : (paint : ℕ → ContentStyle → ContentStyle) (has : CompositeKind → Flags → Bool) (runs : List MarkRun) (skin : RowSkin) (outer : Option ℕ) (filled : Bool) (numbers : List ℕ) (line : FmtLine)
@@ -96,10 +96,10 @@ pub line_without : (paint : ℕ → ContentStyle → ContentStyle) (has : Compos
 line_without paint has runs skin outer filled numbers (Normal l) = composite_without paint has runs skin outer (margins_of skin outer l) filled (slice_index numbers 0) l
 line_without paint has runs skin outer filled numbers (TableRow row) =
     let cells = row.cells.items in
-    let right : List RowPiece = if filled then spaces skin.paragraph.compound_style (right_of_place skin.table.align (row_columns cells) outer) else [] in
+    let right : List RowPiece = if filled then spaces skin.paragraph.compound_style (right_of_place skin.table.align (row_columns skin cells) outer) else [] in
     let text = linked_cells paint has runs skin numbers cells in
     let marked_text = marked_cells paint has runs skin numbers cells in
-    step (spaces skin.paragraph.compound_style (left_of_place skin.table.align (row_columns cells) outer)) _ _ (
+    step (spaces skin.paragraph.compound_style (left_of_place skin.table.align (row_columns skin cells) outer)) _ _ (
     both (text ++ in_no_link (vertical_piece skin) ∷ []) (map in_no_link right) (marked_text ++ vertical_piece skin ∷ []) right
     (both text (in_no_link (vertical_piece skin) ∷ []) marked_text (vertical_piece skin ∷ []) (cells_without paint has runs skin numbers cells) refl) (plain_without right))
 line_without paint has runs skin outer filled numbers (TableRule rule) = plain_without (line_pieces skin outer filled (TableRule rule))
@@ -174,9 +174,9 @@ cells_known : (paint : ℕ → ContentStyle → ContentStyle) (has : CompositeKi
     → AreKnown (marked_cells paint has runs skin ns cs)
 cells_known paint has runs skin ns [] keeps h = tt
 cells_known paint has runs skin ns (c ∷ cs) keeps h =
-    let own : List RowPiece = vertical_piece skin ∷ marked_composite paint has runs skin None (0, 0) false (slice_index ns 0) c in
+    let own : List RowPiece = vertical_piece skin ∷ marked_composite paint has runs skin None (cell_margins skin) true (slice_index ns 0) c in
     let first = known_left (cell_pieces skin c) (flat_map (cell_pieces skin) cs) h in
-    known_both own (marked_cells paint has runs skin (drop 1 ns) cs) (first.0, composite_known paint has runs skin None (0, 0) false (slice_index ns 0) c keeps first.1)
+    known_both own (marked_cells paint has runs skin (drop 1 ns) cs) (first.0, composite_known paint has runs skin None (cell_margins skin) true (slice_index ns 0) c keeps first.1)
     (cells_known paint has runs skin (drop 1 ns) cs keeps (known_right (cell_pieces skin c) (flat_map (cell_pieces skin) cs) h))
 
 -- where the numbers of a line's colors are bytes, they are so with marks
@@ -185,8 +185,8 @@ pub line_known : (paint : ℕ → ContentStyle → ContentStyle) (has : Composit
 line_known paint has runs skin outer filled numbers (Normal l) keeps h = composite_known paint has runs skin outer (margins_of skin outer l) filled (slice_index numbers 0) l keeps h
 line_known paint has runs skin outer filled numbers (TableRow row) keeps h =
     let cells = row.cells.items in
-    let right : List RowPiece = if filled then spaces skin.paragraph.compound_style (right_of_place skin.table.align (row_columns cells) outer) else [] in
-    known_after (spaces skin.paragraph.compound_style (left_of_place skin.table.align (row_columns cells) outer)) _ _ (
+    let right : List RowPiece = if filled then spaces skin.paragraph.compound_style (right_of_place skin.table.align (row_columns skin cells) outer) else [] in
+    known_after (spaces skin.paragraph.compound_style (left_of_place skin.table.align (row_columns skin cells) outer)) _ _ (
     known_before (marked_cells paint has runs skin numbers cells ++ vertical_piece skin ∷ []) (flat_map (cell_pieces skin) cells ++ vertical_piece skin ∷ []) right (
     known_before (marked_cells paint has runs skin numbers cells) (flat_map (cell_pieces skin) cells) (vertical_piece skin ∷ []) (cells_known paint has runs skin numbers cells keeps))) h
 line_known paint has runs skin outer filled numbers (TableRule rule) keeps h = h

@@ -17,7 +17,7 @@ use Rattle.mad_format.specs.declared.line.FmtLine.{FmtLine}
 use Rattle.mad_format.specs.declared.line.FmtLine.TheVariants.{Normal, TableRow, TableRule, HorizontalRule}
 use Rattle.mad_format.specs.declared.table.FmtTableRow.{FmtTableRow}
 use Rattle.mad_rows.specs.RowStyles.{compound_style, line_style}
-use Rattle.mad_rows.specs.Rows.{blanks_beside, compound_piece, inner_blanks, left_of_place, line_pieces, outer_blanks, prefix_pieces, right_of_place, row_columns, vertical_piece}
+use Rattle.mad_rows.specs.Rows.{cell_margins, blanks_beside, compound_piece, inner_blanks, left_of_place, line_pieces, outer_blanks, prefix_pieces, right_of_place, row_columns, vertical_piece}
 use Rattle.mad_rows.specs.declared.row_skin.RowSkin.{RowSkin}
 use Rattle.mad_rows.proofs.PieceLemmas.{asked_behind, asked_bytes}
 use Rattle.mad_links.specs.LinkRows.{LinkedPiece, change_bytes, linked_bytes}
@@ -153,19 +153,19 @@ cells_behind : (paint : ℕ → ContentStyle → ContentStyle) (has : CompositeK
     → linked_bytes a (ps ++ linked_cells paint has runs skin ns cs) ≡ linked_bytes a ps ++ linked_bytes a (linked_cells paint has runs skin ns cs)
 cells_behind paint has runs skin a ps ns [] = ap (linked_bytes a) (append-nil ps) ∙ sym (append-nil (linked_bytes a ps))
 cells_behind paint has runs skin a ps ns (c ∷ cs) =
-    then_border a None ps (vertical_piece skin) (linked_composite paint has runs skin None (0, 0) false (slice_index ns 0) c ++ linked_cells paint has runs skin (drop 1 ns) cs)
+    then_border a None ps (vertical_piece skin) (linked_composite paint has runs skin None (cell_margins skin) true (slice_index ns 0) c ++ linked_cells paint has runs skin (drop 1 ns) cs)
 
 -- a cell more, behind its border
 pub cell_gone : (paint : ℕ → ContentStyle → ContentStyle) (has : CompositeKind → Flags → Bool) (runs : List MarkRun) (skin : RowSkin) (a : List (Option (List ℕ))) (old one new all : List ℕ) (ns next : List ℕ) (cs : List FmtComposite) (i n : ℕ) (d : FmtComposite) → i < length cs
-    → one ≡ old ++ piece_bytes (vertical_piece skin).style (vertical_piece skin).text → n ≡ slice_index ns 0 → new ≡ one ++ linked_bytes a (linked_composite paint has runs skin None (0, 0) false n (get_or cs i d)) → next ≡ drop 1 ns
+    → one ≡ old ++ piece_bytes (vertical_piece skin).style (vertical_piece skin).text → n ≡ slice_index ns 0 → new ≡ one ++ linked_bytes a (linked_composite paint has runs skin None (cell_margins skin) true n (get_or cs i d)) → next ≡ drop 1 ns
     → old ++ linked_bytes a (linked_cells paint has runs skin ns (drop i cs)) ≡ all → new ++ linked_bytes a (linked_cells paint has runs skin next (drop (i + 1) cs)) ≡ all
 cell_gone paint has runs skin a old one new all ns next cs i n d h one_is n_is new_is next_is before =
     let c = get_or cs i d in
     let border = piece_bytes (vertical_piece skin).style (vertical_piece skin).text in
-    let own = linked_composite paint has runs skin None (0, 0) false (slice_index ns 0) c in
+    let own = linked_composite paint has runs skin None (cell_margins skin) true (slice_index ns 0) c in
     let rest = linked_cells paint has runs skin (drop 1 ns) (drop (i + 1) cs) in
     ap (λ (l : List ℕ). new ++ linked_bytes a (linked_cells paint has runs skin l (drop (i + 1) cs))) next_is
-    ∙ ap (λ l. l ++ linked_bytes a rest) (new_is ∙ ap (λ (x : ℕ). one ++ linked_bytes a (linked_composite paint has runs skin None (0, 0) false x c)) n_is ∙ ap (λ l. l ++ linked_bytes a own) one_is)
+    ∙ ap (λ l. l ++ linked_bytes a rest) (new_is ∙ ap (λ (x : ℕ). one ++ linked_bytes a (linked_composite paint has runs skin None (cell_margins skin) true x c)) n_is ∙ ap (λ l. l ++ linked_bytes a own) one_is)
     ∙ append_assoc (old ++ border) (linked_bytes a own) (linked_bytes a rest) ∙ append_assoc old border (linked_bytes a own ++ linked_bytes a rest)
     ∙ ap (λ l. old ++ (border ++ l)) (sym (cells_behind paint has runs skin a own (drop 1 ns) (drop (i + 1) cs)))
     ∙ sym (at_drop_more (λ l. old ++ linked_bytes a (linked_cells paint has runs skin ns l)) cs i d h) ∙ before
@@ -177,16 +177,16 @@ cells_done paint has runs skin a now all ns cs i h before = sym (append-nil now)
 
 -- a row of cells between blanks
 pub row_bytes : (paint : ℕ → ContentStyle → ContentStyle) (has : CompositeKind → Flags → Bool) (runs : List MarkRun) (skin : RowSkin) (outer : Option ℕ) (filled : Bool) (ns : List ℕ) (cells : List FmtComposite) (a : List (Option (List ℕ))) (before after : Spaces) (old one two three new : List ℕ)
-    → before ≡ record { style = skin.paragraph.compound_style; count = left_of_place skin.table.align (row_columns cells) outer }
-    → after ≡ record { style = skin.paragraph.compound_style; count = if filled then right_of_place skin.table.align (row_columns cells) outer else 0 }
+    → before ≡ record { style = skin.paragraph.compound_style; count = left_of_place skin.table.align (row_columns skin cells) outer }
+    → after ≡ record { style = skin.paragraph.compound_style; count = if filled then right_of_place skin.table.align (row_columns skin cells) outer else 0 }
     → one ≡ old ++ pieces_bytes (spaces before.style before.count) → two ≡ one ++ linked_bytes a (linked_cells paint has runs skin ns cells) → three ≡ two ++ piece_bytes (vertical_piece skin).style (vertical_piece skin).text → new ≡ three ++ pieces_bytes (spaces after.style after.count)
     → new ≡ old ++ linked_bytes a (linked_table_row paint has runs skin outer filled ns cells)
 row_bytes paint has runs skin outer filled ns cells a before after old one two three new before_is after_is one_is two_is three_is new_is =
     let blank : CompoundStyle = skin.paragraph.compound_style in
     let text : List LinkedPiece = linked_cells paint has runs skin ns cells in
     let border : RowPiece = vertical_piece skin in
-    let wide : ℕ = right_of_place skin.table.align (row_columns cells) outer in
-    let left : List RowPiece = spaces blank (left_of_place skin.table.align (row_columns cells) outer) in
+    let wide : ℕ = right_of_place skin.table.align (row_columns skin cells) outer in
+    let left : List RowPiece = spaces blank (left_of_place skin.table.align (row_columns skin cells) outer) in
     let right : List RowPiece = if filled then spaces blank wide else [] in
     let e : linked_bytes a (linked_table_row paint has runs skin outer filled ns cells) ≡ pieces_bytes left ++ ((linked_bytes a text ++ piece_bytes border.style border.text) ++ pieces_bytes right) =
     plain_then a left ((text ++ in_no_link border ∷ []) ++ map in_no_link right)

@@ -14,7 +14,7 @@ use Rattle.mad_format.specs.declared.composite.FmtComposite.{FmtComposite}
 use Rattle.mad_format.specs.declared.line.FmtLine.{FmtLine}
 use Rattle.mad_format.specs.declared.line.FmtLine.TheVariants.{Normal, TableRow, TableRule, HorizontalRule}
 use Rattle.mad_rows.specs.RowStyles.{compound_style, line_style}
-use Rattle.mad_rows.specs.Rows.{cell_pieces, composite_pieces, compound_piece, inner_blanks, line_pieces, margins_of, outer_blanks, placed_pieces, prefix_pieces, row_columns, vertical_piece}
+use Rattle.mad_rows.specs.Rows.{cell_margins, cell_pieces, composite_pieces, compound_piece, inner_blanks, line_pieces, margins_of, outer_blanks, placed_pieces, prefix_pieces, row_columns, vertical_piece}
 use Rattle.mad_rows.specs.declared.row_skin.RowSkin.{RowSkin}
 use Rattle.mad_mark_runs.specs.Marks.{blank_value, value_at}
 use Rattle.mad_marks.specs.RowMarks.{counted}
@@ -76,7 +76,7 @@ unmarked_cells : (paint : ℕ → ContentStyle → ContentStyle) (has : Composit
     → marked_cells paint has [] skin ns cs ≡ flat_map (cell_pieces skin) cs
 unmarked_cells paint has skin ns [] plain whole = refl
 unmarked_cells paint has skin ns (c ∷ cs) plain whole =
-    ap (λ l. (vertical_piece skin ∷ l) ++ marked_cells paint has [] skin (drop 1 ns) cs) (unmarked_composite paint has skin None (0, 0) false (slice_index ns 0) c plain whole.0)
+    ap (λ l. (vertical_piece skin ∷ l) ++ marked_cells paint has [] skin (drop 1 ns) cs) (unmarked_composite paint has skin None (cell_margins skin) true (slice_index ns 0) c plain whole.0)
     ∙ ap (λ l. cell_pieces skin c ++ l) (unmarked_cells paint has skin (drop 1 ns) cs plain whole.1)
 
 -- THE LAW
@@ -84,6 +84,6 @@ pub line_unmarked : (paint : ℕ → ContentStyle → ContentStyle) (has : Compo
     → marked_line paint has [] skin outer filled numbers line ≡ line_pieces skin outer filled line
 line_unmarked paint has skin outer filled numbers (Normal l) plain whole = unmarked_composite paint has skin outer (margins_of skin outer l) filled (slice_index numbers 0) l plain whole.0
 line_unmarked paint has skin outer filled numbers (TableRow row) plain whole =
-    ap (λ l. placed_pieces skin outer filled (row_columns row.cells.items) (l ++ vertical_piece skin ∷ [])) (unmarked_cells paint has skin numbers row.cells.items plain whole)
+    ap (λ l. placed_pieces skin outer filled (row_columns skin row.cells.items) (l ++ vertical_piece skin ∷ [])) (unmarked_cells paint has skin numbers row.cells.items plain whole)
 line_unmarked paint has skin outer filled numbers (TableRule rule) plain whole = refl
 line_unmarked paint has skin outer filled numbers HorizontalRule plain whole = refl

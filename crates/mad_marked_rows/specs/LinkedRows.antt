@@ -1,5 +1,5 @@
 -- Rows with marks, each part in the link of its mark: `marked_line` with links.
-use Rattle.std.specs.Prelude.{ℕ, ◌+◌, Bool, false, List, [], ◌∷◌, ◌++◌, map, Option, None, chars, drop, slice_index, if◌then◌else◌}
+use Rattle.std.specs.Prelude.{ℕ, ◌+◌, Bool, true, List, [], ◌∷◌, ◌++◌, map, Option, None, chars, drop, slice_index, if◌then◌else◌}
 use Rattle.mad_md.specs.Flagged.{Flags, flagged_of, flags_of, run_of}
 use Rattle.mad_md.specs.declared.compound.Compound.{Compound}
 use Rattle.mad_term.specs.declared.styles.ContentStyle.{ContentStyle}
@@ -10,7 +10,7 @@ use Rattle.mad_format.specs.declared.composite.FmtComposite.{FmtComposite}
 use Rattle.mad_format.specs.declared.line.FmtLine.{FmtLine}
 use Rattle.mad_format.specs.declared.line.FmtLine.TheVariants.{Normal, TableRow}
 use Rattle.mad_rows.specs.RowStyles.{compound_style, line_style}
-use Rattle.mad_rows.specs.Rows.{compound_piece, left_of_place, line_pieces, margins_of, right_of_place, row_columns, vertical_piece}
+use Rattle.mad_rows.specs.Rows.{cell_margins, compound_piece, left_of_place, line_pieces, margins_of, right_of_place, row_columns, vertical_piece}
 use Rattle.mad_rows.specs.declared.row_skin.RowSkin.{RowSkin}
 use Rattle.mad_links.specs.LinkRows.{LinkedPiece}
 use Rattle.mad_links.specs.LinkedAreas.{in_no_link}
@@ -38,14 +38,14 @@ linked_composite paint has runs skin outer margins filled n l =
 abbrev pub linked_cells : (ℕ → ContentStyle → ContentStyle) → (CompositeKind → Flags → Bool) → List MarkRun → RowSkin → List ℕ → List FmtComposite → List LinkedPiece
 linked_cells paint has runs skin ns [] = []
 linked_cells paint has runs skin ns (c ∷ cs) =
-    (in_no_link (vertical_piece skin) ∷ linked_composite paint has runs skin None (0, 0) false (slice_index ns 0) c) ++ linked_cells paint has runs skin (drop 1 ns) cs
+    (in_no_link (vertical_piece skin) ∷ linked_composite paint has runs skin None (cell_margins skin) true (slice_index ns 0) c) ++ linked_cells paint has runs skin (drop 1 ns) cs
 
 -- a row of a table: its cells, and a last border, between blanks
 abbrev pub linked_table_row : (ℕ → ContentStyle → ContentStyle) → (CompositeKind → Flags → Bool) → List MarkRun → RowSkin → Option ℕ → Bool → List ℕ → List FmtComposite → List LinkedPiece
 linked_table_row paint has runs skin outer filled ns cells =
-    map in_no_link (spaces skin.paragraph.compound_style (left_of_place skin.table.align (row_columns cells) outer))
+    map in_no_link (spaces skin.paragraph.compound_style (left_of_place skin.table.align (row_columns skin cells) outer))
     ++ ((linked_cells paint has runs skin ns cells ++ in_no_link (vertical_piece skin) ∷ [])
-    ++ map in_no_link (if filled then spaces skin.paragraph.compound_style (right_of_place skin.table.align (row_columns cells) outer) else []))
+    ++ map in_no_link (if filled then spaces skin.paragraph.compound_style (right_of_place skin.table.align (row_columns skin cells) outer) else []))
 
 -- THE DEFINITION: a line at an outer width, with its margins
 abbrev pub linked_line : (ℕ → ContentStyle → ContentStyle) → (CompositeKind → Flags → Bool) → List MarkRun → RowSkin → Option ℕ → Bool → List ℕ → FmtLine → List LinkedPiece

@@ -1,5 +1,5 @@
 -- Rows with marks: the pieces of a line whose composites begin with these numbers.
-use Rattle.std.specs.Prelude.{ℕ, ◌+◌, Bool, false, List, [], ◌∷◌, ◌++◌, Option, None, chars, drop, slice_index, if◌then◌else◌}
+use Rattle.std.specs.Prelude.{ℕ, ◌+◌, Bool, true, List, [], ◌∷◌, ◌++◌, Option, None, chars, drop, slice_index, if◌then◌else◌}
 use Rattle.mad_md.specs.Flagged.{Flags, flagged_of, flags_of, run_of}
 use Rattle.mad_md.specs.declared.compound.Compound.{Compound}
 use Rattle.mad_term.specs.declared.styles.ContentStyle.{ContentStyle}
@@ -10,7 +10,7 @@ use Rattle.mad_format.specs.declared.composite.FmtComposite.{FmtComposite}
 use Rattle.mad_format.specs.declared.line.FmtLine.{FmtLine}
 use Rattle.mad_format.specs.declared.line.FmtLine.TheVariants.{Normal, TableRow}
 use Rattle.mad_rows.specs.RowStyles.{compound_style, line_style}
-use Rattle.mad_rows.specs.Rows.{compound_piece, inner_blanks, line_pieces, margins_of, outer_blanks, placed_pieces, prefix_pieces, row_columns, vertical_piece}
+use Rattle.mad_rows.specs.Rows.{cell_margins, compound_piece, inner_blanks, line_pieces, margins_of, outer_blanks, placed_pieces, prefix_pieces, row_columns, vertical_piece}
 use Rattle.mad_rows.specs.declared.row_skin.RowSkin.{RowSkin}
 use Rattle.mad_mark_runs.specs.declared.mark_runs.MarkRun.{MarkRun}
 use Rattle.mad_marks.specs.RowMarks.{counted}
@@ -42,12 +42,12 @@ marked_composite paint has runs skin outer margins filled n l =
 abbrev pub marked_cells : (ℕ → ContentStyle → ContentStyle) → (CompositeKind → Flags → Bool) → List MarkRun → RowSkin → List ℕ → List FmtComposite → List RowPiece
 marked_cells paint has runs skin ns [] = []
 marked_cells paint has runs skin ns (c ∷ cs) =
-    (vertical_piece skin ∷ marked_composite paint has runs skin None (0, 0) false (slice_index ns 0) c) ++ marked_cells paint has runs skin (drop 1 ns) cs
+    (vertical_piece skin ∷ marked_composite paint has runs skin None (cell_margins skin) true (slice_index ns 0) c) ++ marked_cells paint has runs skin (drop 1 ns) cs
 
 -- a row of a table: its cells, and a last border
 abbrev pub marked_table_row : (ℕ → ContentStyle → ContentStyle) → (CompositeKind → Flags → Bool) → List MarkRun → RowSkin → Option ℕ → Bool → List ℕ → List FmtComposite → List RowPiece
 marked_table_row paint has runs skin outer filled ns cells =
-    placed_pieces skin outer filled (row_columns cells) (marked_cells paint has runs skin ns cells ++ vertical_piece skin ∷ [])
+    placed_pieces skin outer filled (row_columns skin cells) (marked_cells paint has runs skin ns cells ++ vertical_piece skin ∷ [])
 
 -- THE DEFINITION: a line at an outer width, with its margins
 abbrev pub marked_line : (ℕ → ContentStyle → ContentStyle) → (CompositeKind → Flags → Bool) → List MarkRun → RowSkin → Option ℕ → Bool → List ℕ → FmtLine → List RowPiece

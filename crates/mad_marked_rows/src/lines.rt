@@ -13,8 +13,8 @@ use mad_format::{FmtComposite, FmtLine};
 use mad_links::LinkAddress;
 use mad_mark_runs::MarkRun;
 use mad_rows::{
-    PlacedComposite, PlacedLine, RowPlace, RowSkin, line_blanks, row_columns, spaces_beside,
-    vertical,
+    PlacedComposite, PlacedLine, RowPlace, RowSkin, cell_margins, line_blanks, row_columns,
+    spaces_beside, vertical,
 };
 use std::alloc::AllocError;
 
@@ -97,10 +97,11 @@ fn append_cells(
     requires { AreRising 0 skin.runs.now }
     ensures { OnOk result (string_bytes rows.new ≡ string_bytes rows.old ++ linked_bytes skin.entry.addresses.now (linked_cells (paint_by skin.entry.paint.styles.now) has_mark skin.entry.runs.now skin.entry.skin.now numbers.now cells.now)) }
 {
+    let margins = cell_margins(skin.skin);
     let place = RowPlace {
         outer: None,
-        margins: (0, 0),
-        filled: false,
+        margins,
+        filled: true,
     };
     let mut left = numbers;
     for cell in cells {
@@ -124,7 +125,7 @@ fn append_row(
     requires { AreRising 0 skin.runs.now }
     ensures { OnOk result (string_bytes rows.new ≡ string_bytes rows.old ++ linked_bytes skin.entry.addresses.now (linked_table_row (paint_by skin.entry.paint.styles.now) has_mark skin.entry.runs.now skin.entry.skin.now outer filled numbers.now cells.now)) }
 {
-    let columns = row_columns(cells);
+    let columns = row_columns(skin.skin, cells);
     let (left, right) = spaces_beside(skin.skin, columns, outer, filled);
     let border = vertical(skin.skin);
     write!(rows, "{left}")?;

@@ -29,7 +29,7 @@ use Rattle.mad_json.specs.Faults.{SkinFault, at_key, wrong_kind}
 use Rattle.mad_json.specs.ReadsBack.{ReadsBackChar, ReadsBackStyle}
 use Rattle.mad_json.specs.Texts.{and_next, of_text, value_said}
 use Rattle.mad_json.specs.Written.{char_data, style_data}
-use Rattle.mad_page_json.specs.Lookups.{at_fault, choice_found, columns_found, headings_under, part_found, parts_under, room_under, rules_found}
+use Rattle.mad_page_json.specs.Lookups.{at_fault, choice_found, choice_under, columns_found, headings_under, part_found, parts_under, room_under, rules_found}
 use Rattle.mad_page_json.specs.Named.{named_said}
 use Rattle.mad_page_json.specs.PageReading.{page_of, page_under}
 use Rattle.mad_page_json.specs.PageReadsBack.{PageReadsBack}
@@ -189,13 +189,16 @@ page_back skin d is styles chars h old same =
     let words : get_member (codes "marks") ms ≡ Some (boolean skin.headings.words) = found_before skin (codes "marks") refl refl in
     let columns : get_member (codes "columns") ms ≡ Some (number (unsigned skin.room.columns)) = found_before skin (codes "columns") refl refl in
     let margin : get_member (codes "margin") ms ≡ Some (number (unsigned skin.room.margin)) = found_before skin (codes "margin") refl refl in
+    let cells : get_member (codes "cell_blanks") ms ≡ Some (boolean skin.cell_blanks) = found_before skin (codes "cell_blanks") refl refl in
+    let cells_read : choice_under (codes "cell_blanks") (object ms) old.cell_blanks ≡ Ok skin.cell_blanks = ap (λ (found : Option Data). choice_found (codes "cell_blanks") found old.cell_blanks) cells in
     let drawn : AreThere char_data ms (char_parts skin) = all_kept style_data char_data (char_parts skin) (style_parts skin) second refl (all_there char_data (char_parts skin) first refl) in
     let styled : AreThere style_data ms (style_parts skin) = all_there style_data (style_parts skin) second refl in
     ap (page_under old) is
-    ∙ ap (λ r. and_next r (λ headings. and_next (room_under (object ms) old.room) (λ room. and_next (parts_under (styled_char_of 42) (object ms) (char_parts old) []) (λ cs. and_next (parts_under style_of (object ms) (style_parts old) []) (λ ss. Ok (page_of old headings room cs ss)))))) (headings_back ms skin.headings old.headings h.rules rules signs words)
-    ∙ ap (λ r. and_next r (λ room. and_next (parts_under (styled_char_of 42) (object ms) (char_parts old) []) (λ cs. and_next (parts_under style_of (object ms) (style_parts old) []) (λ ss. Ok (page_of old skin.headings room cs ss))))) (room_back ms skin.room old.room h.columns h.margin columns margin)
-    ∙ ap (λ r. and_next r (λ cs. and_next (parts_under style_of (object ms) (style_parts old) []) (λ ss. Ok (page_of old skin.headings skin.room cs ss)))) (parts_back (styled_char_of 42) char_data ms (char_parts old) (char_parts skin) [] refl (chars_said (char_parts skin) chars h.chars) drawn)
-    ∙ ap (λ r. and_next r (λ ss. Ok (page_of old skin.headings skin.room (map (λ (named : List ℕ × StyledChar). named.1) (char_parts skin)) ss))) (parts_back style_of style_data ms (style_parts old) (style_parts skin) [] refl (styles_said (style_parts skin) styles h.styles) styled)
+    ∙ ap (λ r. and_next r (λ headings. and_next (room_under (object ms) old.room) (λ room. and_next (choice_under (codes "cell_blanks") (object ms) old.cell_blanks) (λ b. and_next (parts_under (styled_char_of 42) (object ms) (char_parts old) []) (λ cs. and_next (parts_under style_of (object ms) (style_parts old) []) (λ ss. Ok (page_of old headings room b cs ss))))))) (headings_back ms skin.headings old.headings h.rules rules signs words)
+    ∙ ap (λ r. and_next r (λ room. and_next (choice_under (codes "cell_blanks") (object ms) old.cell_blanks) (λ b. and_next (parts_under (styled_char_of 42) (object ms) (char_parts old) []) (λ cs. and_next (parts_under style_of (object ms) (style_parts old) []) (λ ss. Ok (page_of old skin.headings room b cs ss)))))) (room_back ms skin.room old.room h.columns h.margin columns margin)
+    ∙ ap (λ r. and_next r (λ b. and_next (parts_under (styled_char_of 42) (object ms) (char_parts old) []) (λ cs. and_next (parts_under style_of (object ms) (style_parts old) []) (λ ss. Ok (page_of old skin.headings skin.room b cs ss))))) cells_read
+    ∙ ap (λ r. and_next r (λ cs. and_next (parts_under style_of (object ms) (style_parts old) []) (λ ss. Ok (page_of old skin.headings skin.room skin.cell_blanks cs ss)))) (parts_back (styled_char_of 42) char_data ms (char_parts old) (char_parts skin) [] refl (chars_said (char_parts skin) chars h.chars) drawn)
+    ∙ ap (λ r. and_next r (λ ss. Ok (page_of old skin.headings skin.room skin.cell_blanks (map (λ (named : List ℕ × StyledChar). named.1) (char_parts skin)) ss))) (parts_back style_of style_data ms (style_parts old) (style_parts skin) [] refl (styles_said (style_parts skin) styles h.styles) styled)
     ∙ ap (λ (text : MadSkin). Ok (record skin { text = text })) same
 
 -- ---- what was written

@@ -55,6 +55,10 @@ abbrev pub choice_found : List ℕ → Option Data → Bool → Result Bool Skin
 choice_found key None old = Ok old
 choice_found key (Some d) old = choice key (as_bool d)
 
+-- the same, as an object says it
+abbrev pub choice_under : List ℕ → Data → Bool → Result Bool SkinFault
+choice_under key d old = choice_found key (get key d) old
+
 -- which headings have rules and signs, and whether marks stand at words, as an object says it
 abbrev pub headings_under : Data → HeadingMarks → Result HeadingMarks SkinFault
 headings_under d old =

@@ -14,25 +14,30 @@ use Rattle.mad_page_skin.specs.declared.text_room.TextRoom.{TextRoom}
 use Rattle.mad_json.specs.Faults.{SkinFault, at_key, wrong_kind}
 use Rattle.mad_json.specs.Reading.{skin_read}
 use Rattle.mad_json.specs.Texts.{and_next}
-use Rattle.mad_page_json.specs.Lookups.{headings_under, parts_under, room_under}
+use Rattle.mad_page_json.specs.Lookups.{choice_under, headings_under, parts_under, room_under}
 use Rattle.mad_page_json.specs.Named.{has_key}
 use Rattle.mad_page_json.specs.Parts.{char_parts, style_parts, with_chars, with_styles}
 
 -- a skin with these parts
-abbrev pub page_of : PageSkin → HeadingMarks → TextRoom → List StyledChar → List CompoundStyle → PageSkin
-page_of skin headings room chars styles = with_styles (with_chars (record skin { headings = headings; room = room }) chars) styles
+abbrev pub page_of : PageSkin → HeadingMarks → TextRoom → Bool → List StyledChar → List CompoundStyle → PageSkin
+page_of skin headings room cells chars styles = with_styles (with_chars (record skin { headings = headings; room = room; cell_blanks = cells }) chars) styles
 
 -- a skin with the parts that an object says, each under its key; a drawn character that isn't told is `*`
 abbrev pub page_under : PageSkin → Data → Result PageSkin SkinFault
 page_under skin d =
     and_next (headings_under d skin.headings) (λ headings.
     and_next (room_under d skin.room) (λ room.
-    and_next (parts_under (styled_char_of 42) d (char_parts skin) []) (λ chars. and_next (parts_under style_of d (style_parts skin) []) (λ styles. Ok (page_of skin headings room chars styles)))))
+    and_next (choice_under (codes "cell_blanks") d skin.cell_blanks) (λ cells.
+    and_next (parts_under (styled_char_of 42) d (char_parts skin) []) (λ chars. and_next (parts_under style_of d (style_parts skin) []) (λ styles. Ok (page_of skin headings room cells chars styles))))))
+
+-- a key names one of the members before the parts
+abbrev pub is_first_key : List ℕ → Bool
+is_first_key key =
+    bytes_eq key (codes "cell_blanks") || (bytes_eq key (codes "columns") || (bytes_eq key (codes "margin") || (bytes_eq key (codes "marks") || (bytes_eq key (codes "rules") || bytes_eq key (codes "signs")))))
 
 -- a key names a part of a page
 abbrev pub is_page_key : PageSkin → List ℕ → Bool
-is_page_key skin key =
-    has_key key (style_parts skin) || (has_key key (char_parts skin) || (bytes_eq key (codes "columns") || (bytes_eq key (codes "margin") || (bytes_eq key (codes "marks") || (bytes_eq key (codes "rules") || bytes_eq key (codes "signs"))))))
+is_page_key skin key = has_key key (style_parts skin) || (has_key key (char_parts skin) || is_first_key key)
 
 -- the keys of members that name no part of a page, in byte order
 abbrev pub unknown_in : PageSkin → Members → List (List ℕ)

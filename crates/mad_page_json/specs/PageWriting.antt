@@ -1,5 +1,5 @@
 -- The value that the parts of a page's skin are written as.
-use Rattle.std.specs.Prelude.{◌≡◌, ℕ, List, [], ◌∷◌, codes}
+use Rattle.std.specs.Prelude.{◌≡◌, ℕ, Bool, List, [], ◌∷◌, codes}
 use Rattle.serde_json.specs.Data.{Data, Members, boolean, no_members, number, object, put, unsigned}
 use Rattle.mad_dressing.specs.declared.heading_marks.HeadingMarks.{HeadingMarks}
 use Rattle.mad_page_skin.specs.declared.page_skin.PageSkin.{PageSkin}
@@ -21,9 +21,13 @@ with_headings headings members =
 abbrev pub with_room : TextRoom → Members → Members
 with_room room members = put (codes "margin") (number (unsigned room.margin)) (put (codes "columns") (number (unsigned room.columns)) members)
 
+-- members with what says whether a blank is at both sides of each cell
+abbrev pub with_cells : Bool → Members → Members
+with_cells cells members = put (codes "cell_blanks") (boolean cells) members
+
 -- the members before the parts
 abbrev pub first_members : PageSkin → Members
-first_members skin = with_room skin.room (with_headings skin.headings no_members)
+first_members skin = with_cells skin.cell_blanks (with_room skin.room (with_headings skin.headings no_members))
 
 -- the object of a skin
 abbrev pub page_data : PageSkin → Data

@@ -3,7 +3,7 @@
 ghost use Rattle.std.specs.Prelude.{◌≡◌, ◌++◌, ◌∷◌, OnOk, [], Result, Ok, IfOk, IfErr, map, option_map};
 ghost use Rattle.serde_json.specs.View.{view};
 ghost use Rattle.mad_json.specs.Faults.{TellsSkin, TellsValue, ValueFault};
-ghost use Rattle.mad_page_json.specs.Lookups.{IsWrongType, at_fault, choice, choice_found, column_count, columns_found, headings_under, part_under, parts_under, room_under, rule_count, rules_found};
+ghost use Rattle.mad_page_json.specs.Lookups.{IsWrongType, at_fault, choice, choice_found, choice_under, column_count, columns_found, headings_under, part_under, parts_under, room_under, rule_count, rules_found};
 ghost use Rattle.mad_page_json.specs.Named.{named_said};
 
 use crate::named::Named;
@@ -141,6 +141,19 @@ fn choice(alloc: Global, key: &str, said: Option<bool>) -> Result<bool, SkinErro
     let Some(chosen) = said else {
         return Err(wrong_type(alloc, key));
     };
+    Ok(chosen)
+}
+
+/// True or false, as the member of this key says it, or as it was.
+///
+/// # Errors
+///
+/// The first fault, or out of memory.
+pub fn read_choice(alloc: Global, value: &Value, key: &str, old: bool) -> Result<bool, SkinError>
+    ensures ok { IfOk result (λ chosen. choice_under key.now (view value.now) old ≡ Ok chosen) }
+    ensures err { IfErr result (λ e. TellsSkin e (choice_under key.now (view value.now) old)) }
+{
+    let chosen = choice_of(alloc, key, value.get(key), old)?;
     Ok(chosen)
 }
 

@@ -3,9 +3,9 @@
 ghost use Rattle.std.specs.Prelude.{◌≡◌, ◌++◌, Ok, IfOk, IfErr, OnOk, map, string_bytes};
 ghost use Rattle.serde_json.specs.View.{members_view, view};
 ghost use Rattle.mad_json.specs.Faults.{TellsSkin};
-ghost use Rattle.mad_page_json.specs.PageReading.{is_page_key, others, page_of, page_skin_read, page_under, unknown_in};
+ghost use Rattle.mad_page_json.specs.PageReading.{is_first_key, is_page_key, others, page_of, page_skin_read, page_under, unknown_in};
 
-use crate::lookups::{read_headings, read_parts, read_room, wrong_type};
+use crate::lookups::{read_choice, read_headings, read_parts, read_room, wrong_type};
 use crate::named::has_key;
 use crate::parts::{char_parts, style_parts, with_chars, with_styles};
 use mad_dressing::HeadingMarks;
@@ -55,9 +55,10 @@ pub fn page_from_value(alloc: Global, skin: &PageSkin, value: &Value) -> Result<
 {
     let headings = read_headings(alloc, value, skin.headings)?;
     let room = read_room(alloc, value, skin.room)?;
+    let cell_blanks = read_choice(alloc, value, "cell_blanks", skin.cell_blanks)?;
     let chars = read_parts(alloc, value, &char_parts(skin))?;
     let styles = read_parts(alloc, value, &style_parts(skin))?;
-    Ok(page_of(*skin, headings, room, &chars, &styles))
+    Ok(page_of(*skin, headings, room, cell_blanks, &chars, &styles))
 }
 
 // A skin with these parts.
@@ -65,14 +66,16 @@ fn page_of(
     skin: PageSkin,
     headings: HeadingMarks,
     room: TextRoom,
+    cell_blanks: bool,
     chars: &[StyledChar],
     styles: &[CompoundStyle],
 ) -> PageSkin
-    ensures { result ≡ page_of skin headings room chars.now styles.now }
+    ensures { result ≡ page_of skin headings room cell_blanks chars.now styles.now }
 {
     let skin = PageSkin {
         headings,
         room,
+        cell_blanks,
         ..skin
     };
     with_styles(with_chars(skin, chars), styles)
@@ -111,11 +114,17 @@ fn push_unknown(
 fn is_page_key(skin: &PageSkin, key: &str) -> bool
     ensures { result ≡ is_page_key skin.now key.now }
 {
-    has_key(&style_parts(skin), key)
-        || has_key(&char_parts(skin), key)
+    has_key(&style_parts(skin), key) || has_key(&char_parts(skin), key) || is_first_key(key)
+}
+
+// Whether it names one of the members before the parts.
+fn is_first_key(key: &str) -> bool
+    ensures { result ≡ is_first_key key.now }
+{
+    key == "cell_blanks"
         || key == "columns"
         || key == "margin"
+        || key == "marks"
         || key == "rules"
         || key == "signs"
-        || key == "marks"
 }

@@ -8,7 +8,7 @@ ghost use Rattle.mad_json.specs.Written.{text_data};
 ghost use Rattle.mad_parse.specs.Written.{tokens_text};
 ghost use Rattle.mad_page_json.specs.Named.{named_said};
 ghost use Rattle.mad_page_json.specs.PageReadsBack.{PageReadsBack, PageSkinReadsBack};
-ghost use Rattle.mad_page_json.specs.PageWriting.{first_members, IsPageDataOf, page_data, with_headings, with_page, with_parts, with_room};
+ghost use Rattle.mad_page_json.specs.PageWriting.{first_members, IsPageDataOf, page_data, with_cells, with_headings, with_page, with_parts, with_room};
 
 use crate::named::Named;
 use crate::parts::{char_parts, style_parts};
@@ -70,6 +70,7 @@ fn first_members(alloc: Global, skin: &PageSkin) -> Result<Map<String, Value>, A
     let mut members = Map::new(alloc);
     put_headings(alloc, &mut members, skin.headings)?;
     put_room(alloc, &mut members, skin.room)?;
+    put_cells(alloc, &mut members, skin.cell_blanks)?;
     Ok(members)
 }
 
@@ -102,6 +103,17 @@ fn put_room(
 {
     put(members, alloc, "columns", Value::from(room.columns))?;
     put(members, alloc, "margin", Value::from(room.margin))
+}
+
+// Whether a blank is at both sides of each cell.
+fn put_cells(
+    alloc: Global,
+    members: &mut Map<String, Value>,
+    cell_blanks: bool,
+) -> Result<(), AllocError>
+    ensures { OnOk result (members_view members.new.entries ≡ with_cells cell_blanks (members_view members.old.entries)) }
+{
+    put(members, alloc, "cell_blanks", Value::from(cell_blanks))
 }
 
 // Parts under their keys.

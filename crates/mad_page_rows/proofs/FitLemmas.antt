@@ -23,6 +23,7 @@ use Rattle.mad_sections.specs.Gutters.{columns_of, shown_at, room_at}
 use Rattle.mad_sections.specs.Sections.{SectionContent}
 use Rattle.mad_sections.specs.declared.gutters.Gutter.{Gutter}
 use Rattle.mad_sections.proofs.RoomLemmas.{rooms_last, shown_are_last}
+use Rattle.mad_blocks.specs.Tables.{table_rules}
 use Rattle.mad_sections.specs.Unfolded.{unfolded}
 use Rattle.mad_format.specs.Lists.{EachBecomes}
 use Rattle.mad_pages.specs.PageLayouts.{IsSectionAt}
@@ -112,7 +113,7 @@ sections_fill skin width section rows three bound faces keeps s = all_fill skin 
 pub pages_fill : PagesFill
 pages_fill skin width [] rows three bound faces keeps h = subst (AllFill skin width) (sym h) tt
 pages_fill skin width (section ∷ page) rows three bound faces keeps (own, others, joins, becomes, more) =
-    let one : List SectionContent = unfolded (line_rules skin).whole_words (has_ascii_boxes skin) (Some width) section in
+    let one : List SectionContent = unfolded (table_rules (line_rules skin)) (has_ascii_boxes skin) (Some width) section in
     let here : AllFill skin width own = all_fill skin width own faces (shown_drawable skin width width one own three (omega arith) bound faces (all_front (KeepsRoom skin width) one (sections_at skin width page) keeps) becomes) in
     let rest : AllByRecursion (KeepsRoom skin width) (sections_at skin width page) = all_back (KeepsRoom skin width) one (sections_at skin width page) keeps in
     subst (AllFill skin width) (sym joins) (all_joined _ own others here (pages_fill skin width page others three bound faces rest more))

@@ -8,6 +8,7 @@ use Rattle.mad_blocks.specs.TextParts.{lines_in_parts}
 use Rattle.mad_layout.specs.Premises.{KeepsPremises}
 use Rattle.mad_sections.specs.Gutters.{room_at}
 use Rattle.mad_sections.specs.Sections.{SectionContent}
+use Rattle.mad_blocks.specs.Tables.{table_rules}
 use Rattle.mad_sections.specs.Unfolded.{unfolded}
 use Rattle.mad_pages.specs.PageLayouts.{IsSectionAt, IsPageAt}
 use Rattle.mad_pages.specs.PageRows.{RowContent}
@@ -30,7 +31,7 @@ SectionsFill = (skin : RowSkin) (width : ℕ) (section : SectionContent) (rows :
 
 -- the sections of a page that are shown at a width, a table that has no room as a list
 abbrev pub sections_at : RowSkin → ℕ → List SectionContent → List SectionContent
-sections_at skin width page = flat_map (unfolded (line_rules skin).whole_words (has_ascii_boxes skin) (Some width)) page
+sections_at skin width page = flat_map (unfolded (table_rules (line_rules skin)) (has_ascii_boxes skin) (Some width)) page
 
 -- so does each row of a page, where the sections that are shown keep the premises
 abbrev pub PagesFill : Type 0

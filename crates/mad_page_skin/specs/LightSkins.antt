@@ -1,5 +1,5 @@
 -- The skin for a light background.
-use Rattle.std.specs.Prelude.{false, replicate}
+use Rattle.std.specs.Prelude.{false, true, replicate}
 use Rattle.mad_md.specs.declared.alignment.Alignment.TheVariants.{Unspecified}
 use Rattle.mad_term.specs.declared.attribute.Attribute.TheVariants as attribute
 use Rattle.mad_style.specs.LineStyles.{unmargined}
@@ -87,4 +87,5 @@ light_page_skin =
       hit = on 16 221;
       status = on 236 251;
       room = readable_room;
+      cell_blanks = true;
     }

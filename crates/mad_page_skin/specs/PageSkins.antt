@@ -47,6 +47,7 @@ page_row_skin skin =
       picture = skin.picture;
       picture_sign = char_style skin.sign;
       whole_words = true;
+      cell_blanks = skin.cell_blanks;
       page = skin.page;
       head = skin.head;
       titles = skin.titles;
@@ -65,7 +66,8 @@ whole_room = record { margin = 0; columns = 0 }
 abbrev pub readable_room : TextRoom
 readable_room = record { margin = 2; columns = 100 }
 
--- The skin of a page by that of the smaller grammar: links look as there, headings have neither rules nor signs, words have no marks, and what is new
+-- The skin of a page by that of the smaller grammar: links look as there, headings have neither rules nor signs, words have no marks, and cells
+-- no blanks beside them. What is new
 -- has no style. In a pager numbers of links, hits and the last row are reversed, and the text has as many columns as there are.
 abbrev pub page_skin_of : MadSkin → PageSkin
 page_skin_of text =
@@ -83,4 +85,5 @@ page_skin_of text =
       hit = attributed attribute.Reverse;
       status = attributed attribute.Reverse;
       room = whole_room;
+      cell_blanks = false;
     }

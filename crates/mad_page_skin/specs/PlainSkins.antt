@@ -34,6 +34,6 @@ plain_signs =
       below_others = styled_char unstyled 0x2500;
     }
 
--- the skin without styles: the first two levels of headings have rules below, all others have signs in front, and marks stand at words
+-- the skin without styles: the first two levels of headings have rules below, all others have signs in front, marks stand at words, and blanks beside cells
 abbrev pub plain_skin : PageSkin
-plain_skin = record (page_skin_of plain_text) { page = plain_signs; headings = record { rules = 2; signs = true; words = true } }
+plain_skin = record (page_skin_of plain_text) { page = plain_signs; headings = record { rules = 2; signs = true; words = true }; cell_blanks = true }

@@ -1,5 +1,5 @@
 -- The skin for the terminal's own sixteen colors.
-use Rattle.std.specs.Prelude.{false, replicate}
+use Rattle.std.specs.Prelude.{false, true, replicate}
 use Rattle.mad_term.specs.declared.attribute.Attribute.TheVariants as attribute
 use Rattle.mad_style.specs.CompoundStyles.{unstyled}
 use Rattle.mad_style.specs.StyledChars.{styled_char}
@@ -83,4 +83,5 @@ sixteen_page_skin =
       hit = attributed attribute.Reverse;
       status = attributed attribute.Reverse;
       room = readable_room;
+      cell_blanks = true;
     }

@@ -39,6 +39,7 @@ impl PageSkin {
             hit: on(16, 221),
             status: on(252, 239),
             room: TextRoom::READABLE,
+            cell_blanks: true,
         }
     }
 }

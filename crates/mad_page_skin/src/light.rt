@@ -39,6 +39,7 @@ impl PageSkin {
             hit: on(16, 221),
             status: on(236, 251),
             room: TextRoom::READABLE,
+            cell_blanks: true,
         }
     }
 }

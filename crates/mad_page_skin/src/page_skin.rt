@@ -45,11 +45,13 @@ pub struct PageSkin {
     pub status: CompoundStyle,
     /// The columns that a pager gives the text.
     pub room: TextRoom,
+    /// Whether a blank is at both sides of each cell of a table.
+    pub cell_blanks: bool,
 }
 
 impl PageSkin {
     /// The skin of a page that looks as a skin of the smaller grammar does: links are underlined, where a flag of a compound adds anything.
-    /// Headings have neither rules nor signs, and words no marks. In front of pictures is `▣`.
+    /// Headings have neither rules nor signs, words no marks, and cells no blanks beside them. In front of pictures is `▣`.
     pub fn of(text: &MadSkin) -> PageSkin
         ensures skin { result ≡ page_skin_of text.now }
         ensures rows { page_row_skin result ≡ with_links (record (row_skin text.now) { whole_words = true }) }
@@ -75,6 +77,7 @@ impl PageSkin {
             hit: reversed,
             status: reversed,
             room: TextRoom::WHOLE,
+            cell_blanks: false,
         }
     }
 
@@ -97,6 +100,7 @@ impl PageSkin {
             picture: self.picture,
             picture_sign: *self.sign.compound_style(),
             whole_words: true,
+            cell_blanks: self.cell_blanks,
             page: self.page,
             head: self.head,
             titles: self.titles,

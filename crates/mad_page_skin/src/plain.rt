@@ -11,8 +11,8 @@ use mad_rows::PageStyles;
 use mad_style::{ROUNDED_TABLE_BORDER_CHARS, ScrollBarStyle, StyledChar};
 
 impl PageSkin {
-    /// The skin without styles: rules below the first two levels of headings, signs in front of all others, and marks at words. Code has no tones
-    /// in it.
+    /// The skin without styles: rules below the first two levels of headings, signs in front of all others, marks at words, and blanks beside cells.
+    /// Code has no tones in it.
     pub fn plain() -> PageSkin
         ensures skin { result ≡ plain_skin }
         ensures toneless { (page_row_skin result).tones ≡ None }
@@ -24,6 +24,7 @@ impl PageSkin {
                 signs: true,
                 words: true,
             },
+            cell_blanks: true,
             ..PageSkin::of(&plain_text())
         }
     }

@@ -37,6 +37,7 @@ impl PageSkin {
             hit: attributed(Attribute::Reverse),
             status: attributed(Attribute::Reverse),
             room: TextRoom::READABLE,
+            cell_blanks: true,
         }
     }
 }

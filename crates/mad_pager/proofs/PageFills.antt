@@ -20,6 +20,7 @@ use Rattle.mad_page_skin.specs.declared.page_skin.PageSkin.{PageSkin}
 use Rattle.mad_rows.specs.RowStyles.{line_rules}
 use Rattle.mad_rows.specs.declared.row_skin.RowSkin.{RowSkin}
 use Rattle.mad_sections.specs.Sections.{SectionContent}
+use Rattle.mad_blocks.specs.Tables.{table_rules}
 use Rattle.mad_sections.specs.Unfolded.{unfolded}
 use Rattle.mad_pages.specs.PageLayouts.{IsPageAt}
 use Rattle.mad_pages.specs.PageRows.{RowContent}
@@ -67,14 +68,14 @@ one_begun b n group page is =
 
 -- the sections that are shown of two pages
 sections_shown : (skin : RowSkin) (width : ℕ) (page more : List SectionContent) → sections_at skin width (page ++ more) ≡ sections_at skin width page ++ sections_at skin width more
-sections_shown skin width page more = flat_map-append (unfolded (line_rules skin).whole_words (has_ascii_boxes skin) (Some width)) page more
+sections_shown skin width page more = flat_map-append (unfolded (table_rules (line_rules skin)) (has_ascii_boxes skin) (Some width)) page more
 
 -- the rows of a group are drawn exactly, where what is shown of it keeps the premises
 group_drawable : (skin : RowSkin) (width drawn : ℕ) (group : List SectionContent) (rows : List RowContent) → 3 ≤ width → width ≤ drawn → drawn < 2 ^ 64 - 1 → AreFacesShown skin
     → AllByRecursion (KeepsRoom skin width) (sections_at skin width group) → IsPageAt (line_rules skin) (has_ascii_boxes skin) (Some width) group rows → AreDrawableBehind skin drawn rows
 group_drawable skin width drawn [] rows three wider bound faces keeps none = subst (AreDrawableBehind skin drawn) (sym none) tt
 group_drawable skin width drawn (section ∷ group) rows three wider bound faces keeps (own, others, are, becomes, h) =
-    let one : List SectionContent = unfolded (line_rules skin).whole_words (has_ascii_boxes skin) (Some width) section in
+    let one : List SectionContent = unfolded (table_rules (line_rules skin)) (has_ascii_boxes skin) (Some width) section in
     let more : List SectionContent = sections_at skin width group in
     subst (AreDrawableBehind skin drawn) (sym are)
     (all_joined (IsDrawableBehind skin drawn) own others (shown_drawable skin width drawn one own three wider bound faces (all_front (KeepsRoom skin width) one more keeps) becomes)

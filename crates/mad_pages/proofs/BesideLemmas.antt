@@ -15,6 +15,8 @@ use Rattle.mad_blocks.proofs.PartCursorLemmas as parts_laid
 use Rattle.mad_mark_runs.specs.declared.mark_runs.MarkRun.{MarkRun}
 use Rattle.mad_sections.specs.Gutters.{room, shown}
 use Rattle.mad_sections.specs.Sections.{SectionContent}
+use Rattle.mad_blocks.specs.Tables.{table_rules}
+use Rattle.mad_sections.specs.declared.table_rooms.TableRules.{TableRules}
 use Rattle.mad_sections.specs.Unfolded.{unfolded}
 use Rattle.mad_sections.specs.declared.gutters.Gutter.{Gutter}
 use Rattle.mad_pages.specs.PageLayouts.{IsSectionAt, BecomesAt, IsPageAt}
@@ -253,35 +255,35 @@ parts_become {B = B} P (x ∷ xs) ys rows (first, rest, are, here, h) =
 
 -- the rows of what is shown of a group are those of the group
 pub group_becomes : (rules : LineRules) (ascii : Bool) (width : Option ℕ) (group : List SectionContent) (rows : List RowContent)
-    → EachBecomes (IsSectionAt rules ascii width) (flat_map (unfolded rules.whole_words ascii width) group) rows → IsPageAt rules ascii width group rows
+    → EachBecomes (IsSectionAt rules ascii width) (flat_map (unfolded (table_rules rules) ascii width) group) rows → IsPageAt rules ascii width group rows
 group_becomes rules ascii width [] rows h = h
 group_becomes rules ascii width (section ∷ group) rows h =
-    let two = parts_become (IsSectionAt rules ascii width) (unfolded rules.whole_words ascii width section) (flat_map (unfolded rules.whole_words ascii width) group) rows h in
+    let two = parts_become (IsSectionAt rules ascii width) (unfolded (table_rules rules) ascii width section) (flat_map (unfolded (table_rules rules) ascii width) group) rows h in
     (two.0, two.1, two.2, two.3, group_becomes rules ascii width group two.1 two.4)
 
 -- a section, and one below it
-pub two_added : (rules : LineRules) (ascii : Bool) (width : Option ℕ) (section below : SectionContent) (group : List SectionContent) (old mid new : PagedPage) → group ≡ section ∷ below ∷ [] → AreAdded rules ascii width (unfolded rules.whole_words ascii width section) old mid
-    → AreAdded rules ascii width (unfolded rules.whole_words ascii width below) mid new → AreAdded rules ascii width (flat_map (unfolded rules.whole_words ascii width) group) old new
+pub two_added : (rules : LineRules) (ascii : Bool) (width : Option ℕ) (section below : SectionContent) (group : List SectionContent) (old mid new : PagedPage) → group ≡ section ∷ below ∷ [] → AreAdded rules ascii width (unfolded (table_rules rules) ascii width section) old mid
+    → AreAdded rules ascii width (unfolded (table_rules rules) ascii width below) mid new → AreAdded rules ascii width (flat_map (unfolded (table_rules rules) ascii width) group) old new
 two_added rules ascii width section below group old mid new is h k =
-    let one : List SectionContent = unfolded rules.whole_words ascii width section in
-    let other : List SectionContent = unfolded rules.whole_words ascii width below in
-    subst (λ (s : List SectionContent). AreAdded rules ascii width s old new) (ap (λ (s : List SectionContent). one ++ s) (sym (append-nil other)) ∙ ap (flat_map (unfolded rules.whole_words ascii width)) (sym is))
+    let one : List SectionContent = unfolded (table_rules rules) ascii width section in
+    let other : List SectionContent = unfolded (table_rules rules) ascii width below in
+    subst (λ (s : List SectionContent). AreAdded rules ascii width s old new) (ap (λ (s : List SectionContent). one ++ s) (sym (append-nil other)) ∙ ap (flat_map (unfolded (table_rules rules) ascii width)) (sym is))
     (added_join rules ascii width one other old mid new h k)
 
 -- the parts of what is shown of a group are those of the group
-pub group_parts : (whole_words ascii : Bool) (width : Option ℕ) (group : List SectionContent) → parts_shown ascii width (flat_map (unfolded whole_words ascii width) group) ≡ page_parts whole_words ascii width group
-group_parts whole_words ascii width [] = refl
-group_parts whole_words ascii width (section ∷ group) =
-    let one : List SectionContent = unfolded whole_words ascii width section in
-    flat_map_append (λ (s : SectionContent). parts_in (room ascii width s.gutters) s.lines) one (flat_map (unfolded whole_words ascii width) group)
-    ∙ ap (λ (ps : List PlacedPart). parts_shown ascii width one ++ ps) (group_parts whole_words ascii width group)
+pub group_parts : (rules : TableRules) (ascii : Bool) (width : Option ℕ) (group : List SectionContent) → parts_shown ascii width (flat_map (unfolded rules ascii width) group) ≡ page_parts rules ascii width group
+group_parts rules ascii width [] = refl
+group_parts rules ascii width (section ∷ group) =
+    let one : List SectionContent = unfolded rules ascii width section in
+    flat_map_append (λ (s : SectionContent). parts_in (room ascii width s.gutters) s.lines) one (flat_map (unfolded rules ascii width) group)
+    ∙ ap (λ (ps : List PlacedPart). parts_shown ascii width one ++ ps) (group_parts rules ascii width group)
 
 -- the parts of the pages of two lists of groups
-pub groups_parts : (whole_words ascii : Bool) (width : Option ℕ) (groups : List (List SectionContent)) (group : List SectionContent)
-    → page_parts whole_words ascii width (sections_in (groups ++ group ∷ [])) ≡ page_parts whole_words ascii width (sections_in groups) ++ page_parts whole_words ascii width group
-groups_parts whole_words ascii width groups group =
-    ap (page_parts whole_words ascii width) (flat_map_append (λ (g : List SectionContent). g) groups (group ∷ []) ∙ ap (λ (s : List SectionContent). sections_in groups ++ s) (append-nil group))
-    ∙ flat_map_append (λ (s : SectionContent). parts_shown ascii width (unfolded whole_words ascii width s)) (sections_in groups) group
+pub groups_parts : (rules : TableRules) (ascii : Bool) (width : Option ℕ) (groups : List (List SectionContent)) (group : List SectionContent)
+    → page_parts rules ascii width (sections_in (groups ++ group ∷ [])) ≡ page_parts rules ascii width (sections_in groups) ++ page_parts rules ascii width group
+groups_parts rules ascii width groups group =
+    ap (page_parts rules ascii width) (flat_map_append (λ (g : List SectionContent). g) groups (group ∷ []) ∙ ap (λ (s : List SectionContent). sections_in groups ++ s) (append-nil group))
+    ∙ flat_map_append (λ (s : SectionContent). parts_shown ascii width (unfolded rules ascii width s)) (sections_in groups) group
 
 -- ---- pages
 
@@ -302,7 +304,7 @@ nothing_paged rules ascii width all paged no_line no_front one one_part = record
 
 -- a group more
 pub group_paged : (rules : LineRules) (ascii : Bool) (width : Option ℕ) (all left : List (List SectionContent)) (group : List SectionContent) (old mid new : PagedPage)
-    → PagedSoFar rules ascii width all (group ∷ left) old → AreAdded rules ascii width (flat_map (unfolded rules.whole_words ascii width) group) old mid → mid.starts ≡ old.starts
+    → PagedSoFar rules ascii width all (group ∷ left) old → AreAdded rules ascii width (flat_map (unfolded (table_rules rules) ascii width) group) old mid → mid.starts ≡ old.starts
     → new.lines ≡ mid.lines → new.fronts ≡ mid.fronts → new.parts ≡ mid.parts → new.starts.items ≡ mid.starts.items ++ length mid.lines.items ∷ [] → PagedSoFar rules ascii width all left new
 group_paged rules ascii width all left group old mid new h added same same_lines same_fronts same_parts pushed =
     let so_far = h.is in
@@ -311,7 +313,7 @@ group_paged rules ascii width all left group old mid new h added same same_lines
     let count : length mid.lines.items ≡ length so_far.rows + length added.own =
     omega (arith, ap length added.lines, length-append old.lines.items (map line_of added.own), length-map added.own line_of, rows_count) in
     let starts : new.starts.items ≡ old.starts.items ++ (length so_far.rows + length added.own) ∷ [] = pushed ∙ ap (λ v. v.items ++ length mid.lines.items ∷ []) same ∙ ap (λ (n : ℕ). old.starts.items ++ n ∷ []) count in
-    let shown_here = page_parts rules.whole_words ascii width group in
+    let shown_here = page_parts (table_rules rules) ascii width group in
     record {
       front = h.front ++ group ∷ [];
       joins = h.joins ∙ sym (append_assoc h.front (group ∷ []) left);
@@ -322,9 +324,9 @@ group_paged rules ascii width all left group old mid new h added same same_lines
             (one_end (IsPageAt rules ascii width) group (length so_far.rows) added.own (group_becomes rules ascii width group added.own added.are)) refl starts;
         parts =
             subst (λ (ps : List PlacedPart). BeginIn (IsPartAt rules) ps new.lines.items new.parts.items)
-            (sym (groups_parts rules.whole_words ascii width h.front group))
-            (begin_more (IsPartAt rules) (page_parts rules.whole_words ascii width (sections_in h.front)) shown_here old.lines.items (map line_of added.own) new.lines.items old.parts.items added.ends new.parts.items so_far.parts
-            (subst (λ (ps : List PlacedPart). EndIn (IsPartAt rules) ps (length old.lines.items) (map line_of added.own) added.ends) (group_parts rules.whole_words ascii width group) added.end) lines
+            (sym (groups_parts (table_rules rules) ascii width h.front group))
+            (begin_more (IsPartAt rules) (page_parts (table_rules rules) ascii width (sections_in h.front)) shown_here old.lines.items (map line_of added.own) new.lines.items old.parts.items added.ends new.parts.items so_far.parts
+            (subst (λ (ps : List PlacedPart). EndIn (IsPartAt rules) ps (length old.lines.items) (map line_of added.own) added.ends) (group_parts (table_rules rules) ascii width group) added.end) lines
             (ap (λ v. v.items) same_parts ∙ added.parts));
         lines = lines ∙ ap (λ (l : List FmtLine). l ++ map line_of added.own) so_far.lines ∙ sym (map-append line_of so_far.rows added.own);
         fronts = ap (λ v. map front_content v.items) same_fronts ∙ added.fronts ∙ ap (λ (l : List FrontContent). l ++ map front_of added.own) so_far.fronts ∙ sym (map-append front_of so_far.rows added.own);
@@ -363,12 +365,12 @@ sections_text rules ascii width (section ∷ sections) rows (own, others, are, i
     (map line_of own, map line_of others, ap (map line_of) are ∙ map-append line_of own others, section_text rules ascii width section own is, sections_text rules ascii width sections others rest)
 
 page_text : (rules : LineRules) (ascii : Bool) (width : Option ℕ) (page : List SectionContent) (rows : List RowContent) → IsPageAt rules ascii width page rows
-    → EachBecomes (EachBecomes (IsTextAt rules ascii width)) (map (unfolded rules.whole_words ascii width) page) (map line_of rows)
+    → EachBecomes (EachBecomes (IsTextAt rules ascii width)) (map (unfolded (table_rules rules) ascii width) page) (map line_of rows)
 page_text rules ascii width [] rows h = ap (map line_of) h
 page_text rules ascii width (section ∷ page) rows (own, others, are, becomes, rest) =
-    (map line_of own, map line_of others, ap (map line_of) are ∙ map-append line_of own others, sections_text rules ascii width (unfolded rules.whole_words ascii width section) own becomes, page_text rules ascii width page others rest)
+    (map line_of own, map line_of others, ap (map line_of) are ∙ map-append line_of own others, sections_text rules ascii width (unfolded (table_rules rules) ascii width section) own becomes, page_text rules ascii width page others rest)
 
 -- the lines of a page are layouts of its texts, each in the room behind its gutters
 pub lines_are_the_texts : LinesAreTheTexts
 lines_are_the_texts rules ascii width groups paged is =
-    subst (λ (lines : List FmtLine). EachBecomes (EachBecomes (IsTextAt rules ascii width)) (map (unfolded rules.whole_words ascii width) (sections_in groups)) lines) (sym is.lines) (page_text rules ascii width (sections_in groups) is.rows (paged_rows rules ascii width groups paged is))
+    subst (λ (lines : List FmtLine). EachBecomes (EachBecomes (IsTextAt rules ascii width)) (map (unfolded (table_rules rules) ascii width) (sections_in groups)) lines) (sym is.lines) (page_text rules ascii width (sections_in groups) is.rows (paged_rows rules ascii width groups paged is))

@@ -12,6 +12,7 @@ use Rattle.mad_mark_runs.specs.declared.mark_runs.MarkRun.{MarkRun}
 use Rattle.mad_sections.specs.Gutters.{room, shown}
 use Rattle.mad_sections.specs.Sections.{SectionContent}
 use Rattle.mad_sections.specs.declared.gutters.Gutter.{Gutter}
+use Rattle.mad_blocks.specs.Tables.{table_rules}
 use Rattle.mad_sections.specs.Unfolded.{unfolded}
 use Rattle.mad_pages.specs.PageCursors.{LaidSection}
 use Rattle.mad_pages.specs.PageLaws.{IsPlainAt, PlainIsLayout, PagesJoin, SectionsAreLayouts, LaterRowsAreOther}
@@ -41,11 +42,11 @@ one_section : (rules : LineRules) (ascii : Bool) (width : Option ℕ) (section :
 one_section rules ascii width section own h = (own, [], sym (append-nil own), h, refl)
 
 -- a section that is shown as it is
-pub section_alone : (rules : LineRules) (ascii : Bool) (width : Option ℕ) (section shown : SectionContent) (own : List RowContent) → shown ∷ [] ≡ unfolded rules.whole_words ascii width section → IsSectionAt rules ascii width shown own → BecomesAt rules ascii width section own
+pub section_alone : (rules : LineRules) (ascii : Bool) (width : Option ℕ) (section shown : SectionContent) (own : List RowContent) → shown ∷ [] ≡ unfolded (table_rules rules) ascii width section → IsSectionAt rules ascii width shown own → BecomesAt rules ascii width section own
 section_alone rules ascii width section shown own is h = subst (λ (all : List SectionContent). EachBecomes (IsSectionAt rules ascii width) all own) is (one_section rules ascii width shown own h)
 
 -- one that is shown as a list
-pub section_list : (rules : LineRules) (ascii : Bool) (width : Option ℕ) (section : SectionContent) (items : List SectionContent) (own : List RowContent) → items ≡ unfolded rules.whole_words ascii width section → EachBecomes (IsSectionAt rules ascii width) items own → BecomesAt rules ascii width section own
+pub section_list : (rules : LineRules) (ascii : Bool) (width : Option ℕ) (section : SectionContent) (items : List SectionContent) (own : List RowContent) → items ≡ unfolded (table_rules rules) ascii width section → EachBecomes (IsSectionAt rules ascii width) items own → BecomesAt rules ascii width section own
 section_list rules ascii width section items own is h = subst (λ (all : List SectionContent). EachBecomes (IsSectionAt rules ascii width) all own) is h
 
 -- ---- the items of a list, one after the other

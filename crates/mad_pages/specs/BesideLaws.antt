@@ -6,6 +6,7 @@ use Rattle.mad_format.specs.declared.line.FmtLine.{FmtLine}
 use Rattle.mad_blocks.specs.Layouts.{IsLayoutAt}
 use Rattle.mad_sections.specs.Gutters.{room}
 use Rattle.mad_sections.specs.Sections.{SectionContent}
+use Rattle.mad_blocks.specs.Tables.{table_rules}
 use Rattle.mad_sections.specs.Unfolded.{unfolded}
 use Rattle.mad_pages.specs.Fronts.{front_at, row_behind}
 use Rattle.mad_pages.specs.PagedPages.{IsPagedAt, sections_in}
@@ -23,4 +24,4 @@ IsTextAt rules ascii width section lines = IsLayoutAt rules (room ascii width se
 -- The lines, in which is sought, are the layouts of the sections' texts, one after the other: without gutters, but each in the room behind its own.
 abbrev pub LinesAreTheTexts : Type 0
 LinesAreTheTexts = (rules : LineRules) (ascii : Bool) (width : Option ℕ) (groups : List (List SectionContent)) (paged : PagedPage) → IsPagedAt rules ascii width groups paged
-    → EachBecomes (EachBecomes (IsTextAt rules ascii width)) (map (unfolded rules.whole_words ascii width) (sections_in groups)) paged.lines.items
+    → EachBecomes (EachBecomes (IsTextAt rules ascii width)) (map (unfolded (table_rules rules) ascii width) (sections_in groups)) paged.lines.items

@@ -6,6 +6,7 @@ use Rattle.mad_format.specs.declared.line.FmtLine.{FmtLine}
 use Rattle.mad_blocks.specs.Layouts.{IsLayoutAt}
 use Rattle.mad_sections.specs.Gutters.{room, shown}
 use Rattle.mad_sections.specs.Sections.{SectionContent}
+use Rattle.mad_blocks.specs.Tables.{table_rules}
 use Rattle.mad_sections.specs.Unfolded.{unfolded}
 use Rattle.mad_pages.specs.PageRows.{RowContent, behind}
 
@@ -18,7 +19,7 @@ pub record IsSectionAt (rules : LineRules) (ascii : Bool) (width : Option ℕ) (
 
 -- what becomes of a section: the rows of those that are shown in its place
 abbrev pub BecomesAt : LineRules → Bool → Option ℕ → SectionContent → List RowContent → Type 0
-BecomesAt rules ascii width section rows = EachBecomes (IsSectionAt rules ascii width) (unfolded rules.whole_words ascii width section) rows
+BecomesAt rules ascii width section rows = EachBecomes (IsSectionAt rules ascii width) (unfolded (table_rules rules) ascii width section) rows
 
 -- the rows are those of a page: those of its sections, in order
 abbrev pub IsPageAt : LineRules → Bool → Option ℕ → List SectionContent → List RowContent → Type 0

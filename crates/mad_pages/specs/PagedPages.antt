@@ -9,6 +9,8 @@ use Rattle.mad_blocks.specs.Layouts.{IsLayoutAt}
 use Rattle.mad_blocks.specs.TextParts.{text_parts}
 use Rattle.mad_sections.specs.Gutters.{room}
 use Rattle.mad_sections.specs.Sections.{SectionContent}
+use Rattle.mad_blocks.specs.Tables.{table_rules}
+use Rattle.mad_sections.specs.declared.table_rooms.TableRules.{TableRules}
 use Rattle.mad_sections.specs.Unfolded.{unfolded}
 use Rattle.mad_pages.specs.PageLayouts.{IsPageAt, IsSectionAt}
 use Rattle.mad_pages.specs.PageRows.{RowContent}
@@ -43,8 +45,8 @@ abbrev pub parts_shown : Bool → Option ℕ → List SectionContent → List Pl
 parts_shown ascii width shown = flat_map (λ (section : SectionContent). parts_in (room ascii width section.gutters) section.lines) shown
 
 -- the parts of what is shown of a page
-abbrev pub page_parts : Bool → Bool → Option ℕ → List SectionContent → List PlacedPart
-page_parts whole_words ascii width page = flat_map (λ (section : SectionContent). parts_shown ascii width (unfolded whole_words ascii width section)) page
+abbrev pub page_parts : TableRules → Bool → Option ℕ → List SectionContent → List PlacedPart
+page_parts rules ascii width page = flat_map (λ (section : SectionContent). parts_shown ascii width (unfolded rules ascii width section)) page
 
 -- lines are the layout of a part in its room
 abbrev pub IsPartAt : LineRules → PlacedPart → List FmtLine → Type 0
@@ -61,7 +63,7 @@ sections_in groups = flat_map (λ (group : List SectionContent). group) groups
 pub record IsPagedAt (rules : LineRules) (ascii : Bool) (width : Option ℕ) (groups : List (List SectionContent)) (paged : PagedPage) : Type 0 where
   pub rows : List RowContent
   pub groups_begin : BeginIn (IsPageAt rules ascii width) groups rows paged.starts.items
-  pub parts : BeginIn (IsPartAt rules) (page_parts rules.whole_words ascii width (sections_in groups)) paged.lines.items paged.parts.items
+  pub parts : BeginIn (IsPartAt rules) (page_parts (table_rules rules) ascii width (sections_in groups)) paged.lines.items paged.parts.items
   pub lines : paged.lines.items ≡ map line_of rows
   pub fronts : map front_content paged.fronts.items ≡ map front_of rows
 

@@ -7,10 +7,11 @@ use Rattle.mad_format.specs.FmtLines.{bordered}
 use Rattle.mad_format.specs.LineRules.{LineRules}
 use Rattle.mad_format.specs.declared.line.FmtLine.{FmtLine}
 use Rattle.mad_blocks.specs.Layouts.{AreRead}
-use Rattle.mad_blocks.specs.Tables.{centered, AreKeptWidths, AreTableLinesBy}
+use Rattle.mad_blocks.specs.Tables.{centered, table_rules, with_blanks, AreSetWidths, AreTableLinesBy}
 use Rattle.mad_sections.specs.Gutters.{room_at}
 use Rattle.mad_sections.specs.Sections.{SectionContent}
 use Rattle.mad_sections.specs.declared.gutters.Gutter.{Gutter}
+use Rattle.mad_sections.specs.declared.table_rooms.TableRules.{TableRules}
 use Rattle.mad_sections.specs.TableTexts.{are_table, columns_count, rows_in, longest_in, has_room}
 use Rattle.mad_sections.specs.UnfoldLaws.{IsListOf}
 use Rattle.mad_sections.specs.Unfolded.{unfolded}
@@ -31,7 +32,7 @@ pub record IsWholeTable (rules : LineRules) (room : ℕ) (table : List LineConte
   pub read : List FmtLine
   pub reads : AreRead rules table read
   pub widths : List ℕ
-  pub kept : AreKeptWidths rules.whole_words (columns_count table) room read widths
+  pub kept : AreSetWidths rules.whole_words rules.cell_blanks (columns_count table) room read widths
   pub laid : AreTableLinesBy IsCompositeWrap rules widths (centered widths) true read lines
   pub all : length widths ≡ columns_count table
   pub words : rules.whole_words ≡ true → KeepWords widths (columns_of (columns_count table) (rows_in table))
@@ -40,9 +41,10 @@ pub record IsWholeTable (rules : LineRules) (room : ℕ) (table : List LineConte
 abbrev pub TablesAreWhole : Type 0
 TablesAreWhole = (rules : LineRules) (ascii : Bool) (width : ℕ) (section : SectionContent) (gutters : List Gutter) (rows : List RowContent) → width < 2 ^ 64
     → are_table section.lines ≡ true → 0 < columns_count section.lines → rows_in section.lines ≢ [] → section.list ≡ Some gutters → BecomesAt rules ascii (Some width) section rows
-    → IsListOf section (unfolded rules.whole_words ascii (Some width) section) ⊎ IsWholeTable rules (room_at ascii width section.gutters) section.lines (map (λ (row : RowContent). row.line) rows)
+    → IsListOf section (unfolded (table_rules rules) ascii (Some width) section) ⊎ IsWholeTable rules (room_at ascii width section.gutters) section.lines (map (λ (row : RowContent). row.line) rows)
 
--- Where a table has no room, no widths of three and more that fit side by side are as many as its columns, and where words stay whole keep them.
+-- Where a table has no room, no widths of three and more that fit side by side with their blanks are as many as its columns, and where words stay
+-- whole keep them.
 abbrev pub ListsAreNeeded : Type 0
-ListsAreNeeded = (whole_words : Bool) (room : ℕ) (table : List LineContent) (widths : List ℕ) → has_room whole_words room table ≡ false → AllByRecursion (λ (w : ℕ). 3 ≤ w) widths → bordered widths + 1 ≤ room
-    → length widths ≡ columns_count table → (whole_words ≡ true → KeepWords widths (columns_of (columns_count table) (rows_in table))) → ⊥
+ListsAreNeeded = (rules : TableRules) (room : ℕ) (table : List LineContent) (widths : List ℕ) → has_room rules room table ≡ false → AllByRecursion (λ (w : ℕ). 3 ≤ w) widths → bordered (with_blanks rules.cell_blanks widths) + 1 ≤ room
+    → length widths ≡ columns_count table → (rules.whole_words ≡ true → KeepWords widths (columns_of (columns_count table) (rows_in table))) → ⊥

@@ -9,7 +9,7 @@ ghost use Rattle.mad_pages.specs.PageCursors.{sections_left};
 
 use crate::page_cursor::PageCursor;
 use crate::page_rows::{PageRow, push_behind};
-use mad_blocks::lay_text;
+use mad_blocks::{lay_text, table_rules};
 use mad_format::LineSkin;
 use mad_sections::{Page, Section, Unfolded, room_behind, unfold};
 use std::alloc::{AllocError, Global};
@@ -73,7 +73,7 @@ pub fn push_section<'s, S: LineSkin>(
 ) -> Result<(), AllocError>
     ensures { OnOk result ((own : List RowContent) × (map row_content rows.new.items ≡ map row_content rows.old.items ++ own) × BecomesAt (S.rules skin.now) ascii width (section_content section.entry) own) }
 {
-    match unfold(alloc, section, width, ascii, skin.whole_words())? {
+    match unfold(alloc, section, width, ascii, table_rules(skin))? {
         Unfolded::Itself(section) => push_folded(alloc, rows, section, width, ascii, skin),
         Unfolded::Items(items) => push_items(alloc, rows, items, width, ascii, skin),
     }

@@ -7,12 +7,13 @@ ghost use Rattle.mad_md.specs.Lines.{contents};
 ghost use Rattle.mad_format.specs.declared.line.FmtLine.{FmtLine};
 ghost use Rattle.mad_dressing.specs.Dressed.{sections_dressed};
 ghost use Rattle.mad_sections.specs.Sections.{section_content};
+ghost use Rattle.mad_blocks.specs.Tables.{table_rules};
 ghost use Rattle.mad_sections.specs.Unfolded.{unfolded};
 ghost use Rattle.mad_pages.specs.Fronts.{front_content};
 ghost use Rattle.mad_pages.specs.PagedPages.{AreAdded, ArePartsAdded, IsPagedAt};
 
 use crate::fronts::{Front, push_fronts};
-use mad_blocks::PartCursor;
+use mad_blocks::{PartCursor, table_rules};
 use mad_dressing::Dressed;
 use mad_format::{FmtLine, LineSkin};
 use mad_md::Text;
@@ -83,7 +84,7 @@ impl<'s> PagedPage<'s> {
         ascii: bool,
         skin: &S,
     ) -> Result<(), AllocError>
-        ensures added { OnOk result (AreAdded (S.rules skin.now) ascii width (flat_map (unfolded (S.rules skin.now).whole_words ascii width) (sections_dressed dressed.entry)) self.old self.new) }
+        ensures added { OnOk result (AreAdded (S.rules skin.now) ascii width (flat_map (unfolded (table_rules (S.rules skin.now)) ascii width) (sections_dressed dressed.entry)) self.old self.new) }
         ensures starts { OnOk result (self.new.starts ≡ self.old.starts) }
     {
         self.push_section(alloc, dressed.section, width, ascii, skin)?;
@@ -105,10 +106,10 @@ impl<'s> PagedPage<'s> {
         ascii: bool,
         skin: &S,
     ) -> Result<(), AllocError>
-        ensures added { OnOk result (AreAdded (S.rules skin.now) ascii width (unfolded (S.rules skin.now).whole_words ascii width (section_content section.entry)) self.old self.new) }
+        ensures added { OnOk result (AreAdded (S.rules skin.now) ascii width (unfolded (table_rules (S.rules skin.now)) ascii width (section_content section.entry)) self.old self.new) }
         ensures starts { OnOk result (self.new.starts ≡ self.old.starts) }
     {
-        match unfold(alloc, section, width, ascii, skin.whole_words())? {
+        match unfold(alloc, section, width, ascii, table_rules(skin))? {
             Unfolded::Itself(section) => self.push_shown(alloc, section, width, ascii, skin),
             Unfolded::Items(items) => self.push_items(alloc, items, width, ascii, skin),
         }

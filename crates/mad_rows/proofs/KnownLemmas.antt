@@ -26,7 +26,7 @@ use Rattle.mad_draw.specs.TableRules.{rule_pieces}
 use Rattle.mad_draw.specs.declared.table_rules.RuleChars.{RuleChars}
 use Rattle.mad_draw.proofs.PieceLemmas.{known_both, char_repeat_known, spaces_known, single_known}
 use Rattle.mad_draw.proofs.RuleLemmas.{rule_known}
-use Rattle.mad_rows.specs.Rows.{compound_piece, prefix_pieces, inner_blanks, outer_blanks, composite_pieces, cell_pieces, line_pieces, row_pieces, margins_of, left_of_place, right_of_place, placed_pieces, row_columns, rule_chars, vertical_piece}
+use Rattle.mad_rows.specs.Rows.{compound_piece, prefix_pieces, inner_blanks, outer_blanks, composite_pieces, cell_margins, cell_pieces, line_pieces, row_pieces, margins_of, left_of_place, right_of_place, placed_pieces, row_columns, rule_chars, vertical_piece}
 use Rattle.mad_rows.specs.RowStyles.{AreKnownStyles, IsKnownItem, IsKnownLine, compound_style, ellipsis_bytes, line_style, ordered_item_style, overwritten_if}
 use Rattle.mad_rows.specs.declared.row_skin.RowSkin.{RowSkin}
 
@@ -125,7 +125,7 @@ composite_known skin outer margins right l h =
 
 cells_known : (skin : RowSkin) (cells : List FmtComposite) → AreKnownStyles skin → AreKnown (flat_map (cell_pieces skin) cells)
 cells_known skin [] h = tt
-cells_known skin (cell ∷ cells) h = known_both (cell_pieces skin cell) (flat_map (cell_pieces skin) cells) (h.parts.table, composite_known skin None (0, 0) false cell h) (cells_known skin cells h)
+cells_known skin (cell ∷ cells) h = known_both (cell_pieces skin cell) (flat_map (cell_pieces skin) cells) (h.parts.table, composite_known skin None (cell_margins skin) true cell h) (cells_known skin cells h)
 
 placed_known : (skin : RowSkin) (outer : Option ℕ) (right : Bool) (n : ℕ) (ps : List RowPiece) → AreKnownStyles skin → AreKnown ps → AreKnown (placed_pieces skin outer right n ps)
 placed_known skin outer right n ps h own =
@@ -138,7 +138,7 @@ line_pieces_known : (skin : RowSkin) (outer : Option ℕ) (right : Bool) (line :
 line_pieces_known skin outer right (Normal l) h = composite_known skin outer (margins_of skin outer l) right l h
 line_pieces_known skin outer right (TableRow row) h =
     let cells : List FmtComposite = row.cells.items in
-    placed_known skin outer right (row_columns cells) (flat_map (cell_pieces skin) cells ++ vertical_piece skin ∷ []) h (known_both (flat_map (cell_pieces skin) cells) (vertical_piece skin ∷ []) (cells_known skin cells h) (h.parts.table, tt))
+    placed_known skin outer right (row_columns skin cells) (flat_map (cell_pieces skin) cells ++ vertical_piece skin ∷ []) h (known_both (flat_map (cell_pieces skin) cells) (vertical_piece skin ∷ []) (cells_known skin cells h) (h.parts.table, tt))
 line_pieces_known skin outer right (TableRule rule) h =
     let chars : RuleChars = rule_chars skin.table_border_chars rule.position in
     placed_known skin outer right (rule_columns rule.widths.items) (rule_pieces skin.table.compound_style chars rule.widths.items) h (rule_known skin.table.compound_style chars rule.widths.items h.parts.table)

@@ -114,8 +114,8 @@ placed_bytes skin outer right n before after ps left_is right_is =
 
 -- cells, and a last border between blanks
 pub row_bytes : (skin : RowSkin) (outer : Option ℕ) (right : Bool) (before after : Spaces) (cells all : List FmtComposite) → cells ≡ all
-    → before ≡ record { style = skin.paragraph.compound_style; count = left_of_place skin.table.align (row_columns all) outer }
-    → after ≡ record { style = skin.paragraph.compound_style; count = if right then right_of_place skin.table.align (row_columns all) outer else 0 }
+    → before ≡ record { style = skin.paragraph.compound_style; count = left_of_place skin.table.align (row_columns skin all) outer }
+    → after ≡ record { style = skin.paragraph.compound_style; count = if right then right_of_place skin.table.align (row_columns skin all) outer else 0 }
     → spaces_bytes before ++ (pieces_bytes (flat_map (cell_pieces skin) cells) ++ (piece_bytes (vertical_piece skin).style (vertical_piece skin).text ++ spaces_bytes after)) ≡ pieces_bytes (table_row_pieces skin outer right all)
 row_bytes skin outer right before after cells all same left_is right_is =
     let border : RowPiece = vertical_piece skin in
@@ -124,7 +124,7 @@ row_bytes skin outer right before after cells all same left_is right_is =
     ap (λ (cs : List FmtComposite). spaces_bytes before ++ (pieces_bytes (flat_map (cell_pieces skin) cs) ++ (text ++ spaces_bytes after))) same
     ∙ ap (λ bs. spaces_bytes before ++ bs) (sym (append_assoc (pieces_bytes own) text (spaces_bytes after)))
     ∙ ap (λ bs. spaces_bytes before ++ ((pieces_bytes own ++ bs) ++ spaces_bytes after)) (sym (bytes_one border))
-    ∙ ap (λ bs. spaces_bytes before ++ (bs ++ spaces_bytes after)) (sym (bytes_both own (border ∷ []))) ∙ placed_bytes skin outer right (row_columns all) before after (own ++ border ∷ []) left_is right_is
+    ∙ ap (λ bs. spaces_bytes before ++ (bs ++ spaces_bytes after)) (sym (bytes_both own (border ∷ []))) ∙ placed_bytes skin outer right (row_columns skin all) before after (own ++ border ∷ []) left_is right_is
 
 -- a rule between blanks
 pub table_rule_bytes : (skin : RowSkin) (outer : Option ℕ) (right : Bool) (before after : Spaces) (rule : FmtTableRule) (ends : RuleChars) (ws : List ℕ) → ws ≡ rule.widths.items → ends ≡ rule_chars skin.table_border_chars rule.position

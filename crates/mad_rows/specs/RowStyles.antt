@@ -37,7 +37,7 @@ line_style skin kind = style_of_kind skin.paragraph skin.headers skin.code_block
 
 -- what laying out lines asks of the skin
 abbrev pub line_rules : RowSkin → LineRules
-line_rules skin = record { list_items_indentation_mode = skin.list_items_indentation_mode; whole_words = skin.whole_words; line_style = line_style skin }
+line_rules skin = record { list_items_indentation_mode = skin.list_items_indentation_mode; whole_words = skin.whole_words; cell_blanks = skin.cell_blanks; line_style = line_style skin }
 
 -- the bytes of the ellipsis …
 abbrev pub ellipsis_bytes : List ℕ

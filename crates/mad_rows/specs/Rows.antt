@@ -25,6 +25,7 @@ use Rattle.mad_format.specs.declared.table.RelativePosition.TheVariants.{Top, Ot
 use Rattle.mad_style.specs.OrderedItems.{ordered_indent}
 use Rattle.mad_format.specs.Indents.{later_indent}
 use Rattle.mad_format.specs.FmtLines.{bordered, rule_columns}
+use Rattle.mad_format.specs.LineRules.{around_cell, beside_cell}
 use Rattle.mad_draw.specs.Pieces.{RowPiece, pieces_bytes, char_piece, char_repeat, spaces, single_spaces}
 use Rattle.mad_draw.specs.TableRules.{border_piece, rule_pieces}
 use Rattle.mad_draw.specs.declared.table_rules.RuleChars.{RuleChars}
@@ -145,17 +146,25 @@ placed_pieces skin outer filled columns ps =
 abbrev pub vertical_piece : RowSkin → RowPiece
 vertical_piece skin = border_piece skin.table.compound_style skin.table_border_chars.vertical
 
--- a border, and after it a cell in its own place, without margins
+-- the blank columns left and right of a cell
+abbrev pub cell_margins : RowSkin → ℕ × ℕ
+cell_margins skin = (beside_cell skin.cell_blanks, beside_cell skin.cell_blanks)
+
+-- a border, and after it a cell in its own place, between its blanks
 abbrev pub cell_pieces : RowSkin → FmtComposite → List RowPiece
-cell_pieces skin cell = vertical_piece skin ∷ composite_pieces skin None (0, 0) false cell
+cell_pieces skin cell = vertical_piece skin ∷ composite_pieces skin None (cell_margins skin) true cell
+
+-- the columns of a cell in its row: those of its own place, and its blanks
+abbrev pub cell_columns : RowSkin → FmtComposite → ℕ
+cell_columns skin cell = inner_columns cell + around_cell skin.cell_blanks
 
 -- the columns of a row of cells: each has a border before it, and one more is the last
-abbrev pub row_columns : List FmtComposite → ℕ
-row_columns cells = 1 + bordered (map inner_columns cells)
+abbrev pub row_columns : RowSkin → List FmtComposite → ℕ
+row_columns skin cells = 1 + bordered (map (cell_columns skin) cells)
 
 -- a row of a table: its cells, and a last border
 abbrev pub table_row_pieces : RowSkin → Option ℕ → Bool → List FmtComposite → List RowPiece
-table_row_pieces skin outer filled cells = placed_pieces skin outer filled (row_columns cells) (flat_map (cell_pieces skin) cells ++ vertical_piece skin ∷ [])
+table_row_pieces skin outer filled cells = placed_pieces skin outer filled (row_columns skin cells) (flat_map (cell_pieces skin) cells ++ vertical_piece skin ∷ [])
 
 -- the characters of a rule, by its position in its table: corners or junctions at its ends, a junction or a cross between two columns
 abbrev pub rule_chars : TableBorderChars → RelativePosition → RuleChars
@@ -186,14 +195,18 @@ row_pieces skin width None = spaces skin.paragraph.compound_style width
 -- ---- the columns that no text fills
 
 -- those of a composite in its own place
-abbrev pub cell_blanks : FmtComposite → ℕ
-cell_blanks l = (inner_blanks l).0 + (inner_blanks l).1
+abbrev pub own_blanks : FmtComposite → ℕ
+own_blanks l = (inner_blanks l).0 + (inner_blanks l).1
+
+-- those of a cell, in its own place and beside it
+abbrev pub cell_blanks : RowSkin → FmtComposite → ℕ
+cell_blanks skin l = own_blanks l + around_cell skin.cell_blanks
 
 -- those of a composite, in its own place and beside it; those right of the place only where the row is filled up
 abbrev pub composite_blanks : RowSkin → Option ℕ → ℕ × ℕ → Bool → FmtComposite → ℕ
 composite_blanks skin outer margins filled l =
     let blanks = blanks_beside (line_style skin l.kind).align outer margins filled l in
-    cell_blanks l + (blanks.0 + blanks.1)
+    own_blanks l + (blanks.0 + blanks.1)
 
 -- those left and right of a line of a table that takes `columns`; those right of it only where the row is filled up
 abbrev pub table_blanks : RowSkin → Option ℕ → Bool → ℕ → ℕ × ℕ
@@ -206,8 +219,8 @@ table_blanks skin outer filled columns = (
 abbrev pub line_blanks : RowSkin → Option ℕ → Bool → FmtLine → ℕ
 line_blanks skin outer filled (Normal l) = composite_blanks skin outer (margins_of skin outer l) filled l
 line_blanks skin outer filled (TableRow row) =
-    let beside = table_blanks skin outer filled (row_columns row.cells.items) in
-    sum_by cell_blanks row.cells.items + (beside.0 + beside.1)
+    let beside = table_blanks skin outer filled (row_columns skin row.cells.items) in
+    sum_by (cell_blanks skin) row.cells.items + (beside.0 + beside.1)
 line_blanks skin outer filled (TableRule rule) =
     let beside = table_blanks skin outer filled (rule_columns rule.widths.items) in
     rule_columns rule.widths.items + (beside.0 + beside.1)

@@ -27,8 +27,8 @@ pub use row_skin::{
 };
 pub use row_writing::{TextRows, append_line, append_lines};
 pub use rows::{
-    RowPlace, composite_blanks, inner_blanks, inner_columns, know_row, know_styles, line_blanks,
-    margins_of, outer_blanks, row_blanks, row_columns,
+    RowPlace, cell_columns, cell_margins, composite_blanks, inner_blanks, inner_columns, know_row,
+    know_styles, line_blanks, margins_of, outer_blanks, row_blanks, row_columns,
 };
 pub use style_commands::StyleCommands;
 pub use tables::{spaces_beside, vertical};

@@ -68,6 +68,8 @@ pub struct RowSkin {
     pub list_items_indentation_mode: ListItemsIndentationMode,
     /// Whether a word that fits on a line stays whole, over compounds.
     pub whole_words: bool,
+    /// Whether a blank is at both sides of each cell of a table.
+    pub cell_blanks: bool,
     /// How what a page shows beside its text looks.
     pub page: PageStyles,
     /// What the heads of a page's tables add to bold text.
@@ -163,6 +165,10 @@ impl LineSkin for RowSkin {
 
     fn whole_words(&self) -> bool {
         self.whole_words
+    }
+
+    fn cell_blanks(&self) -> bool {
+        self.cell_blanks
     }
 
     fn style_of(&self, kind: CompositeKind) -> &LineStyle {

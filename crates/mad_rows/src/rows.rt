@@ -4,14 +4,14 @@ ghost use Rattle.std.specs.Prelude.{◌≡◌, ◌<◌, ◌+◌, ◌^◌, ℕ};
 ghost use Rattle.std.specs.Option.{option_copied};
 ghost use Rattle.mad_draw.specs.Pieces.{AreKnown};
 ghost use Rattle.std.specs.List.{AllByRecursion, sum_by};
-ghost use Rattle.mad_rows.specs.Rows.{row_pieces, inner_blanks, inner_columns, outer_blanks, blanks_beside, margins_of, row_blanks, line_blanks, composite_blanks, table_blanks, cell_blanks, row_columns, rule_chars};
+ghost use Rattle.mad_rows.specs.Rows.{row_pieces, inner_blanks, inner_columns, outer_blanks, blanks_beside, margins_of, row_blanks, line_blanks, composite_blanks, table_blanks, own_blanks, cell_blanks, cell_columns, cell_margins, row_columns, rule_chars};
 ghost use Rattle.mad_rows.specs.RowStyles.{AreKnownParts, AreKnownSigns, AreKnownStyles, AreKnownTitles, IsKnownItem, IsKnownLine, IsKnownTone};
 ghost use Rattle.mad_wrap.specs.WrapLines.{capped};
 
 use crate::page_styles::{PageStyles, TitleStyles};
 use crate::row_skin::RowSkin;
 use mad_draw::RuleChars;
-use mad_format::{FmtComposite, FmtLine, RelativePosition, rule_columns};
+use mad_format::{FmtComposite, FmtLine, RelativePosition, around_cell, beside_cell, rule_columns};
 use mad_md::Alignment;
 use mad_measure::Spacing;
 use mad_style::{CompoundStyle, LineStyle, OrderedItemStyle, TableBorderChars};
@@ -79,14 +79,29 @@ pub fn margins_of(skin: &RowSkin, composite: &FmtComposite, outer: Option<usize>
     }
 }
 
+/// The blank columns left and right of a cell of a table.
+pub fn cell_margins(skin: &RowSkin) -> (usize, usize)
+    ensures { result ≡ cell_margins skin.now }
+{
+    let beside = beside_cell(skin.cell_blanks);
+    (beside, beside)
+}
+
+/// The columns of a cell in its row: those of its own place, and its blanks. Sums stay at `usize::MAX`.
+pub fn cell_columns(skin: &RowSkin, cell: &FmtComposite) -> usize
+    ensures { result ≡ capped (cell_columns skin.now cell.now) }
+{
+    inner_columns(cell).saturating_add(around_cell(skin.cell_blanks))
+}
+
 /// The columns of a row of cells: each has a border before it, and one more is the last.
-pub fn row_columns(cells: &[FmtComposite]) -> usize
-    ensures { result ≡ capped (row_columns cells.now) }
+pub fn row_columns(skin: &RowSkin, cells: &[FmtComposite]) -> usize
+    ensures { result ≡ capped (row_columns skin.now cells.now) }
 {
     let mut columns: usize = 0;
     for cell in cells {
         columns = columns
-            .saturating_add(inner_columns(cell))
+            .saturating_add(cell_columns(skin, cell))
             .saturating_add(1);
     }
     columns.saturating_add(1)
@@ -143,8 +158,8 @@ pub fn line_blanks(skin: &RowSkin, line: &FmtLine, outer: Option<usize>, filled:
             composite_blanks(skin, composite, place)
         }
         FmtLine::TableRow(row) => {
-            let (left, right) = table_blanks(skin, row_columns(&row.cells), outer, filled);
-            cells_blanks(&row.cells).saturating_add(left + right)
+            let (left, right) = table_blanks(skin, row_columns(skin, &row.cells), outer, filled);
+            cells_blanks(skin, &row.cells).saturating_add(left + right)
         }
         FmtLine::TableRule(rule) => {
             let columns = rule_columns(&rule.widths);
@@ -161,7 +176,7 @@ pub fn composite_blanks(skin: &RowSkin, composite: &FmtComposite, place: RowPlac
 {
     let align = skin.line_style(composite.kind).align;
     let (left, right) = blanks_beside(composite, align, place);
-    cell_blanks(composite)
+    own_blanks(composite)
         .saturating_add(left)
         .saturating_add(right)
 }
@@ -182,20 +197,27 @@ pub(crate) fn table_blanks(
 }
 
 // The blank columns of a composite in its own place.
-fn cell_blanks(cell: &FmtComposite) -> usize
-    ensures { result ≡ capped (cell_blanks cell.now) }
+fn own_blanks(composite: &FmtComposite) -> usize
+    ensures { result ≡ capped (own_blanks composite.now) }
 {
-    let (left, right) = inner_blanks(cell);
+    let (left, right) = inner_blanks(composite);
     left.saturating_add(right)
 }
 
+// The blank columns of a cell, in its own place and beside it.
+fn cell_blanks(skin: &RowSkin, cell: &FmtComposite) -> usize
+    ensures { result ≡ capped (cell_blanks skin.now cell.now) }
+{
+    own_blanks(cell).saturating_add(around_cell(skin.cell_blanks))
+}
+
 // The same of all cells of a row.
-fn cells_blanks(cells: &[FmtComposite]) -> usize
-    ensures { result ≡ capped (sum_by cell_blanks cells.now) }
+fn cells_blanks(skin: &RowSkin, cells: &[FmtComposite]) -> usize
+    ensures { result ≡ capped (sum_by (cell_blanks skin.now) cells.now) }
 {
     let mut columns: usize = 0;
     for cell in cells {
-        columns = columns.saturating_add(cell_blanks(cell));
+        columns = columns.saturating_add(cell_blanks(skin, cell));
     }
     columns
 }

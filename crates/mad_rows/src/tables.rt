@@ -8,7 +8,7 @@ ghost use Rattle.mad_style.specs.StyledChars.{styled_char};
 
 use crate::composites::PlacedComposite;
 use crate::row_skin::RowSkin;
-use crate::rows::{RowPlace, row_columns, rule_chars, table_blanks};
+use crate::rows::{RowPlace, cell_margins, row_columns, rule_chars, table_blanks};
 use mad_draw::{RuleAcross, Spaces};
 use mad_format::{FmtComposite, FmtTableRow, FmtTableRule, rule_columns};
 use mad_style::StyledChar;
@@ -29,14 +29,15 @@ impl fmt::Display for Cells<'_, '_> {
 
     fn fmt<W: fmt::Write>(&self, f: &mut fmt::Formatter<W>) -> fmt::Result {
         let border = vertical(self.skin);
+        let margins = cell_margins(self.skin);
         for composite in self.cells {
             let placed = PlacedComposite {
                 skin: self.skin,
                 composite,
                 place: RowPlace {
                     outer: None,
-                    margins: (0, 0),
-                    filled: false,
+                    margins,
+                    filled: true,
                 },
             };
             write!(f, "{border}{placed}")?;
@@ -82,7 +83,7 @@ impl fmt::Display for PlacedTableRow<'_, '_> {
     ghost output = { λ r. Some (pieces_bytes (table_row_pieces r.skin.now r.outer r.filled r.row.now.cells.items)) };
 
     fn fmt<W: fmt::Write>(&self, f: &mut fmt::Formatter<W>) -> fmt::Result {
-        let columns = row_columns(&self.row.cells);
+        let columns = row_columns(self.skin, &self.row.cells);
         let (left, right) = spaces_beside(self.skin, columns, self.outer, self.filled);
         let cells = Cells {
             skin: self.skin,

@@ -12,6 +12,7 @@ use Rattle.mad_sections.specs.Gutters.{room, room_at}
 use Rattle.mad_sections.specs.Sections.{SectionContent}
 use Rattle.mad_sections.specs.declared.gutters.Gutter.{Gutter}
 use Rattle.mad_sections.specs.Items.{paragraph, colon, label, cell_lines, row_lines, or_blank, item_lines, text_length, runs_length, are_short, says_heads, items_of}
+use Rattle.mad_sections.specs.declared.table_rooms.TableRules.{TableRules}
 use Rattle.mad_sections.specs.TableTexts.{runs_text, cell_text, are_table, rows_in, has_room}
 use Rattle.mad_sections.specs.Unfolded.{lacks_room, list_sections, as_list, unfolded_in, unfolded}
 use Rattle.mad_sections.specs.UnfoldLaws.{lines_text, row_text, IsMadeOfBoth, labels_text, KeepsRow, first_fresh, IsListOf, NothingIsLost, Stay, columns_of, LabelsAreShort, ItemsAreShort}
@@ -156,10 +157,10 @@ list_by room section gutters (heads ∷ rows) is table list =
     (λ said. is_list section gutters heads rows table list (inr (sym is, some_rows room heads rows said)))
     (λ unsaid. is_list section gutters [] (heads ∷ rows) table list (inl (refl, is)))
 
-is_table_of : (whole : Bool) (room : ℕ) (lines : List LineContent) → lacks_room whole room lines ≡ true → are_table lines ≡ true
+is_table_of : (whole : TableRules) (room : ℕ) (lines : List LineContent) → lacks_room whole room lines ≡ true → are_table lines ≡ true
 is_table_of whole room lines h = by_bool (λ t. (t && not (length (rows_in lines) == 0) && not (has_room whole room lines)) ≡ true → t ≡ true) (are_table lines) (λ e k. refl) (λ e k. k) h
 
-kept_in : (whole : Bool) (room : Option ℕ) (list : Option (List Gutter)) (section : SectionContent) → section.list ≡ list
+kept_in : (whole : TableRules) (room : Option ℕ) (list : Option (List Gutter)) (section : SectionContent) → section.list ≡ list
     → (unfolded_in whole room list section ≡ section ∷ []) ⊎ IsListOf section (unfolded_in whole room list section)
 kept_in whole None list section is = inl refl
 kept_in whole (Some room) None section is = inl refl
@@ -169,7 +170,7 @@ kept_in whole (Some room) (Some gutters) section is =
     (λ has. inl refl)
 
 -- a table that has no room is a list
-pub list_when : (whole ascii : Bool) (width : ℕ) (section : SectionContent) (gutters : List Gutter) → section.list ≡ Some gutters → lacks_room whole (room_at ascii width section.gutters) section.lines ≡ true
+pub list_when : (whole : TableRules) (ascii : Bool) (width : ℕ) (section : SectionContent) (gutters : List Gutter) → section.list ≡ Some gutters → lacks_room whole (room_at ascii width section.gutters) section.lines ≡ true
     → IsListOf section (unfolded whole ascii (Some width) section)
 list_when whole ascii width section gutters is lacks =
     let all : as_list (room_at ascii width section.gutters) gutters section ≡ unfolded whole ascii (Some width) section =
@@ -178,7 +179,7 @@ list_when whole ascii width section gutters is lacks =
     subst (IsListOf section) all (list_by (room_at ascii width section.gutters) section gutters (rows_in section.lines) refl (is_table_of whole (room_at ascii width section.gutters) section.lines lacks) is)
 
 -- one that has room stays
-pub stays_when : (whole ascii : Bool) (width : ℕ) (section : SectionContent) (gutters : List Gutter) → section.list ≡ Some gutters → lacks_room whole (room_at ascii width section.gutters) section.lines ≡ false
+pub stays_when : (whole : TableRules) (ascii : Bool) (width : ℕ) (section : SectionContent) (gutters : List Gutter) → section.list ≡ Some gutters → lacks_room whole (room_at ascii width section.gutters) section.lines ≡ false
     → unfolded whole ascii (Some width) section ≡ section ∷ []
 stays_when whole ascii width section gutters is has =
     ap (λ (list : Option (List Gutter)). unfolded_in whole (Some (room_at ascii width section.gutters)) list section) is
@@ -190,20 +191,20 @@ nothing_is_lost whole ascii width section = kept_in whole (room ascii width sect
 
 -- ---- what stays
 
-unlisted_in : (whole : Bool) (room : Option ℕ) (section : SectionContent) → unfolded_in whole room None section ≡ section ∷ []
+unlisted_in : (whole : TableRules) (room : Option ℕ) (section : SectionContent) → unfolded_in whole room None section ≡ section ∷ []
 unlisted_in whole None section = refl
 unlisted_in whole (Some room) section = refl
 
-no_list : (whole ascii : Bool) (width : Option ℕ) (section : SectionContent) → section.list ≡ None → unfolded whole ascii width section ≡ section ∷ []
+no_list : (whole : TableRules) (ascii : Bool) (width : Option ℕ) (section : SectionContent) → section.list ≡ None → unfolded whole ascii width section ≡ section ∷ []
 no_list whole ascii width section none = ap (λ (list : Option (List Gutter)). unfolded_in whole (room ascii width section.gutters) list section) none ∙ unlisted_in whole (room ascii width section.gutters) section
 
-items_stay : (whole ascii : Bool) (width : Option ℕ) (gutters : List Gutter) (fresh : ℕ) (items : List (List LineContent)) → flat_map (unfolded whole ascii width) (list_sections gutters fresh items) ≡ list_sections gutters fresh items
+items_stay : (whole : TableRules) (ascii : Bool) (width : Option ℕ) (gutters : List Gutter) (fresh : ℕ) (items : List (List LineContent)) → flat_map (unfolded whole ascii width) (list_sections gutters fresh items) ≡ list_sections gutters fresh items
 items_stay whole ascii width gutters fresh [] = refl
 items_stay whole ascii width gutters fresh (lines ∷ items) =
     let own : SectionContent = record { gutters = gutters; fresh = fresh + 1; list = None; marks = []; lines = lines } in
     ap (λ (one : List SectionContent). one ++ flat_map (unfolded whole ascii width) (list_sections gutters 0 items)) (no_list whole ascii width own refl) ∙ ap (λ (more : List SectionContent). own ∷ more) (items_stay whole ascii width gutters 0 items)
 
-stay_in : (whole ascii : Bool) (width : Option ℕ) (room : Option ℕ) (list : Option (List Gutter)) (section : SectionContent)
+stay_in : (whole : TableRules) (ascii : Bool) (width : Option ℕ) (room : Option ℕ) (list : Option (List Gutter)) (section : SectionContent)
     → (unfolded_in whole room list section ≡ section ∷ []) ⊎ (flat_map (unfolded whole ascii width) (unfolded_in whole room list section) ≡ unfolded_in whole room list section)
 stay_in whole ascii width None list section = inl refl
 stay_in whole ascii width (Some room) None section = inl refl

@@ -11,6 +11,7 @@ use Rattle.mad_md.specs.declared.compound.Compound.{Compound}
 use Rattle.mad_md.specs.declared.composite.Composite.{Composite}
 use Rattle.mad_md.specs.declared.line.Line.{Line}
 use Rattle.mad_sections.specs.CellWords.{capped, longest_word}
+use Rattle.mad_sections.specs.declared.table_rooms.TableRules.{TableRules}
 use Rattle.mad_sections.specs.TableTexts.{runs_text, cell_text, rows_in, columns_in, columns_count, longest_in, least_width, least_widths, stand_in}
 use Rattle.mad_sections.proofs.Choices.{by_bool}
 
@@ -103,12 +104,12 @@ rows_all [] = refl
 rows_all (row ∷ rows) = ap (λ (more : List (List StyledRuns)). row ∷ more) (rows_all rows)
 
 -- each column has a least width
-pub widths_count : (whole : Bool) (n : ℕ) (rows : List (List StyledRuns)) → length (least_widths whole n rows) ≡ n
+pub widths_count : (whole : TableRules) (n : ℕ) (rows : List (List StyledRuns)) → length (least_widths whole n rows) ≡ n
 widths_count whole zero rows = refl
 widths_count whole (suc n) rows = ap suc (widths_count whole n (map (drop 1) rows))
 
 -- the columns from one on fit side by side in what is left, a border before each
-unfoldable pub fit_from : Bool → ℕ → List (List StyledRuns) → ℕ → ℕ → Bool
+unfoldable pub fit_from : TableRules → ℕ → List (List StyledRuns) → ℕ → ℕ → Bool
 fit_from whole count rows column left = nat_le (sum (least_widths whole (count - column) (map (drop column) rows)) + (count - column)) left
 
 is_within : (m n : ℕ) → m ≤ n → nat_le m n ≡ true
@@ -130,7 +131,7 @@ same_test a b c d to back =
     (λ off. sym (by_bool (λ t. t ≡ false) (nat_le c d) (λ on. let less = past_by a b off in let more = back (within_by c d on) in absurd (omega (arith, less, more))) (λ e. refl)))
 
 -- all columns fit where they stand side by side in the room
-pub fit_first : (whole : Bool) (count room : ℕ) (rows : List (List StyledRuns)) → 0 < room → fit_from whole count rows 0 (room - 1) ≡ stand_in room (least_widths whole count rows)
+pub fit_first : (whole : TableRules) (count room : ℕ) (rows : List (List StyledRuns)) → 0 < room → fit_from whole count rows 0 (room - 1) ≡ stand_in room (least_widths whole count rows)
 unfolding fit_from
 fit_first whole count room rows some =
     let all : least_widths whole (count - 0) (map (drop 0) rows) ≡ least_widths whole count rows =
@@ -145,7 +146,7 @@ pub fits_never : (ws : List ℕ) (room : ℕ) → room ≡ 0 → stand_in room w
 fits_never ws room none = not_within (sum ws + length ws + 1) room (omega arith)
 
 -- behind the last column all columns fit
-pub fit_last : (whole : Bool) (count column left : ℕ) (rows : List (List StyledRuns)) → count ≤ column → fit_from whole count rows column left ≡ true
+pub fit_last : (whole : TableRules) (count column left : ℕ) (rows : List (List StyledRuns)) → count ≤ column → fit_from whole count rows column left ≡ true
 unfolding fit_from
 fit_last whole count column left rows past =
     let none : count - column ≡ 0 = omega arith in
@@ -153,7 +154,7 @@ fit_last whole count column left rows past =
     is_within (sum (least_widths whole (count - column) (map (drop column) rows)) + (count - column)) left (omega (arith, total, none))
 
 -- the next column, and those behind it
-one_column : (whole : Bool) (count column : ℕ) (rows : List (List StyledRuns)) → column < count
+one_column : (whole : TableRules) (count column : ℕ) (rows : List (List StyledRuns)) → column < count
     → sum (least_widths whole (count - column) (map (drop column) rows)) ≡ least_width whole (flat_map (take 1) (map (drop column) rows)) + sum (least_widths whole (count - (column + 1)) (map (drop (column + 1)) rows))
 one_column whole count column rows inside =
     let more : count - column ≡ suc (count - (column + 1)) = omega arith in
@@ -163,7 +164,7 @@ one_column whole count column rows inside =
     omega (arith, first, both, rest)
 
 -- where a column and its border have room, those behind it fit in what is left exactly where all do
-pub fit_on : (whole : Bool) (count column left width : ℕ) (rows : List (List StyledRuns)) → column < count → left < 2 ^ 64 → width ≡ capped (least_width whole (flat_map (take 1) (map (drop column) rows))) → width < left
+pub fit_on : (whole : TableRules) (count column left width : ℕ) (rows : List (List StyledRuns)) → column < count → left < 2 ^ 64 → width ≡ capped (least_width whole (flat_map (take 1) (map (drop column) rows))) → width < left
     → fit_from whole count rows (column + 1) (left - (width + 1)) ≡ fit_from whole count rows column left
 unfolding fit_from
 fit_on whole count column left width rows inside bound is some =
@@ -172,7 +173,7 @@ fit_on whole count column left width rows inside bound is some =
     (λ h. omega (arith, one, is, h)) (λ h. omega (arith, one, is, h))
 
 -- where a column leaves nothing for its border, the columns don't fit
-pub fit_no_more : (whole : Bool) (count column left width : ℕ) (rows : List (List StyledRuns)) → column < count → width ≡ capped (least_width whole (flat_map (take 1) (map (drop column) rows))) → left ≤ width
+pub fit_no_more : (whole : TableRules) (count column left width : ℕ) (rows : List (List StyledRuns)) → column < count → width ≡ capped (least_width whole (flat_map (take 1) (map (drop column) rows))) → left ≤ width
     → fit_from whole count rows column left ≡ false
 unfolding fit_from
 fit_no_more whole count column left width rows inside is past =

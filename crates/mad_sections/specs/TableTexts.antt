@@ -4,6 +4,7 @@ use Rattle.std.specs.List.{flat_map}
 use Rattle.mad_md.specs.Flagged.{FlaggedChar, Run, flagged}
 use Rattle.mad_md.specs.Lines.{StyledRuns, LineContent, table_row, table_rule}
 use Rattle.mad_sections.specs.CellWords.{longest_word}
+use Rattle.mad_sections.specs.declared.table_rooms.TableRules.{TableRules}
 
 -- the flagged text of runs
 abbrev pub runs_text : List Run → List FlaggedChar
@@ -44,19 +45,23 @@ abbrev pub longest_in : List StyledRuns → ℕ
 longest_in [] = 0
 longest_in (cell ∷ cells) = max (longest_word (cell_text cell)) (longest_in cells)
 
--- the least width of a column with these cells: three, or where words stay whole its longest word, if that has more
-abbrev pub least_width : Bool → List StyledRuns → ℕ
-least_width whole_words cells = if whole_words then max 3 (longest_in cells) else 3
+-- the least width of the text of a column with these cells: three, or where words stay whole its longest word, if that has more
+abbrev pub least_text : Bool → List StyledRuns → ℕ
+least_text whole_words cells = if whole_words then max 3 (longest_in cells) else 3
+
+-- the least width of such a column: that of its text, and its blanks
+abbrev pub least_width : TableRules → List StyledRuns → ℕ
+least_width rules cells = least_text rules.whole_words cells + (if rules.cell_blanks then 2 else 0)
 
 -- the least widths of the first n columns of rows; a short row has no cell in the last ones
-abbrev pub least_widths : Bool → ℕ → List (List StyledRuns) → List ℕ
-least_widths whole_words zero rows = []
-least_widths whole_words (suc n) rows = least_width whole_words (flat_map (take 1) rows) ∷ least_widths whole_words n (map (drop 1) rows)
+abbrev pub least_widths : TableRules → ℕ → List (List StyledRuns) → List ℕ
+least_widths rules zero rows = []
+least_widths rules (suc n) rows = least_width rules (flat_map (take 1) rows) ∷ least_widths rules n (map (drop 1) rows)
 
 -- columns of these widths fit side by side, each with a border at its left, and one at the end
 abbrev pub stand_in : ℕ → List ℕ → Bool
 stand_in room widths = nat_le (sum widths + length widths + 1) room
 
 -- a table has room: its columns at their least widths fit side by side
-abbrev pub has_room : Bool → ℕ → List LineContent → Bool
-has_room whole_words room lines = stand_in room (least_widths whole_words (columns_count lines) (rows_in lines))
+abbrev pub has_room : TableRules → ℕ → List LineContent → Bool
+has_room rules room lines = stand_in room (least_widths rules (columns_count lines) (rows_in lines))

@@ -8,6 +8,7 @@ use Rattle.mad_sections.specs.Sections.{SectionContent}
 use Rattle.mad_sections.specs.declared.gutters.Gutter.{Gutter}
 use Rattle.mad_sections.specs.Items.{paragraph, label, item_lines, says_heads}
 use Rattle.mad_sections.specs.TableTexts.{runs_text, cell_text, are_table, rows_in}
+use Rattle.mad_sections.specs.declared.table_rooms.TableRules.{TableRules}
 use Rattle.mad_sections.specs.Unfolded.{unfolded}
 
 -- ---- what is said
@@ -66,14 +67,14 @@ pub record IsListOf (section : SectionContent) (items : List SectionContent) : T
 
 -- A section is shown as it is, or as the list of its table.
 abbrev pub NothingIsLost : Type 0
-NothingIsLost = (whole_words ascii : Bool) (width : Option ℕ) (section : SectionContent) → (unfolded whole_words ascii width section ≡ section ∷ []) ⊎ IsListOf section (unfolded whole_words ascii width section)
+NothingIsLost = (rules : TableRules) (ascii : Bool) (width : Option ℕ) (section : SectionContent) → (unfolded rules ascii width section ≡ section ∷ []) ⊎ IsListOf section (unfolded rules ascii width section)
 
 -- without a width, and where no gutters of a list are told, each section stays
 pub record Stay : Type 0 where
-  pub unlimited : (whole_words ascii : Bool) (section : SectionContent) → unfolded whole_words ascii None section ≡ section ∷ []
-  pub unlisted : (whole_words ascii : Bool) (width : Option ℕ) (section : SectionContent) → section.list ≡ None → unfolded whole_words ascii width section ≡ section ∷ []
-  pub items : (whole_words ascii : Bool) (width : Option ℕ) (section : SectionContent) → (unfolded whole_words ascii width section ≡ section ∷ [])
-      ⊎ (flat_map (unfolded whole_words ascii width) (unfolded whole_words ascii width section) ≡ unfolded whole_words ascii width section)
+  pub unlimited : (rules : TableRules) (ascii : Bool) (section : SectionContent) → unfolded rules ascii None section ≡ section ∷ []
+  pub unlisted : (rules : TableRules) (ascii : Bool) (width : Option ℕ) (section : SectionContent) → section.list ≡ None → unfolded rules ascii width section ≡ section ∷ []
+  pub items : (rules : TableRules) (ascii : Bool) (width : Option ℕ) (section : SectionContent) → (unfolded rules ascii width section ≡ section ∷ [])
+      ⊎ (flat_map (unfolded rules ascii width) (unfolded rules ascii width section) ≡ unfolded rules ascii width section)
 
 -- ---- how much is said
 

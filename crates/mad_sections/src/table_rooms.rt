@@ -4,7 +4,7 @@ ghost use Rattle.std.specs.Prelude.{◌≡◌, ◌==◌, ◌∷◌, [], not, map
 ghost use Rattle.std.specs.List.{flat_map};
 ghost use Rattle.mad_md.specs.Lines.{content_of};
 ghost use Rattle.mad_sections.specs.CellWords.{capped};
-ghost use Rattle.mad_sections.specs.TableTexts.{are_table, columns_count, columns_in, has_room, least_width, longest_in, rows_in};
+ghost use Rattle.mad_sections.specs.TableTexts.{are_table, columns_count, columns_in, has_room, least_text, least_width, longest_in, rows_in};
 ghost use Rattle.mad_sections.specs.Unfolded.{lacks_room};
 
 use crate::cell_words::longest_word;
@@ -13,14 +13,23 @@ use mad_md::Line;
 /// The least width of a column.
 pub const LEAST_COLUMN: usize = 3;
 
+/// How the cells of a table are laid out.
+#[derive(Clone, Copy, PartialEq, Debug)]
+pub struct TableRules {
+    /// Whether words stay whole, so that a column has room for its longest.
+    pub whole_words: bool,
+    /// Whether a blank is at both sides of each cell.
+    pub cell_blanks: bool,
+}
+
 /// Whether lines are a table of some rows that has no room: its columns don't fit side by side where each has three, or where words stay
-/// whole its longest word.
+/// whole its longest word, and beside these its blanks.
 ///
 /// As many columns are looked at as have room, and each in one pass over the lines.
-pub fn lacks_room(lines: &[Line], room: usize, whole_words: bool) -> bool
-    ensures { result ≡ lacks_room whole_words room (map content_of lines.now) }
+pub fn lacks_room(lines: &[Line], room: usize, rules: TableRules) -> bool
+    ensures { result ≡ lacks_room rules room (map content_of lines.now) }
 {
-    are_table(lines) && has_row(lines) && !has_room(lines, room, whole_words)
+    are_table(lines) && has_row(lines) && !has_room(lines, room, rules)
 }
 
 // Whether all lines are of a table.
@@ -52,8 +61,8 @@ fn has_row(lines: &[Line]) -> bool
 }
 
 // Whether the columns fit side by side at their least widths.
-fn has_room(lines: &[Line], room: usize, whole_words: bool) -> bool
-    ensures { result ≡ has_room whole_words room (map content_of lines.now) }
+fn has_room(lines: &[Line], room: usize, rules: TableRules) -> bool
+    ensures { result ≡ has_room rules room (map content_of lines.now) }
 {
     let count = columns_count(lines);
     if room == 0 {
@@ -61,7 +70,7 @@ fn has_room(lines: &[Line], room: usize, whole_words: bool) -> bool
     }
     let mut left = room - 1;
     for column in 0..count {
-        let width = least_width(lines, column, whole_words);
+        let width = least_width(lines, column, rules);
         if left <= width {
             return false;
         }
@@ -91,9 +100,21 @@ fn columns_in(line: &Line) -> usize
     }
 }
 
-// The least width of the column of this number.
-fn least_width(lines: &[Line], column: usize, whole_words: bool) -> usize
-    ensures { result ≡ capped (least_width whole_words (flat_map (take 1) (map (drop column) (rows_in (map content_of lines.now))))) }
+// The least width of the column of this number, with its blanks.
+fn least_width(lines: &[Line], column: usize, rules: TableRules) -> usize
+    ensures { result ≡ capped (least_width rules (flat_map (take 1) (map (drop column) (rows_in (map content_of lines.now))))) }
+{
+    let text = least_text(lines, column, rules.whole_words);
+    if rules.cell_blanks {
+        text.saturating_add(2)
+    } else {
+        text
+    }
+}
+
+// The same without them.
+fn least_text(lines: &[Line], column: usize, whole_words: bool) -> usize
+    ensures { result ≡ capped (least_text whole_words (flat_map (take 1) (map (drop column) (rows_in (map content_of lines.now))))) }
 {
     if whole_words {
         LEAST_COLUMN.max(longest_in(lines, column))

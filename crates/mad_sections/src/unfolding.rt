@@ -12,7 +12,7 @@ use crate::gutters::Gutter;
 use crate::items::{item_lines, rows_in, says_heads};
 use crate::rooms::room_behind;
 use crate::sections::Section;
-use crate::table_rooms::lacks_room;
+use crate::table_rooms::{TableRules, lacks_room};
 use mad_md::{Composite, TableRow, Text};
 use std::alloc::{AllocError, Global};
 use std::vec::IntoIter;
@@ -35,13 +35,13 @@ pub fn unfold<'s>(
     section: Section<'s>,
     width: Option<usize>,
     ascii: bool,
-    whole_words: bool,
+    rules: TableRules,
 ) -> Result<Unfolded<'s>, AllocError>
-    ensures { IfOk result (λ shown. sections_shown shown ≡ unfolded whole_words ascii width (section_content section.entry)) }
+    ensures { IfOk result (λ shown. sections_shown shown ≡ unfolded rules ascii width (section_content section.entry)) }
 {
     let room = room_behind(section.gutters, width, ascii).columns;
     match (room, section.list) {
-        (Some(room), Some(gutters)) if lacks_room(&section.text.lines, room, whole_words) => {
+        (Some(room), Some(gutters)) if lacks_room(&section.text.lines, room, rules) => {
             let items = list_of(alloc, section, gutters, room)?;
             Ok(Unfolded::Items(items))
         }

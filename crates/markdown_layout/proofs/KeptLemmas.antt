@@ -35,6 +35,8 @@ use Rattle.mad_sections.specs.Gutters.{room_at}
 use Rattle.mad_sections.specs.Items.{paragraph, colon, label, cell_lines, row_lines, or_blank, item_lines, says_heads, items_of}
 use Rattle.mad_sections.specs.Sections.{SectionContent}
 use Rattle.mad_sections.specs.TableTexts.{rows_in}
+use Rattle.mad_blocks.specs.Tables.{table_rules}
+use Rattle.mad_sections.specs.declared.table_rooms.TableRules.{TableRules}
 use Rattle.mad_sections.specs.Unfolded.{lacks_room, list_sections, as_list, unfolded_in, unfolded}
 use Rattle.mad_sections.specs.declared.gutters.Gutter.{Gutter}
 use Rattle.mad_sections.proofs.Choices.{by_bool}
@@ -492,7 +494,7 @@ list_fine : (gutters : List Gutter) (fresh : ℕ) (items : List (List LineConten
 list_fine gutters fresh [] h k = tt
 list_fine gutters fresh (lines ∷ items) h k = (record { gutters = h; list = tt; lines = k.0 }, list_fine gutters 0 items h k.1)
 
-shown_fine : (whole : Bool) (room : ℕ) (list : Option (List Gutter)) (s : SectionContent) → IsFineSection s → IfSome list (AllByRecursion IsTypedGutter) → AllByRecursion IsFineSection (unfolded_in whole (Some room) list s)
+shown_fine : (whole : TableRules) (room : ℕ) (list : Option (List Gutter)) (s : SectionContent) → IsFineSection s → IfSome list (AllByRecursion IsTypedGutter) → AllByRecursion IsFineSection (unfolded_in whole (Some room) list s)
 shown_fine whole room None s h k = (h, tt)
 shown_fine whole room (Some gutters) s h k =
     by_bool (λ t. AllByRecursion IsFineSection (if t then as_list room gutters s else s ∷ [])) (lacks_room whole room s.lines)
@@ -503,7 +505,7 @@ page_fine : (skin : RowSkin) (width : ℕ) (page : List SectionContent) → AllB
 page_fine skin width [] h = tt
 page_fine skin width (s ∷ page) h =
     let ascii : Bool = has_ascii_boxes skin in
-    all_joined IsFineSection (unfolded (line_rules skin).whole_words ascii (Some width) s) (sections_at skin width page) (shown_fine (line_rules skin).whole_words (room_at ascii width s.gutters) s.list s h.0 h.0.list) (page_fine skin width page h.1)
+    all_joined IsFineSection (unfolded (table_rules (line_rules skin)) ascii (Some width) s) (sections_at skin width page) (shown_fine (table_rules (line_rules skin)) (room_at ascii width s.gutters) s.list s h.0 h.0.list) (page_fine skin width page h.1)
 
 -- steady and printed sections, whose lines have no sign of their own, keep what drawing asks of texts, whatever stands beside headings and in front of pictures
 keep : (marks : PageMarks) (page : List SectionContent) → IsColumnChar marks.sign → ArePrintedSections page → AreSteadySections page → ArePlainSections page → KeepPremises (dressed_page marks page)

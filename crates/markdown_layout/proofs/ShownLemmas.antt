@@ -9,6 +9,7 @@ use Rattle.mad_sections.specs.declared.gutters.Gutter.{Gutter}
 use Rattle.mad_sections.specs.declared.gutters.Gutter.TheVariants.{Bullet}
 use Rattle.mad_sections.specs.Items.{item_lines, are_short, items_of}
 use Rattle.mad_sections.specs.TableTexts.{are_table, rows_in, has_room}
+use Rattle.mad_sections.specs.declared.table_rooms.TableRules.{TableRules}
 use Rattle.mad_sections.specs.Unfolded.{lacks_room, list_sections, as_list, unfolded_in, unfolded}
 use Rattle.mad_sections.proofs.Choices.{by_bool}
 use Rattle.markdown_reader.specs.Faces.{items_in, faces_in, faces_of}
@@ -64,7 +65,7 @@ not_none true h = absurd (no h)
     no : false ≡ true → ⊥
     no e = cc
 
-some_rows : (whole : Bool) (room : ℕ) (lines : List LineContent) → lacks_room whole room lines ≡ true → (length (rows_in lines) == 0) ≡ false
+some_rows : (whole : TableRules) (room : ℕ) (lines : List LineContent) → lacks_room whole room lines ≡ true → (length (rows_in lines) == 0) ≡ false
 some_rows whole room lines h =
     let both = and_parts (are_table lines && not (length (rows_in lines) == 0)) (not (has_room whole room lines)) h in
     let rows = and_parts (are_table lines) (not (length (rows_in lines) == 0)) both.0 in
@@ -82,7 +83,7 @@ as_list_shows room s fits some =
       faces = subst (λ (f : ℕ). faces_of (list_sections (s.gutters ++ Bullet ∷ []) f (items_of room (rows_in s.lines))) ≡ faces_in s + length (list_sections (s.gutters ++ Bullet ∷ []) f (items_of room (rows_in s.lines)))) (sym same) faces;
     }
 
-shown_in : (whole : Bool) (room : Option ℕ) (list : Option (List Gutter)) (s : SectionContent) → (list ≡ None) ⊎ (list ≡ Some (s.gutters ++ Bullet ∷ [])) → s.fresh ≤ length s.gutters
+shown_in : (whole : TableRules) (room : Option ℕ) (list : Option (List Gutter)) (s : SectionContent) → (list ≡ None) ⊎ (list ≡ Some (s.gutters ++ Bullet ∷ [])) → s.fresh ≤ length s.gutters
     → (unfolded_in whole room list s ≡ s ∷ []) ⊎ ShowsFaces s (unfolded_in whole room list s)
 shown_in whole None list s h fits = inl refl
 shown_in whole (Some room) list s (inl none) fits = inl (ap (λ (l : Option (List Gutter)). unfolded_in whole (Some room) l s) none)
@@ -91,7 +92,7 @@ shown_in whole (Some room) list s (inr some) fits =
     (by_bool (λ t. ((if t then as_list room (s.gutters ++ Bullet ∷ []) s else s ∷ []) ≡ s ∷ []) ⊎ ShowsFaces s (if t then as_list room (s.gutters ++ Bullet ∷ []) s else s ∷ [])) (lacks_room whole room s.lines)
     (λ lacks. inr (as_list_shows room s fits (some_rows whole room s.lines lacks))) (λ has. inl refl))
 
-all_shown : (whole ascii : Bool) (width : Option ℕ) (sections : List SectionContent) → AllByRecursion MayBeListed sections
+all_shown : (whole : TableRules) (ascii : Bool) (width : Option ℕ) (sections : List SectionContent) → AllByRecursion MayBeListed sections
     → AllByRecursion (λ (s : SectionContent). (unfolded whole ascii width s ≡ s ∷ []) ⊎ ShowsFaces s (unfolded whole ascii width s)) sections
 all_shown whole ascii width [] h = tt
 all_shown whole ascii width (s ∷ sections) h = (shown_in whole (room_of ascii width s.gutters) s.list s h.0.list h.0.fresh, all_shown whole ascii width sections h.1)

@@ -11,7 +11,8 @@ use Rattle.mad_widths.specs.WordWidths.{least_of, raised, word_widths, AreRaised
 use Rattle.mad_widths.proofs.EachLemmas.{length-each_with}
 use Rattle.mad_widths.proofs.ShareLemmas.{AreWide, LeaveThree, grants_fit, length-narrowed, get_or-narrowed, length-naturals, first_leave, second_leave}
 use Rattle.mad_widths.proofs.WordLemmas.{least_are, raised_are, word_leave, word_requests}
-use Rattle.mad_blocks.specs.Tables.{first_columns, widths_by}
+use Rattle.mad_blocks.specs.Tables.{first_columns, least_room, most_columns, widths_by, without_blanks}
+use Rattle.mad_blocks.proofs.TableWidths.{room_left}
 use Rattle.mad_blocks.specs.TextParts.{columns_among}
 use Rattle.mad_rows.specs.declared.row_skin.RowSkin.{RowSkin}
 use Rattle.mad_sections.proofs.Choices.{by_bool}
@@ -124,6 +125,9 @@ kept_wide skin width table =
     let n : ℕ = columns_among table in
     let cells : List (List ℕ) = first_columns n (cells_among skin table) in
     let words : List (List ℕ) = first_columns n (words_among skin table) in
-    by_bool (λ t. AllByRecursion (λ (w : ℕ). 3 ≤ w) (if t then widths_by skin.whole_words (width - 1 - n) cells words else replicate ((width - 1) / 4) 3)) (nat_le (4 * n + 1) width)
-    (λ fits. all_wide (widths_by skin.whole_words (width - 1 - n) cells words) (by_wide skin.whole_words (width - 1 - n) cells words (λ one. let count = column_count n (cells_among skin table) in omega (arith, at_least (4 * n + 1) width fits, one, count))))
-    (λ narrow. all_threes ((width - 1) / 4))
+    let b : Bool = skin.cell_blanks in
+    let room : ℕ = without_blanks b n width in
+    by_bool (λ t. AllByRecursion (λ (w : ℕ). 3 ≤ w) (if t then widths_by skin.whole_words (room - 1 - n) cells words else replicate (most_columns b width) 3)) (nat_le (least_room b n) width)
+    (λ fits. let left : 4 * n + 1 ≤ room = room_left b n width (at_least (least_room b n) width fits) in
+    all_wide (widths_by skin.whole_words (room - 1 - n) cells words) (by_wide skin.whole_words (room - 1 - n) cells words (λ one. let count = column_count n (cells_among skin table) in omega (arith, left, one, count))))
+    (λ narrow. all_threes (most_columns b width))

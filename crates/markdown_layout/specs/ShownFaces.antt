@@ -4,6 +4,7 @@ use Rattle.std.specs.List.{AllByRecursion}
 use Rattle.markdown_leaves.specs.Parts.{PartContent}
 use Rattle.mad_sections.specs.Sections.{SectionContent}
 use Rattle.mad_sections.specs.declared.gutters.Gutter.TheVariants.{Bullet}
+use Rattle.mad_sections.specs.declared.table_rooms.TableRules.{TableRules}
 use Rattle.mad_sections.specs.Unfolded.{unfolded}
 use Rattle.markdown_lines.specs.Links.{Defined}
 use Rattle.markdown_reader.specs.Faces.{faces_in, faces_of}
@@ -17,5 +18,5 @@ pub record ShowsFaces (section : SectionContent) (items : List SectionContent) :
 
 -- Whatever the width, a section of Markdown is shown as it is, or as such a list.
 abbrev pub ListsShowFaces : Type 0
-ListsShowFaces = (whole_words ascii : Bool) (width : Option ℕ) (defined : Defined) (parts : List PartContent)
-    → AllByRecursion (λ (s : SectionContent). (unfolded whole_words ascii width s ≡ s ∷ []) ⊎ ShowsFaces s (unfolded whole_words ascii width s)) (shown_parts defined parts nothing_shown).sections
+ListsShowFaces = (rules : TableRules) (ascii : Bool) (width : Option ℕ) (defined : Defined) (parts : List PartContent)
+    → AllByRecursion (λ (s : SectionContent). (unfolded rules ascii width s ≡ s ∷ []) ⊎ ShowsFaces s (unfolded rules ascii width s)) (shown_parts defined parts nothing_shown).sections

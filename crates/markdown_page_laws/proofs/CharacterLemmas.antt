@@ -1,11 +1,12 @@
 -- Rows that keep lines show each of their characters once.
-use Rattle.std.proofs.Common.{◌≡◌, ℕ, zero, suc, ◌+◌, ◌*◌, ◌≤◌, Bool, List, [], ◌∷◌, ◌++◌, map, length, chars, if◌then◌else◌, refl, ap, ap₂, sym, ◌∙◌, arith, append-nil}
+use Rattle.std.proofs.Common.{◌≡◌, ℕ, zero, suc, ◌≤◌, Bool, List, [], ◌∷◌, ◌++◌, map, length, chars, if◌then◌else◌, refl, ap, ap₂, sym, ◌∙◌, arith, append-nil}
 use Rattle.std.specs.Char.{is_whitespace}
 use Rattle.std.specs.List.{AllByRecursion, flat_map}
 use Rattle.std.proofs.lemmas.List.Concat.{flat_map-append}
 use Rattle.mad_md.specs.Flagged.{FlaggedChar, Run, flagged}
 use Rattle.mad_md.specs.Lines.{StyledRuns, LineContent, normal, table_row, table_rule, horizontal_rule}
 use Rattle.mad_wrap.specs.Keeps.{Keeps, AllWhite}
+use Rattle.mad_blocks.specs.Tables.{least_room}
 use Rattle.mad_format.specs.LineRules.{LineRules}
 use Rattle.mad_format.specs.Lists.{EachBecomes}
 use Rattle.mad_format.specs.Wraps.{text_of}
@@ -110,7 +111,7 @@ none_shown rules room count (table_rule aligns) own none (rule, same) i = ap (so
 none_shown rules room count horizontal_rule own none same i = ap (solid_at i) same
 
 -- where the columns of a table have room, each line is shown
-line_shown : (rules : LineRules) (room count : ℕ) → 4 * count + 1 ≤ room → (line : LineContent) (own : List FmtLine) → IsLineKept rules room count line own → IsShownBy line own
+line_shown : (rules : LineRules) (room count : ℕ) → least_room rules.cell_blanks count ≤ room → (line : LineContent) (own : List FmtLine) → IsLineKept rules room count line own → IsShownBy line own
 line_shown rules room count wide (normal said) own kept = none_shown rules room count (normal said) own tt kept
 line_shown rules room count wide (table_row cells) own (rows, same, kept) = λ i. ap (solid_at i) same ∙ rows_shown i rows ∙ cells_shown rules kept.widths cells (cells_of_rows rows) (kept.all wide) kept.cells_kept i
 line_shown rules room count wide (table_rule aligns) own kept = none_shown rules room count (table_rule aligns) own tt kept
@@ -122,7 +123,7 @@ nones_shown rules room count [] own none kept = kept
 nones_shown rules room count (line ∷ lines) own none (here, there, joins, one, more) = (here, there, joins, none_shown rules room count line here none.0 one, nones_shown rules room count lines there none.1 more)
 
 -- so are those of a table whose columns have room
-pub lines_shown : (rules : LineRules) (room count : ℕ) (lines : List LineContent) (own : List FmtLine) → 4 * count + 1 ≤ room → EachBecomes (IsLineKept rules room count) lines own → EachBecomes IsShownBy lines own
+pub lines_shown : (rules : LineRules) (room count : ℕ) (lines : List LineContent) (own : List FmtLine) → least_room rules.cell_blanks count ≤ room → EachBecomes (IsLineKept rules room count) lines own → EachBecomes IsShownBy lines own
 lines_shown rules room count lines own wide kept = become_by (IsLineKept rules room count) IsShownBy (line_shown rules room count wide) lines own kept
 
 -- ---- texts of lines

@@ -12,6 +12,8 @@ use Rattle.mad_format.specs.declared.line.FmtLine.TheVariants.{HorizontalRule}
 use Rattle.mad_sections.specs.Gutters.{room_at}
 use Rattle.mad_sections.specs.Sections.{SectionContent}
 use Rattle.mad_sections.specs.TableTexts.{are_table, has_room, rows_in}
+use Rattle.mad_sections.specs.declared.table_rooms.TableRules.{TableRules}
+use Rattle.mad_blocks.specs.Tables.{table_rules}
 use Rattle.mad_sections.specs.Unfolded.{unfolded_in, unfolded}
 use Rattle.mad_sections.specs.declared.gutters.Gutter.{Gutter}
 use Rattle.mad_sections.specs.declared.gutters.Gutter.TheVariants.{Below, Signs}
@@ -190,15 +192,15 @@ headed_apart (table_row cells ∷ lines) level h = absurd (cc)
 headed_apart (table_rule aligns ∷ lines) level h = absurd (cc)
 headed_apart (horizontal_rule ∷ lines) level h = absurd (cc)
 
-stays_by : (whole_words ascii : Bool) (width : ℕ) (s : SectionContent) (list : Option (List Gutter)) → s.list ≡ list → are_table s.lines ≡ false → unfolded whole_words ascii (Some width) s ≡ s ∷ []
-stays_by whole_words ascii width s None is apart = ap (λ (l : Option (List Gutter)). unfolded_in whole_words (Some (room_at ascii width s.gutters)) l s) is
-stays_by whole_words ascii width s (Some gutters) is apart =
+stays_by : (rules : TableRules) (ascii : Bool) (width : ℕ) (s : SectionContent) (list : Option (List Gutter)) → s.list ≡ list → are_table s.lines ≡ false → unfolded rules ascii (Some width) s ≡ s ∷ []
+stays_by rules ascii width s None is apart = ap (λ (l : Option (List Gutter)). unfolded_in rules (Some (room_at ascii width s.gutters)) l s) is
+stays_by rules ascii width s (Some gutters) is apart =
     let room : ℕ = room_at ascii width s.gutters in
-    stays_when whole_words ascii width s gutters is (ap (λ (t : Bool). t && not (length (rows_in s.lines) == 0) && not (has_room whole_words room s.lines)) apart)
+    stays_when rules ascii width s gutters is (ap (λ (t : Bool). t && not (length (rows_in s.lines) == 0) && not (has_room rules room s.lines)) apart)
 
 -- the lines that are shown of a heading are its own
-heading_lines : (whole_words ascii : Bool) (width : ℕ) (s : SectionContent) (level : ℕ) → heading_level s.lines ≡ Some level → lines_of (unfolded whole_words ascii (Some width) s) ≡ s.lines
-heading_lines whole_words ascii width s level h = ap lines_of (stays_by whole_words ascii width s s.list refl (headed_apart s.lines level h)) ∙ append-nil s.lines
+heading_lines : (rules : TableRules) (ascii : Bool) (width : ℕ) (s : SectionContent) (level : ℕ) → heading_level s.lines ≡ Some level → lines_of (unfolded rules ascii (Some width) s) ≡ s.lines
+heading_lines rules ascii width s level h = ap lines_of (stays_by rules ascii width s s.list refl (headed_apart s.lines level h)) ∙ append-nil s.lines
 
 rule_shows_none : (i : ℕ) (own : List FmtLine) → solid_at i (own ++ HorizontalRule ∷ []) ≡ solid_at i own
 rule_shows_none i own = flat_map-append (λ (row : FmtLine). solid (text_at i (texts_in row))) own (HorizontalRule ∷ []) ∙ append-nil (solid_at i own)
@@ -215,7 +217,7 @@ headed_rule (line ∷ lines) level rows h shown = rule_below_last line lines row
 
 -- rows show the lines that are shown of a section
 abbrev Tells : LineRules → Bool → ℕ → SectionContent → List RowContent → Type 0
-Tells rules ascii width s rows = EachBecomes IsShownBy (lines_of (unfolded rules.whole_words ascii (Some width) s)) (lines_of_rows rows)
+Tells rules ascii width s rows = EachBecomes IsShownBy (lines_of (unfolded (table_rules rules) ascii (Some width) s)) (lines_of_rows rows)
 
 ruled_tells : (rules : LineRules) (ascii : Bool) (width : ℕ) (marks : PageMarks) (s : SectionContent) (rows : List RowContent) → IsTableOrNone s → IsRuled marks s (dressed marks s) → KeepsDressed rules ascii width marks s rows
     → Tells rules ascii width (filled marks s) rows
@@ -224,7 +226,7 @@ ruled_tells rules ascii width marks s rows h ruled kept =
     let two = subst (λ (all : List SectionContent). EachBecomes (KeepsShown rules ascii width) all rows) ruled.shown_are kept in
     let said : SectionContent = filled marks s in
     let heading = filled_level marks s ∙ ruled.heading in
-    let same = heading_lines rules.whole_words ascii width said ruled.level heading in
+    let same = heading_lines (table_rules rules) ascii width said ruled.level heading in
     let own = subst (λ (lines : List LineContent). EachBecomes IsShownBy lines (lines_of_rows two.0)) same (section_shows rules ascii width said two.0 (filled_table marks s h) two.3).1 in
     let rule = rule_alone rules ascii width gutters two.1 (one_becomes (KeepsShown rules ascii width) (rule_behind gutters) two.1 two.4) in
     let joins : lines_of_rows rows ≡ lines_of_rows two.0 ++ HorizontalRule ∷ [] =
@@ -239,7 +241,7 @@ signed_tells rules ascii width marks s rows h with_signs kept =
     let heading = filled_level marks s ∙ with_signs.heading in
     let other : SectionContent = signed (s.gutters ++ Signs with_signs.level ∷ []) said in
     let one = one_becomes (KeepsShown rules ascii width) other rows (subst (λ (all : List SectionContent). EachBecomes (KeepsShown rules ascii width) all rows) with_signs.shown_are kept) in
-    let same = heading_lines rules.whole_words ascii width other with_signs.level heading ∙ sym (heading_lines rules.whole_words ascii width said with_signs.level heading) in
+    let same = heading_lines (table_rules rules) ascii width other with_signs.level heading ∙ sym (heading_lines (table_rules rules) ascii width said with_signs.level heading) in
     subst (λ (lines : List LineContent). EachBecomes IsShownBy lines (lines_of_rows rows)) same (section_shows rules ascii width other rows (filled_table marks s h) one).1
 
 -- the rows of a section with its rule or signs show the lines that are shown of it, with its marks

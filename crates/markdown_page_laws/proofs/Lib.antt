@@ -1,4 +1,5 @@
 pub mod BecomeLemmas
+pub mod CellLemmas
 pub mod CharacterLemmas
 pub mod DressedLemmas
 pub mod LineLemmas

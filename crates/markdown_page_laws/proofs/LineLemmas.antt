@@ -1,5 +1,5 @@
 -- The rows of a layout keep the characters of its lines.
-use Rattle.std.proofs.Common.{◌≡◌, ℕ, suc, ◌+◌, ◌-◌, ◌*◌, ◌^◌, ◌<◌, ◌≤◌, max, nat_lt, ◌==◌, Bool, true, false, inl, inr, List, [], ◌∷◌, ◌++◌, map, length, drop, chars, Option, Some, None, if◌then◌else◌, refl, ap, ap₂, sym, ◌∙◌, subst, arith}
+use Rattle.std.proofs.Common.{◌≡◌, ℕ, suc, ◌+◌, ◌-◌, ◌^◌, ◌<◌, ◌≤◌, max, nat_lt, ◌==◌, Bool, true, false, inl, inr, List, [], ◌∷◌, ◌++◌, map, length, drop, chars, Option, Some, None, if◌then◌else◌, refl, ap, ap₂, sym, ◌∙◌, subst, arith}
 use Rattle.std.specs.List.{AllByRecursion, flat_map}
 use Rattle.std.proofs.lemmas.Bool.Decides.{nat_tests}
 use Rattle.std.proofs.lemmas.List.{length-map}
@@ -24,7 +24,8 @@ use Rattle.mad_format.proofs.ListLemmas.{both_become}
 use Rattle.mad_format.proofs.ReadWraps.{margins-le}
 use Rattle.mad_blocks.specs.LayoutParts.{Part, table, block, single, is_code_kind, with_table, with_code, with_composite, with_line, parts_of, code_room, wrap_width, placed_code, block_width, AreLinesAt, IsPartAt, ArePartsAt}
 use Rattle.mad_blocks.specs.Layouts.{AreRead, IsLayoutAt}
-use Rattle.mad_blocks.specs.Tables.{centered, IsCellLaidOut, AreCellsLaidOut, below, IsLineAcross, AreDown, tallest, IsRowLaidOutBy, columns_from, columns_count, columns_in, position_at, IsTableLineBy, AreTableLinesBy, IsTableLaidOutBy}
+use Rattle.mad_blocks.proofs.TableWidths.{blanked_least, blanked_none, least_more, room_left}
+use Rattle.mad_blocks.specs.Tables.{least_room, with_blanks, centered, IsCellLaidOut, AreCellsLaidOut, below, IsLineAcross, AreDown, tallest, IsRowLaidOutBy, columns_from, columns_count, columns_in, position_at, IsTableLineBy, AreTableLinesBy, IsTableLaidOutBy}
 use Rattle.mad_sections.specs.TableTexts as texts
 use Rattle.mad_layout.specs.FlaggedLines.{marked_parts}
 use Rattle.mad_layout.specs.FlaggedRows.{AreRowsOf}
@@ -184,19 +185,20 @@ cells_count rules [] [] read = refl
 cells_count rules (s ∷ said) (cell ∷ cells) read = ap suc (cells_count rules said cells read.1)
 cells_count rules _ _ read = absurd read
 
--- the columns of a table that has at most so many in a room
-record FitIn (width count most_cells : ℕ) (ws : List ℕ) : Type 0 where
-  fit : bordered ws + 1 ≤ width
+-- the columns of a table that has at most so many in a room, with blanks beside its cells or without
+record FitIn (b : Bool) (width count most_cells : ℕ) (ws : List ℕ) : Type 0 where
+  fit : bordered (with_blanks b ws) + 1 ≤ width
   bound : width < 2 ^ 64 - 1
-  all : 4 * count + 1 ≤ width → most_cells ≤ length ws
+  all : least_room b count ≤ width → most_cells ≤ length ws
 
-table_line : (rules : LineRules) (width count n : ℕ) (ws : List ℕ) (cs : List Spacing) (l : FmtLine) (own : List FmtLine) → FitIn width count n ws → widths_of cs ≡ ws → columns_in l ≤ n → is_table_line l ≡ true
+table_line : (rules : LineRules) (width count n : ℕ) (ws : List ℕ) (cs : List Spacing) (l : FmtLine) (own : List FmtLine) → FitIn rules.cell_blanks width count n ws → widths_of cs ≡ ws → columns_in l ≤ n → is_table_line l ≡ true
     → (position : _) → IsTableLineBy IsCompositeWrap rules cs position l own → KeepsRead rules width count l own
 table_line rules width count n ws cs l own fits are few tabled position laid said read = by_said said l few tabled laid read
   where
     by_said : (said : LineContent) (l : FmtLine) → columns_in l ≤ n → is_table_line l ≡ true → IsTableLineBy IsCompositeWrap rules cs position l own → IsLineRead rules said l → IsLineKept rules width count said own
     by_said (table_row cells) (TableRow row) few tabled (rows, same, laid) read =
-        let inside : 1 + bordered (widths_of cs) ≤ width = subst (λ vs. 1 + bordered vs ≤ width) (sym are) (omega (arith, fits.fit)) in
+        let least = blanked_least rules.cell_blanks ws in
+        let inside : 1 + bordered (widths_of cs) ≤ width = subst (λ vs. 1 + bordered vs ≤ width) (sym are) (omega (arith, fits.fit, least)) in
         let long = cells_count rules cells row.cells.items read in (
           rows,
           same,
@@ -222,7 +224,7 @@ from-widths ws cs _ h = h
 abbrev AreOfTable : List FmtLine → Type 0
 AreOfTable ls = AllByRecursion (λ (l : FmtLine). is_table_line l ≡ true) ls
 
-table_lines : (rules : LineRules) (width count n : ℕ) (ws : List ℕ) (cs : List Spacing) (first : Bool) (ls own : List FmtLine) → FitIn width count n ws → widths_of cs ≡ ws → columns_count ls ≤ n → AreOfTable ls
+table_lines : (rules : LineRules) (width count n : ℕ) (ws : List ℕ) (cs : List Spacing) (first : Bool) (ls own : List FmtLine) → FitIn rules.cell_blanks width count n ws → widths_of cs ≡ ws → columns_count ls ≤ n → AreOfTable ls
     → AreTableLinesBy IsCompositeWrap rules ws cs first ls own → EachBecomes (KeepsRead rules width count) ls own
 table_lines rules width count n ws cs first [] own fits are few tabled laid = laid
 table_lines rules width count n ws cs first (l ∷ ls) own fits are few tabled (here, there, joins, one, more) =
@@ -244,7 +246,7 @@ bare_line rules width count (table_row cells) (TableRow row) wide none tabled re
     let long = cells_count rules cells row.cells.items read in (
       row ∷ [],
       refl,
-      record { widths = []; fit = omega (arith, wide); all = λ all. omega (arith, long, none); cells_kept = (no_items row.cells.items none, tt) },
+      record { widths = []; fit = omega (arith, wide, blanked_none rules.cell_blanks); all = λ all. omega (arith, long, none); cells_kept = (no_items row.cells.items none, tt) },
     )
 bare_line rules width count (table_rule aligns) (TableRule rule) wide none tabled read = (rule, refl)
 bare_line rules width count (normal said) (Normal l) wide none tabled read = absurd (cc)
@@ -261,7 +263,15 @@ table_keeps : (rules : LineRules) (width count : ℕ) (ls own : List FmtLine) �
 table_keeps rules width count ls own wide bound few tabled (inl (inl none, stays)) = subst (EachBecomes (KeepsRead rules width count) ls) (sym stays) (bare_lines rules width count ls wide none tabled)
 table_keeps rules width count ls own wide bound few tabled (inl (inr none, stays)) = absurd (omega (arith, none, wide))
 table_keeps rules width count ls own wide bound few tabled (inr (some, place, (ws, kept, laid))) =
-    let fits : FitIn width count (columns_count ls) ws = record { fit = kept.fit; bound = bound; all = λ all. omega (arith, kept.kept (omega (arith, all, few))) } in
+    let b : Bool = rules.cell_blanks in
+    let fits : FitIn b width count (columns_count ls) ws = record {
+      fit = kept.fit;
+      bound = bound;
+      all = λ all.
+          let room : least_room b (columns_count ls) ≤ width = least_more b (columns_count ls) count width few all in
+          let as_many = (kept.wide room).kept (room_left b (columns_count ls) width room) in
+          omega (arith, as_many);
+    } in
     table_lines rules width count (columns_count ls) ws (centered ws) true ls own fits (centered-widths ws) (omega arith) tabled laid
 
 -- ---- composites and rules

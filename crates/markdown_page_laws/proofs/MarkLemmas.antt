@@ -25,7 +25,7 @@ use Rattle.mad_format.specs.declared.composite.FmtComposite.{FmtComposite}
 use Rattle.mad_format.specs.declared.line.FmtLine.{FmtLine}
 use Rattle.mad_format.specs.declared.line.FmtLine.TheVariants.{Normal, TableRow, TableRule, HorizontalRule}
 use Rattle.mad_format.specs.declared.table.RelativePosition.{RelativePosition}
-use Rattle.mad_rows.specs.Rows.{prefix_pieces, compound_piece, inner_blanks, outer_blanks, margins_of, composite_pieces, left_of_place, right_of_place, placed_pieces, vertical_piece, cell_pieces, row_columns, rule_chars, table_row_pieces, table_rule_pieces, line_pieces}
+use Rattle.mad_rows.specs.Rows.{cell_margins, prefix_pieces, compound_piece, inner_blanks, outer_blanks, margins_of, composite_pieces, left_of_place, right_of_place, placed_pieces, vertical_piece, cell_pieces, row_columns, rule_chars, table_row_pieces, table_rule_pieces, line_pieces}
 use Rattle.mad_rows.specs.RowStyles.{compound_style, line_style, ordered_item_style, tone_styles}
 use Rattle.mad_rows.specs.declared.row_skin.RowSkin.{RowSkin}
 use Rattle.mad_sections.specs.Gutters.{gutter_columns}
@@ -70,7 +70,7 @@ marks_after : (skin : RowSkin) (text : List ℕ) (ps qs : List RowPiece) → Are
 marks_after skin text ps qs h marks = subst (λ (all : List ℕ). AreTextAndMarks skin all (ps ++ qs)) (append-nil text) (both_texts skin text [] ps qs h (marks_alone skin qs marks))
 
 -- what is so in another skin whose marks are marks of this one
-in_other : (skin other : RowSkin) → ((mark : Mark) → (own : Mark) × (mark_text other mark ≡ mark_text skin own)) → (text : List ℕ) (ps : List RowPiece) → AreTextAndMarks other text ps → AreTextAndMarks skin text ps
+pub in_other : (skin other : RowSkin) → ((mark : Mark) → (own : Mark) × (mark_text other mark ≡ mark_text skin own)) → (text : List ℕ) (ps : List RowPiece) → AreTextAndMarks other text ps → AreTextAndMarks skin text ps
 in_other skin other same text [] none = none
 in_other skin other same text (p ∷ ps) (inl ((mark, is), more)) = inl (((same mark).0, is ∙ (same mark).1), in_other skin other same text ps more)
 in_other skin other same text (p ∷ ps) (inr (rest, joins, more)) = inr (rest, joins, in_other skin other same rest ps more)
@@ -124,7 +124,7 @@ around_text skin outer margins filled l ps style beside inner h =
     (marks_before skin text (prefix_pieces skin l.kind) (ps ++ right) (prefix_marks skin l.kind)
     (marks_after skin text ps right h marks)))
 
-composite_text : (skin : RowSkin) (outer : Option ℕ) (margins : ℕ × ℕ) (filled : Bool) (l : FmtComposite) → AreTextAndMarks skin (bytes_of (runs_of l)) (composite_pieces skin outer margins filled l)
+pub composite_text : (skin : RowSkin) (outer : Option ℕ) (margins : ℕ × ℕ) (filled : Bool) (l : FmtComposite) → AreTextAndMarks skin (bytes_of (runs_of l)) (composite_pieces skin outer margins filled l)
 composite_text skin outer margins filled l =
     let style : LineStyle = line_style skin l.kind in
     around_text skin outer margins filled l (map (compound_piece skin style) l.compounds.items) style (outer_blanks style.align outer margins l) (inner_blanks l) (compounds_text skin style l.compounds.items)
@@ -133,7 +133,7 @@ cells_text : (skin : RowSkin) (cells : List FmtComposite) → AreTextAndMarks sk
 cells_text skin [] = refl
 cells_text skin (cell ∷ cells) =
     subst (λ (text : List ℕ). AreTextAndMarks skin text (flat_map (cell_pieces skin) (cell ∷ cells))) (sym (flat_map-append (λ (run : Run). run.text) (runs_of cell) (flat_map runs_of cells)))
-    (inl ((border, refl), both_texts skin (bytes_of (runs_of cell)) (bytes_of (flat_map runs_of cells)) (composite_pieces skin None (0, 0) false cell) (flat_map (cell_pieces skin) cells) (composite_text skin None (0, 0) false cell) (cells_text skin cells)))
+    (inl ((border, refl), both_texts skin (bytes_of (runs_of cell)) (bytes_of (flat_map runs_of cells)) (composite_pieces skin None (cell_margins skin) true cell) (flat_map (cell_pieces skin) cells) (composite_text skin None (cell_margins skin) true cell) (cells_text skin cells)))
 
 placed_text : (skin : RowSkin) (outer : Option ℕ) (filled : Bool) (columns : ℕ) (text : List ℕ) (ps : List RowPiece) → AreTextAndMarks skin text ps → AreTextAndMarks skin text (placed_pieces skin outer filled columns ps)
 placed_text skin outer filled columns text ps h =
@@ -169,7 +169,7 @@ line_text : (skin : RowSkin) (outer : Option ℕ) (filled : Bool) (line : FmtLin
 line_text skin outer filled (Normal l) = composite_text skin outer (margins_of skin outer l) filled l
 line_text skin outer filled (TableRow row) =
     let text : List ℕ = bytes_of (flat_map runs_of row.cells.items) in
-    placed_text skin outer filled (row_columns row.cells.items) text (flat_map (cell_pieces skin) row.cells.items ++ vertical_piece skin ∷ [])
+    placed_text skin outer filled (row_columns skin row.cells.items) text (flat_map (cell_pieces skin) row.cells.items ++ vertical_piece skin ∷ [])
     (marks_after skin text (flat_map (cell_pieces skin) row.cells.items) (vertical_piece skin ∷ []) (cells_text skin row.cells.items) ((border, refl), tt))
 line_text skin outer filled (TableRule across) =
     let ps : List RowPiece = rule_pieces skin.table.compound_style (rule_chars skin.table_border_chars across.position) across.widths.items in
@@ -251,7 +251,7 @@ untoned_text skin outer filled (run ∷ runs) n line = line_text skin outer fill
 -- ---- the skin of a row's line
 
 -- a skin whose paragraph looks as code, or this one
-abbrev boxed : RowSkin → Bool → RowSkin
+abbrev pub boxed : RowSkin → Bool → RowSkin
 boxed skin b = if b then record skin { paragraph = skin.code_block } else skin
 
 -- its marks are the same
@@ -311,7 +311,7 @@ bold_mark skin bold (rule_between position) = refl
 bold_mark skin bold (rule_end position) = refl
 
 -- so is each mark of the skin of a row's line
-line_mark : (skin : RowSkin) (front : FrontContent) (mark : Mark) → (own : Mark) × (mark_text (line_skin skin front) mark ≡ mark_text skin own)
+pub line_mark : (skin : RowSkin) (front : FrontContent) (mark : Mark) → (own : Mark) × (mark_text (line_skin skin front) mark ≡ mark_text skin own)
 line_mark skin front mark =
     let own = ruled_mark (boxed skin (in_box skin front.gutters)) (level_above front.gutters) mark in
     (own.0, bold_mark (ruled (boxed skin (in_box skin front.gutters)) (level_above front.gutters)) (bold_behind skin front) mark ∙ own.1 ∙ boxed_mark skin (in_box skin front.gutters) own.0)

@@ -4,6 +4,7 @@ use Rattle.mad_format.specs.LineRules.{LineRules}
 use Rattle.mad_format.proofs.ListLemmas.{become_by}
 use Rattle.mad_sections.specs.Gutters.{room_at}
 use Rattle.mad_sections.specs.Sections.{SectionContent}
+use Rattle.mad_blocks.specs.Tables.{table_rules}
 use Rattle.mad_sections.specs.Unfolded.{unfolded}
 use Rattle.mad_sections.proofs.RoomLemmas.{rooms_last}
 use Rattle.mad_pages.specs.PageLayouts.{IsSectionAt, BecomesAt}
@@ -25,7 +26,7 @@ section_keeps rules ascii width wide bound section rows laid =
 pub shown_keeps : (rules : LineRules) (ascii : Bool) (width : ℕ) → 3 ≤ width → width < 2 ^ 64 - 1 → (section : SectionContent) (rows : List RowContent) → BecomesAt rules ascii (Some width) section rows
     → KeepsShown rules ascii width section rows
 shown_keeps rules ascii width wide bound section rows laid =
-    become_by (IsSectionAt rules ascii (Some width)) (KeepsSection rules ascii width) (section_keeps rules ascii width wide bound) (unfolded rules.whole_words ascii (Some width) section) rows laid
+    become_by (IsSectionAt rules ascii (Some width)) (KeepsSection rules ascii width) (section_keeps rules ascii width wide bound) (unfolded (table_rules rules) ascii (Some width) section) rows laid
 
 -- the rows of a page keep its sections
 pub pages_keep : PagesKeep

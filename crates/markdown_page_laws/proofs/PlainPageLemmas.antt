@@ -35,7 +35,7 @@ use Rattle.mad_format.specs.declared.line.FmtLine.{FmtLine}
 use Rattle.mad_format.specs.declared.line.FmtLine.TheVariants.{Normal, TableRow, TableRule, HorizontalRule}
 use Rattle.mad_format.specs.declared.table.RelativePosition.{RelativePosition}
 use Rattle.mad_format.specs.declared.table.RelativePosition.TheVariants.{Top, Other, Bottom}
-use Rattle.mad_rows.specs.Rows.{prefix_pieces, compound_piece, inner_blanks, outer_blanks, margins_of, composite_pieces, left_of_place, right_of_place, placed_pieces, vertical_piece, cell_pieces, row_columns, rule_chars, line_pieces}
+use Rattle.mad_rows.specs.Rows.{cell_margins, prefix_pieces, compound_piece, inner_blanks, outer_blanks, margins_of, composite_pieces, left_of_place, right_of_place, placed_pieces, vertical_piece, cell_pieces, row_columns, rule_chars, line_pieces}
 use Rattle.mad_rows.specs.RowStyles.{ellipsis_bytes, overwritten_if, line_style, compound_style, header_style, index_suffix, ordered_item_style}
 use Rattle.mad_rows.specs.declared.row_skin.RowSkin.{RowSkin}
 use Rattle.mad_sections.specs.Gutters.{gutter_columns}
@@ -173,7 +173,7 @@ bare_composite c outer margins filled l =
 
 bare_cells : (c : StyledChar) (cells : List FmtComposite) → AreBare (flat_map (cell_pieces (plain_with c)) cells)
 bare_cells c [] = tt
-bare_cells c (cell ∷ cells) = (nothing_set, bare_both (composite_pieces (plain_with c) None (0, 0) false cell) (flat_map (cell_pieces (plain_with c)) cells) (bare_composite c None (0, 0) false cell) (bare_cells c cells))
+bare_cells c (cell ∷ cells) = (nothing_set, bare_both (composite_pieces (plain_with c) None (cell_margins (plain_with c)) true cell) (flat_map (cell_pieces (plain_with c)) cells) (bare_composite c None (cell_margins (plain_with c)) true cell) (bare_cells c cells))
 
 bare_placed : (c : StyledChar) (outer : Option ℕ) (filled : Bool) (columns : ℕ) (ps : List RowPiece) → AreBare ps → AreBare (placed_pieces (plain_with c) outer filled columns ps)
 bare_placed c outer filled columns ps h =
@@ -200,7 +200,7 @@ bare_line c outer filled (Normal l) h = bare_composite c outer (margins_of (plai
 bare_line c outer filled (TableRow row) h =
     let cells : List RowPiece = flat_map (cell_pieces (plain_with c)) row.cells.items in
     let last : List RowPiece = vertical_piece (plain_with c) ∷ [] in
-    bare_placed c outer filled (row_columns row.cells.items) (cells ++ last) (bare_both cells last (bare_cells c row.cells.items) (nothing_set, tt))
+    bare_placed c outer filled (row_columns (plain_with c) row.cells.items) (cells ++ last) (bare_both cells last (bare_cells c row.cells.items) (nothing_set, tt))
 bare_line c outer filled (TableRule across) h =
     let chars : RuleChars = rule_chars plain_rows.table_border_chars across.position in
     bare_placed c outer filled (rule_columns across.widths.items) (rule_pieces unstyled chars across.widths.items) (bare_rule chars across.widths.items)

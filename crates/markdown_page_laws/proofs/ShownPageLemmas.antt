@@ -15,6 +15,8 @@ use Rattle.mad_sections.specs.Items.{paragraph, label, cell_lines, row_lines, or
 use Rattle.mad_sections.specs.Sections.{SectionContent}
 use Rattle.mad_sections.specs.TableTexts.{are_table, rows_in, columns_count, least_width, least_widths, has_room}
 use Rattle.mad_sections.specs.UnfoldLaws.{lines_text, IsMadeOfBoth, row_text, labels_text, KeepsRow, IsListOf}
+use Rattle.mad_sections.specs.declared.table_rooms.TableRules.{TableRules}
+use Rattle.mad_blocks.specs.Tables.{least_room, table_rules}
 use Rattle.mad_sections.specs.Unfolded.{lacks_room, list_sections, as_list, unfolded_in, unfolded}
 use Rattle.mad_sections.specs.declared.gutters.Gutter.{Gutter}
 use Rattle.mad_sections.proofs.KeptLemmas.{list_when, stays_when}
@@ -118,27 +120,52 @@ list_shown rules ascii width s items rows list texts kept =
 abbrev pub lines_of : List SectionContent → List LineContent
 lines_of sections = flat_map (λ (s : SectionContent). s.lines) sections
 
-three_each : (whole_words : Bool) (n : ℕ) (rows : List (List StyledRuns)) → 3 * n ≤ sum (least_widths whole_words n rows)
-three_each whole_words zero rows = omega arith
-three_each true (suc n) rows =
-    let more = three_each true n (map (drop 1) rows) in
-    let own = sum_by-cons (λ x. x) (least_width true (flat_map (take 1) rows)) (least_widths true n (map (drop 1) rows)) in
-    omega (arith, more, own)
-three_each false (suc n) rows =
-    let more = three_each false n (map (drop 1) rows) in
-    let own = sum_by-cons (λ x. x) (least_width false (flat_map (take 1) rows)) (least_widths false n (map (drop 1) rows)) in
-    omega (arith, more, own)
+-- what laying out a table asks of a skin
+abbrev rules_of : Bool → Bool → TableRules
+rules_of w b = record { whole_words = w; cell_blanks = b }
+
+-- the least widths of n columns: three each, and their blanks
+abbrev least_columns : Bool → ℕ → ℕ
+least_columns true n = 5 * n
+least_columns false n = 3 * n
+
+one_column : (w b : Bool) (cells : List StyledRuns) → least_columns b 1 ≤ least_width (rules_of w b) cells
+one_column true true cells = omega arith
+one_column true false cells = omega arith
+one_column false true cells = omega arith
+one_column false false cells = omega arith
+
+one_more : (b : Bool) (n : ℕ) → least_columns b (suc n) ≡ least_columns b 1 + least_columns b n
+one_more true n = omega arith
+one_more false n = omega arith
+
+no_columns : (b : Bool) → least_columns b 0 ≡ 0
+no_columns true = refl
+no_columns false = refl
+
+three_each : (w b : Bool) (n : ℕ) (rows : List (List StyledRuns)) → least_columns b n ≤ sum (least_widths (rules_of w b) n rows)
+three_each w b zero rows = let none = no_columns b in omega (arith, none)
+three_each w b (suc n) rows =
+    let more = three_each w b n (map (drop 1) rows) in
+    let own = sum_by-cons (λ x. x) (least_width (rules_of w b) (flat_map (take 1) rows)) (least_widths (rules_of w b) n (map (drop 1) rows)) in
+    let first = one_column w b (flat_map (take 1) rows) in
+    let both = one_more b n in
+    omega (arith, more, own, first, both)
 
 within_by : (m n : ℕ) → nat_le m n ≡ true → m ≤ n
 within_by m n on = grind (arith, nat_tests, on)
 
-has_three : (whole_words : Bool) (room : ℕ) (lines : List LineContent) → has_room whole_words room lines ≡ true → 4 * columns_count lines + 1 ≤ room
-has_three whole_words room lines has =
+room_by_sum : (b : Bool) (n room total : ℕ) → least_columns b n ≤ total → total + n + 1 ≤ room → least_room b n ≤ room
+room_by_sum true n room total least fits = omega (arith, least, fits)
+room_by_sum false n room total least fits = omega (arith, least, fits)
+
+has_three : (w b : Bool) (room : ℕ) (lines : List LineContent) → has_room (rules_of w b) room lines ≡ true → least_room b (columns_count lines) ≤ room
+has_three w b room lines has =
     let n : ℕ = columns_count lines in
-    let fits = within_by (sum (least_widths whole_words n (rows_in lines)) + length (least_widths whole_words n (rows_in lines)) + 1) room has in
-    let count = widths_count whole_words n (rows_in lines) in
-    let three = three_each whole_words n (rows_in lines) in
-    omega (arith, fits, count, three)
+    let widths : List ℕ = least_widths (rules_of w b) n (rows_in lines) in
+    let fits = within_by (sum widths + length widths + 1) room has in
+    let count = widths_count (rules_of w b) n (rows_in lines) in
+    room_by_sum b n room (sum widths) (three_each w b n (rows_in lines)) (omega (arith, fits, count))
 
 none_in : (lines : List LineContent) → length (rows_in lines) ≡ 0 → HaveNoRow lines
 none_in [] h = tt
@@ -151,35 +178,35 @@ zero_by : (n : ℕ) → (n == 0) ≡ true → n ≡ 0
 zero_by n e = grind (arith, nat_tests, e)
 
 -- no line is a row of a table, or the columns of all rows have room
-abbrev HaveRoom : ℕ → List LineContent → Type 0
-HaveRoom room lines = HaveNoRow lines ⊎ (4 * columns_count lines + 1 ≤ room)
+abbrev HaveRoom : Bool → ℕ → List LineContent → Type 0
+HaveRoom b room lines = HaveNoRow lines ⊎ (least_room b (columns_count lines) ≤ room)
 
-stays_with_room : (whole_words : Bool) (room : ℕ) (lines : List LineContent) → are_table lines ≡ true → lacks_room whole_words room lines ≡ false → HaveRoom room lines
-stays_with_room whole_words room lines all has =
-    by_bool (λ z. (length (rows_in lines) == 0) ≡ z → HaveRoom room lines) (length (rows_in lines) == 0)
+stays_with_room : (w b : Bool) (room : ℕ) (lines : List LineContent) → are_table lines ≡ true → lacks_room (rules_of w b) room lines ≡ false → HaveRoom b room lines
+stays_with_room w b room lines all has =
+    by_bool (λ z. (length (rows_in lines) == 0) ≡ z → HaveRoom b room lines) (length (rows_in lines) == 0)
     (λ none e. inl (none_in lines (zero_by (length (rows_in lines)) e)))
-    (λ some e. by_bool (λ h. has_room whole_words room lines ≡ h → HaveRoom room lines) (has_room whole_words room lines)
-    (λ on f. inr (has_three whole_words room lines f))
+    (λ some e. by_bool (λ h. has_room (rules_of w b) room lines ≡ h → HaveRoom b room lines) (has_room (rules_of w b) room lines)
+    (λ on f. inr (has_three w b room lines f))
     (λ off f. absurd (lacks e f))
     refl)
     refl
   where
-    lacks : (length (rows_in lines) == 0) ≡ false → has_room whole_words room lines ≡ false → ⊥
+    lacks : (length (rows_in lines) == 0) ≡ false → has_room (rules_of w b) room lines ≡ false → ⊥
     lacks e f =
-        let is : lacks_room whole_words room lines ≡ true =
-        ap (λ t. t && not (length (rows_in lines) == 0) && not (has_room whole_words room lines)) all ∙ ap (λ t. not t && not (has_room whole_words room lines)) e ∙ ap (λ t. not t) f in
+        let is : lacks_room (rules_of w b) room lines ≡ true =
+        ap (λ t. t && not (length (rows_in lines) == 0) && not (has_room (rules_of w b) room lines)) all ∙ ap (λ t. not t && not (has_room (rules_of w b) room lines)) e ∙ ap (λ t. not t) f in
         cc
 
-section_shown : (rules : LineRules) (ascii : Bool) (width : ℕ) (s : SectionContent) (rows : List RowContent) → HaveRoom (room_at ascii width s.gutters) s.lines → KeepsSection rules ascii width s rows
+section_shown : (rules : LineRules) (ascii : Bool) (width : ℕ) (s : SectionContent) (rows : List RowContent) → HaveRoom rules.cell_blanks (room_at ascii width s.gutters) s.lines → KeepsSection rules ascii width s rows
     → EachBecomes IsShownBy s.lines (lines_of_rows rows)
 section_shown rules ascii width s rows (inl none) kept = nones_shown rules (room_at ascii width s.gutters) (columns_count s.lines) s.lines (lines_of_rows rows) none kept.lines
 section_shown rules ascii width s rows (inr wide) kept = lines_shown rules (room_at ascii width s.gutters) (columns_count s.lines) s.lines (lines_of_rows rows) wide kept.lines
 
 -- Rows show a section, and the lines that are shown of it, one after the other.
 abbrev pub Shows : LineRules → Bool → ℕ → SectionContent → List RowContent → Type 0
-Shows rules ascii width s rows = ShowSection s rows × EachBecomes IsShownBy (lines_of (unfolded rules.whole_words ascii (Some width) s)) (lines_of_rows rows)
+Shows rules ascii width s rows = ShowSection s rows × EachBecomes IsShownBy (lines_of (unfolded (table_rules rules) ascii (Some width) s)) (lines_of_rows rows)
 
-stays_shown : (rules : LineRules) (ascii : Bool) (width : ℕ) (s : SectionContent) (rows : List RowContent) → unfolded rules.whole_words ascii (Some width) s ≡ s ∷ [] → HaveRoom (room_at ascii width s.gutters) s.lines
+stays_shown : (rules : LineRules) (ascii : Bool) (width : ℕ) (s : SectionContent) (rows : List RowContent) → unfolded (table_rules rules) ascii (Some width) s ≡ s ∷ [] → HaveRoom rules.cell_blanks (room_at ascii width s.gutters) s.lines
     → KeepsShown rules ascii width s rows → Shows rules ascii width s rows
 stays_shown rules ascii width s rows stays room kept =
     let one : KeepsSection rules ascii width s rows =
@@ -189,9 +216,9 @@ stays_shown rules ascii width s rows stays room kept =
 
 -- ---- sections
 
-room_by : (whole_words : Bool) (room : ℕ) (s : SectionContent) → IsTableOrNone s → lacks_room whole_words room s.lines ≡ false → HaveRoom room s.lines
-room_by whole_words room s (inl none) has = inl none
-room_by whole_words room s (inr tabled) has = stays_with_room whole_words room s.lines tabled.0 has
+room_by : (w b : Bool) (room : ℕ) (s : SectionContent) → IsTableOrNone s → lacks_room (rules_of w b) room s.lines ≡ false → HaveRoom b room s.lines
+room_by w b room s (inl none) has = inl none
+room_by w b room s (inr tabled) has = stays_with_room w b room s.lines tabled.0 has
 
 no_list : (s : SectionContent) → s.list ≡ None → IsTableOrNone s → HaveNoRow s.lines
 no_list s none (inl h) = h
@@ -203,19 +230,19 @@ no_list s none (inr tabled) = absurd (lost (ap is_some (sym none) ∙ tabled.1))
 shown_by : (rules : LineRules) (ascii : Bool) (width : ℕ) (s : SectionContent) (rows : List RowContent) (list : Option (List Gutter)) → s.list ≡ list → IsTableOrNone s → KeepsShown rules ascii width s rows
     → Shows rules ascii width s rows
 shown_by rules ascii width s rows None is h kept =
-    stays_shown rules ascii width s rows (ap (λ (l : Option (List Gutter)). unfolded_in rules.whole_words (Some (room_at ascii width s.gutters)) l s) is) (inl (no_list s is h)) kept
+    stays_shown rules ascii width s rows (ap (λ (l : Option (List Gutter)). unfolded_in (table_rules rules) (Some (room_at ascii width s.gutters)) l s) is) (inl (no_list s is h)) kept
 shown_by rules ascii width s rows (Some gutters) is h kept =
     let room : ℕ = room_at ascii width s.gutters in
-    let items : List SectionContent = unfolded rules.whole_words ascii (Some width) s in
-    by_bool (λ b. lacks_room rules.whole_words room s.lines ≡ b → Shows rules ascii width s rows) (lacks_room rules.whole_words room s.lines)
+    let items : List SectionContent = unfolded (table_rules rules) ascii (Some width) s in
+    by_bool (λ b. lacks_room (table_rules rules) room s.lines ≡ b → Shows rules ascii width s rows) (lacks_room (table_rules rules) room s.lines)
     (λ on lacks.
     let all : as_list room gutters s ≡ items =
-    ap (λ (t : Bool). if t then as_list room gutters s else s ∷ []) (sym lacks) ∙ ap (λ (l : Option (List Gutter)). unfolded_in rules.whole_words (Some room) l s) (sym is) in
+    ap (λ (t : Bool). if t then as_list room gutters s else s ∷ []) (sym lacks) ∙ ap (λ (l : Option (List Gutter)). unfolded_in (table_rules rules) (Some room) l s) (sym is) in
     let texts : AreTextSections items = subst AreTextSections all (listed_texts room gutters s) in (
-      inr (list_shown rules ascii width s items rows (list_when rules.whole_words ascii width s gutters is lacks) texts kept),
+      inr (list_shown rules ascii width s items rows (list_when (table_rules rules) ascii width s gutters is lacks) texts kept),
       parts_become IsShownBy (λ (item : SectionContent). item.lines) (λ (row : RowContent). row.line) items rows (items_told rules ascii width items rows texts kept),
     ))
-    (λ off has. stays_shown rules ascii width s rows (stays_when rules.whole_words ascii width s gutters is has) (room_by rules.whole_words room s h has) kept)
+    (λ off has. stays_shown rules ascii width s rows (stays_when (table_rules rules) ascii width s gutters is has) (room_by rules.whole_words rules.cell_blanks room s h has) kept)
     refl
 
 -- the rows of what is shown in the place of a section show it, and the lines that are shown of it

@@ -26,8 +26,8 @@ text_is_told skin source width rows wide bound laid =
     let rules : LineRules = line_rules (page_row_skin skin) in
     let ascii : Bool = has_ascii_boxes (page_row_skin skin) in
     let marks : PageMarks = page_marks skin in
-    parts_become IsShownBy (λ (s : SectionContent). lines_shown ascii width (filled marks s)) (λ (row : RowContent). row.line) (markdown_sections source) rows
-    (source_shows marks source rules ascii width (λ (s : SectionContent) (own : List RowContent). EachBecomes IsShownBy (lines_shown ascii width (filled marks s)) (lines_of_rows own))
+    parts_become IsShownBy (λ (s : SectionContent). lines_shown skin.cell_blanks ascii width (filled marks s)) (λ (row : RowContent). row.line) (markdown_sections source) rows
+    (source_shows marks source rules ascii width (λ (s : SectionContent) (own : List RowContent). EachBecomes IsShownBy (lines_shown skin.cell_blanks ascii width (filled marks s)) (lines_of_rows own))
     (dressed_tells rules ascii width marks) rows (pages_keep rules ascii width (dressed_page marks (markdown_sections source)) rows wide bound laid))
 
 -- what shows the same lines shows the same
@@ -37,10 +37,11 @@ both_alike (line ∷ lines) rows others (own, more, joins, here, there) (like, l
 
 -- the rows of a text in two skins show the same
 pub skins_keep_text : SkinsKeepText
-skins_keep_text skin other source width rows others wide bound same words sign laid more =
+skins_keep_text skin other source width rows others wide bound same words cells sign laid more =
     let ascii : Bool = has_ascii_boxes (page_row_skin skin) in
     let page : List SectionContent = markdown_sections source in
     both_alike (lines_in skin width page) (lines_of_rows rows) (lines_of_rows others) (text_is_told skin source width rows wide bound laid)
-    (subst (λ (marks : Bool). EachBecomes IsShownBy (lines_at marks (char_alone skin.sign) ascii width page) (lines_of_rows others)) (sym words)
-    (subst (λ (c : ℕ). EachBecomes IsShownBy (lines_at other.headings.words c ascii width page) (lines_of_rows others)) (sym sign)
-    (subst (λ (boxes : Bool). EachBecomes IsShownBy (lines_at other.headings.words (char_alone other.sign) boxes width page) (lines_of_rows others)) (sym same) (text_is_told other source width others wide bound more))))
+    (subst (λ (marks : Bool). EachBecomes IsShownBy (lines_at marks (char_alone skin.sign) skin.cell_blanks ascii width page) (lines_of_rows others)) (sym words)
+    (subst (λ (c : ℕ). EachBecomes IsShownBy (lines_at other.headings.words c skin.cell_blanks ascii width page) (lines_of_rows others)) (sym sign)
+    (subst (λ (blanks : Bool). EachBecomes IsShownBy (lines_at other.headings.words (char_alone other.sign) blanks ascii width page) (lines_of_rows others)) (sym cells)
+    (subst (λ (boxes : Bool). EachBecomes IsShownBy (lines_at other.headings.words (char_alone other.sign) other.cell_blanks boxes width page) (lines_of_rows others)) (sym same) (text_is_told other source width others wide bound more)))))

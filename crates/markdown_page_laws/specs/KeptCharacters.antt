@@ -1,5 +1,5 @@
 -- Rows that keep the characters of lines.
-use Rattle.std.specs.Prelude.{◌≡◌, ℕ, ◌+◌, ◌*◌, ◌≤◌, List, [], ◌∷◌, ◌++◌, length, map, take, drop}
+use Rattle.std.specs.Prelude.{◌≡◌, ℕ, ◌+◌, ◌≤◌, List, [], ◌∷◌, ◌++◌, length, map, take, drop}
 use Rattle.std.specs.List.{AllByRecursion, flat_map}
 use Rattle.mad_md.specs.Flagged.{FlaggedChar}
 use Rattle.mad_md.specs.Lines.{StyledRuns, LineContent, normal, table_row, table_rule, horizontal_rule}
@@ -15,6 +15,7 @@ use Rattle.mad_format.specs.declared.line.FmtLine.{FmtLine}
 use Rattle.mad_format.specs.declared.line.FmtLine.TheVariants.{Normal, TableRow, TableRule, HorizontalRule}
 use Rattle.mad_format.specs.declared.table.FmtTableRow.{FmtTableRow}
 use Rattle.mad_format.specs.declared.table.FmtTableRule.{FmtTableRule}
+use Rattle.mad_blocks.specs.Tables.{least_room, with_blanks}
 use Rattle.mad_layout.specs.FlaggedLines.{marked_parts}
 use Rattle.mad_layout.specs.FlaggedRows.{AreRowsOf}
 
@@ -46,11 +47,12 @@ KeepCells rules (w ∷ ws) (cell ∷ cells) rows =
 abbrev pub cells_of_rows : List FmtTableRow → List (List FmtComposite)
 cells_of_rows rows = map (λ (row : FmtTableRow). row.cells.items) rows
 
--- Rows keep a row of a table, in a room, in columns that fit in it side by side. Where so many columns of three and their borders have room, each cell has one.
+-- Rows keep a row of a table, in a room, in columns that fit in it side by side with their blanks. Where so many columns of three, their blanks and their borders
+-- have room, each cell has one.
 pub record KeepTableRow (rules : LineRules) (room count : ℕ) (cells : List StyledRuns) (rows : List FmtTableRow) : Type 0 where
   pub widths : List ℕ
-  pub fit : bordered widths + 1 ≤ room
-  pub all : 4 * count + 1 ≤ room → length cells ≤ length widths
+  pub fit : bordered (with_blanks rules.cell_blanks widths) + 1 ≤ room
+  pub all : least_room rules.cell_blanks count ≤ room → length cells ≤ length widths
   pub cells_kept : KeepCells rules widths cells (cells_of_rows rows)
 
 -- What keeps a line in a room, where its table has at most so many columns. A composite and a row of a table are kept by their rows; a rule is one row.

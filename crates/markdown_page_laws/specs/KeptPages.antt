@@ -7,6 +7,7 @@ use Rattle.mad_format.specs.declared.line.FmtLine.{FmtLine}
 use Rattle.mad_sections.specs.Gutters.{room_at, shown_at}
 use Rattle.mad_sections.specs.Sections.{SectionContent}
 use Rattle.mad_sections.specs.TableTexts.{columns_count}
+use Rattle.mad_blocks.specs.Tables.{table_rules}
 use Rattle.mad_sections.specs.Unfolded.{unfolded}
 use Rattle.mad_pages.specs.PageLayouts.{IsPageAt}
 use Rattle.mad_pages.specs.PageRows.{RowContent}
@@ -24,7 +25,7 @@ pub record KeepsSection (rules : LineRules) (ascii : Bool) (width : ℕ) (sectio
 
 -- so they keep the sections that are shown in the place of one
 abbrev pub KeepsShown : LineRules → Bool → ℕ → SectionContent → List RowContent → Type 0
-KeepsShown rules ascii width section rows = EachBecomes (KeepsSection rules ascii width) (unfolded rules.whole_words ascii (Some width) section) rows
+KeepsShown rules ascii width section rows = EachBecomes (KeepsSection rules ascii width) (unfolded (table_rules rules) ascii (Some width) section) rows
 
 -- The rows of each page, from three columns on and at fewer than 2^64 - 1, fall into those of the sections that are shown, one after the other. They keep these.
 abbrev pub PagesKeep : Type 0

@@ -1,3 +1,4 @@
+pub mod CellBlanks
 pub mod KeptCharacters
 pub mod KeptMarkdown
 pub mod KeptOutput

@@ -17,18 +17,18 @@ use Rattle.markdown_page_laws.specs.KeptMarkdown.{solid_at, IsShownBy}
 use Rattle.markdown_page_laws.specs.KeptPages.{lines_of_rows}
 use Rattle.markdown_reader.specs.Markdown.{markdown_sections}
 
--- The lines that are shown of a section at a width: its own, or those of the list in the place of a table that has no room with its words whole. A skin tells one
--- thing of them: whether the boxes of tasks, which take some of that room, are of ASCII characters.
-abbrev pub lines_shown : Bool → ℕ → SectionContent → List LineContent
-lines_shown ascii width section = flat_map (λ (shown : SectionContent). shown.lines) (unfolded true ascii (Some width) section)
+-- The lines that are shown of a section at a width: its own, or those of the list in the place of a table that has no room with its words whole. A skin tells two
+-- things of them: whether a blank is at both sides of each cell, and whether the boxes of tasks are of ASCII characters. Both take some of that room.
+abbrev pub lines_shown : Bool → Bool → ℕ → SectionContent → List LineContent
+lines_shown blanks ascii width section = flat_map (λ (shown : SectionContent). shown.lines) (unfolded (record { whole_words = true; cell_blanks = blanks }) ascii (Some width) section)
 
 -- the lines that are shown of sections, with marks at their words or without, and with this sign in front of what is said of each picture
-abbrev pub lines_at : Bool → ℕ → Bool → ℕ → List SectionContent → List LineContent
-lines_at words sign ascii width page = flat_map (λ (section : SectionContent). lines_shown ascii width (filled_at words sign section)) page
+abbrev pub lines_at : Bool → ℕ → Bool → Bool → ℕ → List SectionContent → List LineContent
+lines_at words sign blanks ascii width page = flat_map (λ (section : SectionContent). lines_shown blanks ascii width (filled_at words sign section)) page
 
 -- so it is in a skin
 abbrev pub lines_in : PageSkin → ℕ → List SectionContent → List LineContent
-lines_in skin width page = lines_at skin.headings.words (char_alone skin.sign) (has_ascii_boxes (page_row_skin skin)) width page
+lines_in skin width page = lines_at skin.headings.words (char_alone skin.sign) skin.cell_blanks (has_ascii_boxes (page_row_skin skin)) width page
 
 -- The rows of a text in each skin show these lines, one after the other.
 abbrev pub TextIsTold : Type 0
@@ -44,9 +44,9 @@ ShowAlike (line ∷ lines) rows others =
     × ((i : ℕ) → solid_at i own ≡ solid_at i like) × ShowAlike lines more likes
 
 -- The rows of a text in two skins show the same, at each width from three columns on and of fewer than 2^64 - 1. Both or neither have boxes of ASCII characters, both
--- or neither have marks at words, and both have the same character in front of pictures.
+-- or neither have marks at words, both or neither have blanks beside cells, and both have the same character in front of pictures.
 abbrev pub SkinsKeepText : Type 0
 SkinsKeepText = (skin other : PageSkin) (source : List ℕ) (width : ℕ) (rows others : List RowContent) → 3 ≤ width → width < 2 ^ 64 - 1
-    → has_ascii_boxes (page_row_skin skin) ≡ has_ascii_boxes (page_row_skin other) → skin.headings.words ≡ other.headings.words → char_alone skin.sign ≡ char_alone other.sign
+    → has_ascii_boxes (page_row_skin skin) ≡ has_ascii_boxes (page_row_skin other) → skin.headings.words ≡ other.headings.words → skin.cell_blanks ≡ other.cell_blanks → char_alone skin.sign ≡ char_alone other.sign
     → IsDressedAt skin (Some width) (markdown_sections source) rows → IsDressedAt other (Some width) (markdown_sections source) others
     → ShowAlike (lines_in skin width (markdown_sections source)) (lines_of_rows rows) (lines_of_rows others)

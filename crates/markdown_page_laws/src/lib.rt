@@ -1,6 +1,7 @@
 //! Laws of pages and of Markdown, each the contract of a small function: no character is lost between what is read and the rows that are shown.
 #![tactic(auto)]
 
+ghost use Rattle.markdown_page_laws.specs.CellBlanks.{CellsHaveBlanks};
 ghost use Rattle.markdown_page_laws.specs.KeptMarkdown.{MarkdownIsKept, PagesShow};
 ghost use Rattle.markdown_page_laws.specs.KeptOutput.{AreasShow, DrawingShows, WritingShows};
 ghost use Rattle.markdown_page_laws.specs.KeptPages.{PagesKeep};
@@ -40,6 +41,11 @@ pub fn output_is_kept()
 /// Beside the text of its line a row has marks alone: blanks, bars, bullets, numbers, boxes, signs, rules and borders.
 pub fn others_are_marks()
     ensures { OthersAreMarks }
+{}
+
+/// In a skin that has blanks beside cells, one is at both sides of each cell of a table, between its text and the borders.
+pub fn cells_have_blanks()
+    ensures { CellsHaveBlanks }
 {}
 
 /// A skin changes no character of a text of Markdown, nor their order, but for its marks and for blanks. A skin with marks at words shows what others

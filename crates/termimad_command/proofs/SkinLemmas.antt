@@ -1,5 +1,6 @@
 -- The skin that a word is.
 use Rattle.std.proofs.Common.{◌≡◌, Bool, true, false, ℕ, List, Some, None, Result, Ok, Err, refl, sym, subst, inl, inr}
+use Rattle.std.specs.Borrow.{Bor}
 use Rattle.std.specs.declared.io.ErrorKind.{ErrorKind}
 use Rattle.std.specs.declared.io.ErrorKind.TheVariants.{OutOfMemory}
 use Rattle.std.specs.Prelude.{MatchBool, MatchResult}
@@ -14,29 +15,31 @@ use Rattle.termimad_command.specs.declared.refusals.Refusal.TheVariants.{Mistake
 pub said_skin : (holds : Held) (word : List ℕ) (r : Result PageSkin Refusal) → is_said word ≡ true
     → MatchResult r (SaysSkin word) (RefusesText word) → MatchResult r (IsSkinOf holds word) (RefusesSkinWord word)
 said_skin holds word (Ok skin) e h = inl (e, h)
-said_skin holds word (Err refusal) e h = subst (λ (b : Bool). MatchBool b (RefusesText word refusal) (IsNoSkin refusal)) (sym e) h
+said_skin holds word (Err refusal) e h = subst (λ (b : Bool). MatchBool b (RefusesText word refusal) (IsNoSkin word refusal)) (sym e) h
 
 -- the text that it names says it
 pub named_skin : (holds : Held) (word bytes slice : List ℕ) (r : Result PageSkin Refusal) → is_said word ≡ false → holds word bytes → slice ≡ bytes
-    → MatchResult r (SaysSkin slice) IsNoSkin → MatchResult r (IsSkinOf holds word) (RefusesSkinWord word)
+    → MatchResult r (SaysSkin slice) (IsNoSkin word) → MatchResult r (IsSkinOf holds word) (RefusesSkinWord word)
 named_skin holds word bytes slice (Ok skin) e held s h = inr (e, (bytes, held, subst (λ (text : List ℕ). SaysSkin text skin) s h))
-named_skin holds word bytes slice (Err refusal) e held s h = subst (λ (b : Bool). MatchBool b (RefusesText word refusal) (IsNoSkin refusal)) (sym e) h
+named_skin holds word bytes slice (Err refusal) e held s h = subst (λ (b : Bool). MatchBool b (RefusesText word refusal) (IsNoSkin word refusal)) (sym e) h
 
-unread_is_none : (kind : ErrorKind) → IsNoSkin (unread_by kind)
-unread_is_none OutOfMemory = tt
-unread_is_none _ = tt
+unread_is_none : (word : Bor (List ℕ)) (kind : ErrorKind) → IsNoSkin word.now (unread_by word kind)
+unread_is_none word OutOfMemory = tt
+unread_is_none word _ = refl
 
 -- it names none that can be read
-pub no_skin_named : (word : List ℕ) (kind : ErrorKind) (refusal : Refusal) → is_said word ≡ false → refusal ≡ unread_by kind → RefusesSkinWord word refusal
+pub no_skin_named : (word : Bor (List ℕ)) (kind : ErrorKind) (refusal : Refusal) → is_said word.now ≡ false → refusal ≡ unread_by word kind
+    → RefusesSkinWord word.now refusal
 no_skin_named word kind refusal e is =
-    subst (λ (b : Bool). MatchBool b (RefusesText word refusal) (IsNoSkin refusal)) (sym e) (subst IsNoSkin (sym is) (unread_is_none kind))
+    subst (λ (b : Bool). MatchBool b (RefusesText word.now refusal) (IsNoSkin word.now refusal)) (sym e)
+    (subst (IsNoSkin word.now) (sym is) (unread_is_none word kind))
 
 -- why a text says no skin, by what is wrong with it
 pub fault_refuses : (text : List ℕ) (refusal : Refusal) → page_skin_given (Some text) ≡ None → SaysFault text refusal → RefusesText text refusal
 fault_refuses text (Mistaken words) e h = absurd h
 fault_refuses text Undecoded e h = absurd h
 fault_refuses text Lacking e h = absurd h
-fault_refuses text Skin e h = absurd h
+fault_refuses text (Skin word) e h = absurd h
 fault_refuses text (FaultySkin line) e h = (e, h)
 fault_refuses text (Unreadable name) e h = absurd h
 fault_refuses text NotUtf8 e h = absurd h
@@ -45,23 +48,23 @@ fault_refuses text Unread e h = absurd h
 fault_refuses text Memory e h = tt
 
 -- why a text says no skin is that there is none, or no memory
-text_refused : (text : List ℕ) (refusal : Refusal) → RefusesText text refusal → IsNoSkin refusal
-text_refused text (Mistaken words) h = absurd h
-text_refused text Undecoded h = absurd h
-text_refused text Lacking h = absurd h
-text_refused text Skin h = absurd h
-text_refused text (FaultySkin line) h = tt
-text_refused text (Unreadable name) h = absurd h
-text_refused text NotUtf8 h = absurd h
-text_refused text Output h = absurd h
-text_refused text Unread h = absurd h
-text_refused text Memory h = tt
+text_refused : (word text : List ℕ) (refusal : Refusal) → RefusesText text refusal → IsNoSkin word refusal
+text_refused word text (Mistaken words) h = absurd h
+text_refused word text Undecoded h = absurd h
+text_refused word text Lacking h = absurd h
+text_refused word text (Skin named) h = absurd h
+text_refused word text (FaultySkin line) h = tt
+text_refused word text (Unreadable name) h = absurd h
+text_refused word text NotUtf8 h = absurd h
+text_refused word text Output h = absurd h
+text_refused word text Unread h = absurd h
+text_refused word text Memory h = tt
 
 -- bytes say the skin that the text says which they are
-pub skin_in_text : (bytes text : List ℕ) (r : Result PageSkin Refusal) → text ≡ bytes → MatchResult r (SaysSkin text) (RefusesText text)
-    → MatchResult r (SaysSkin bytes) IsNoSkin
-skin_in_text bytes text (Ok skin) e h = subst (λ (text : List ℕ). SaysSkin text skin) e h
-skin_in_text bytes text (Err refusal) e h = text_refused text refusal h
+pub skin_in_text : (word bytes text : List ℕ) (r : Result PageSkin Refusal) → text ≡ bytes → MatchResult r (SaysSkin text) (RefusesText text)
+    → MatchResult r (SaysSkin bytes) (IsNoSkin word)
+skin_in_text word bytes text (Ok skin) e h = subst (λ (text : List ℕ). SaysSkin text skin) e h
+skin_in_text word bytes text (Err refusal) e h = text_refused word text refusal h
 
 -- a text says this skin
 pub text_said : (text : List ℕ) (r : Result PageSkin Refusal) (skin : PageSkin) (unknown : List (List ℕ)) → r ≡ Ok skin → page_skin_given (Some text) ≡ Some (skin, unknown)

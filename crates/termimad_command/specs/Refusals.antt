@@ -23,25 +23,37 @@ status_of (Mistaken text) = 2
 status_of Undecoded = 2
 status_of Lacking = 2
 status_of NotUtf8 = 3
-status_of Skin = 4
+status_of (Skin word) = 4
 status_of (FaultySkin line) = 4
 status_of Memory = 5
 status_of Unread = 141
 
--- the line for a text that can't be read: what is printable of its name
+-- a line that says something of a name: what is printable of it, and the rest
+abbrev pub named_line : List ℕ → List ℕ → List ℕ
+named_line name rest = codes "termimad: " ++ (shown_bytes name ++ rest)
+
+-- the line for a text that can't be read
 abbrev pub name_line : List ℕ → List ℕ
-name_line name = codes "termimad: " ++ (shown_bytes name ++ codes " can't be read\n")
+name_line name = named_line name (codes " can't be read\n")
 
 -- the same without its name
 abbrev pub short_line : List ℕ
 short_line = codes "termimad: a text can't be read\n"
+
+-- the line for a word that is no skin
+abbrev pub skin_line : List ℕ → List ℕ
+skin_line word = named_line word (codes " is no name, no file and no JSON of a skin\n")
+
+-- the same without the word
+abbrev pub short_skin_line : List ℕ
+short_skin_line = codes "termimad: SKIN is no name, no file and no JSON of a skin\n"
 
 -- what is said on standard error, once; nothing, where nobody reads the output
 abbrev pub Says : Refusal → Trace → Trace → Type 0
 Says (Mistaken text) old new = SaysOnce old (string_bytes text) new
 Says Undecoded old new = SaysOnce old (codes "termimad: a word isn't UTF-8\n") new
 Says Lacking old new = SaysOnce old (codes "termimad: --stream and --live of what isn't Markdown aren't there yet\n") new
-Says Skin old new = SaysOnce old (codes "termimad: SKIN is no name, no file and no JSON of a skin\n") new
+Says (Skin word) old new = SaysOnce old (skin_line word.now) new ⊎ SaysOnce old short_skin_line new
 Says (FaultySkin line) old new = SaysOnce old (string_bytes line) new
 Says (Unreadable name) old new = SaysOnce old (name_line name.now) new ⊎ SaysOnce old short_line new
 Says NotUtf8 old new = SaysOnce old (codes "termimad: what came isn't UTF-8\n") new

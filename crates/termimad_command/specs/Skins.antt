@@ -1,6 +1,7 @@
 -- The skin of a call.
 use Rattle.std.specs.Prelude.{◌≡◌, ◌⊎◌, ◌||◌, ◌==◌, ◌++◌, ℕ, Bool, true, false, List, [], ◌∷◌, codes, string_bytes, Some, None, ⊤}
 use Rattle.std.specs.Bool.{MatchBool}
+use Rattle.std.specs.Borrow.{Bor}
 use Rattle.std.specs.Str.{bytes_eq}
 use Rattle.std.specs.declared.io.ErrorKind.{ErrorKind}
 use Rattle.std.specs.declared.io.ErrorKind.TheVariants.{OutOfMemory}
@@ -48,22 +49,22 @@ RefusesText text (FaultySkin line) = (page_skin_given (Some text) ≡ None) × (
 RefusesText text Memory = ⊤
 RefusesText text _ = ⊥
 
--- what a fault of this kind in reading the text of a skin makes of a call
-abbrev pub unread_by : ErrorKind → Refusal
-unread_by OutOfMemory = Memory
-unread_by _ = Skin
+-- what a fault of this kind in reading the text that a word for a skin names makes of a call
+abbrev pub unread_by : Bor (List ℕ) → ErrorKind → Refusal
+unread_by word OutOfMemory = Memory
+unread_by word _ = Skin word
 
 -- the word says this skin, or the text that it names does
 abbrev pub IsSkinOf : Held → List ℕ → PageSkin → Type 0
 IsSkinOf holds word skin = ((is_said word ≡ true) × SaysSkin word skin) ⊎ ((is_said word ≡ false) × ((text : List ℕ) × holds word text × SaysSkin text skin))
 
--- there is no skin, or no memory for one
-abbrev pub IsNoSkin : Refusal → Type 0
-IsNoSkin Skin = ⊤
-IsNoSkin (FaultySkin line) = ⊤
-IsNoSkin Memory = ⊤
-IsNoSkin _ = ⊥
+-- the word names no skin, or there is no memory for one
+abbrev pub IsNoSkin : List ℕ → Refusal → Type 0
+IsNoSkin word (Skin named) = named.now ≡ word
+IsNoSkin word (FaultySkin line) = ⊤
+IsNoSkin word Memory = ⊤
+IsNoSkin word _ = ⊥
 
 -- Why a word is no skin: it says none itself, or it names a text that can't be read, is none, or says none.
 abbrev pub RefusesSkinWord : List ℕ → Refusal → Type 0
-RefusesSkinWord word refusal = MatchBool (is_said word) (RefusesText word refusal) (IsNoSkin refusal)
+RefusesSkinWord word refusal = MatchBool (is_said word) (RefusesText word refusal) (IsNoSkin word refusal)

@@ -1,7 +1,7 @@
 //! Why a call isn't done, or not all of it, and what is said of that.
 
 ghost use Rattle.std.specs.Prelude.{◌≡◌, ◌⊎◌, IfOk, string_bytes};
-ghost use Rattle.termimad_command.specs.Refusals.{Says, name_line, refusal_of, refusal_reading, short_line, status_of, stream_refusal};
+ghost use Rattle.termimad_command.specs.Refusals.{Says, name_line, named_line, refusal_of, refusal_reading, short_line, short_skin_line, skin_line, status_of, stream_refusal};
 ghost use Rattle.termimad_words.specs.Failures.{SaysOnce};
 
 use mad_measure::printable;
@@ -22,8 +22,8 @@ pub enum Refusal<'a> {
     Undecoded,
     /// The words ask for what isn't there yet.
     Lacking,
-    /// The word for the skin says none, and names no text that can be read.
-    Skin,
+    /// This word for the skin says none, and names no text that can be read.
+    Skin(&'a str),
     /// The text of a skin says none: the line that says what is wrong with it.
     FaultySkin(String),
     /// The text of this name can't be read.
@@ -47,7 +47,7 @@ impl Refusal<'_> {
             Refusal::Unreadable(_) | Refusal::Output => 1,
             Refusal::Mistaken(_) | Refusal::Undecoded | Refusal::Lacking => 2,
             Refusal::NotUtf8 => 3,
-            Refusal::Skin | Refusal::FaultySkin(_) => 4,
+            Refusal::Skin(_) | Refusal::FaultySkin(_) => 4,
             Refusal::Memory => 5,
             Refusal::Unread => UNREAD,
         }
@@ -114,10 +114,7 @@ fn say_refusal<E: Out>(alloc: Global, err: &mut E, refusal: Refusal)
                 "termimad: --stream and --live of what isn't Markdown aren't there yet\n",
             )
         }
-        Refusal::Skin => say(
-            err,
-            "termimad: SKIN is no name, no file and no JSON of a skin\n",
-        ),
+        Refusal::Skin(word) => say_no_skin(alloc, err, word),
         Refusal::FaultySkin(line) => say(err, &line),
         Refusal::Unreadable(name) => say_unreadable(alloc, err, name),
         Refusal::NotUtf8 => say(err, "termimad: what came isn't UTF-8\n"),
@@ -138,19 +135,32 @@ fn say<E: Out>(err: &mut E, text: &str)
 fn say_unreadable<E: Out>(alloc: Global, err: &mut E, name: &str)
     ensures { SaysOnce (E.seen err.old) (name_line name.now) (E.seen err.new) ⊎ SaysOnce (E.seen err.old) short_line (E.seen err.new) }
 {
-    match name_line(alloc, name) {
+    match named_line(alloc, name, " can't be read\n") {
         Ok(line) => say(err, &line),
         Err(_) => say(err, "termimad: a text can't be read\n"),
     }
 }
 
-// The line that says which text can't be read: what is printable of its name.
-fn name_line(alloc: Global, name: &str) -> Result<String, AllocError>
-    ensures { IfOk result (λ line. string_bytes line ≡ name_line name.now) }
+// Says that a word is no skin; without the word, where there is no memory for it.
+fn say_no_skin<E: Out>(alloc: Global, err: &mut E, word: &str)
+    ensures { SaysOnce (E.seen err.old) (skin_line word.now) (E.seen err.new) ⊎ SaysOnce (E.seen err.old) short_skin_line (E.seen err.new) }
+{
+    match named_line(alloc, word, " is no name, no file and no JSON of a skin\n") {
+        Ok(line) => say(err, &line),
+        Err(_) => say(
+            err,
+            "termimad: SKIN is no name, no file and no JSON of a skin\n",
+        ),
+    }
+}
+
+// The line that says something of a name: what is printable of it, and the rest.
+fn named_line(alloc: Global, name: &str, rest: &str) -> Result<String, AllocError>
+    ensures { IfOk result (λ line. string_bytes line ≡ named_line name.now rest.now) }
 {
     let name = printable(alloc, name)?;
     let mut line = String::from_str(alloc, "termimad: ")?;
     line.push_str(&name)?;
-    line.push_str(" can't be read\n")?;
+    line.push_str(rest)?;
     Ok(line)
 }

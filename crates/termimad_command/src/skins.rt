@@ -21,7 +21,7 @@ use termimad_words::{Failure, page_skin_fault, page_skin_of_word};
 pub(crate) fn skin_of_word<'a, T: Texts>(
     alloc: Global,
     texts: &T,
-    word: &str,
+    word: &'a str,
 ) -> Result<PageSkin, Refusal<'a>>
     ensures { MatchResult result (IsSkinOf (T.holds texts.now) word.now) (RefusesSkinWord word.now) }
 {
@@ -29,27 +29,27 @@ pub(crate) fn skin_of_word<'a, T: Texts>(
         return skin_said(alloc, word);
     }
     match texts.read(alloc, word) {
-        Ok(bytes) => skin_in(alloc, bytes.as_slice()),
-        Err(error) => Err(skin_unread(&error)),
+        Ok(bytes) => skin_in(alloc, word, bytes.as_slice()),
+        Err(error) => Err(skin_unread(word, &error)),
     }
 }
 
-// What a fault in reading the text of a skin makes of a call.
-fn skin_unread<'a>(error: &io::Error) -> Refusal<'a>
-    ensures { result ≡ unread_by (error_kind error.now) }
+// What a fault in reading the text that a word for a skin names makes of a call.
+fn skin_unread<'a>(word: &'a str, error: &io::Error) -> Refusal<'a>
+    ensures { result ≡ unread_by word.entry (error_kind error.now) }
 {
     match error.kind() {
         ErrorKind::OutOfMemory => Refusal::Memory,
-        _ => Refusal::Skin,
+        _ => Refusal::Skin(word),
     }
 }
 
-// The skin that the text says which bytes are.
-fn skin_in<'a>(alloc: Global, bytes: &[u8]) -> Result<PageSkin, Refusal<'a>>
-    ensures { MatchResult result (SaysSkin bytes.now) IsNoSkin }
+// The skin that the text says which a word names, and which these bytes are.
+fn skin_in<'a>(alloc: Global, word: &'a str, bytes: &[u8]) -> Result<PageSkin, Refusal<'a>>
+    ensures { MatchResult result (SaysSkin bytes.now) (IsNoSkin word.now) }
 {
     let Ok(text) = str::from_utf8(bytes) else {
-        return Err(Refusal::Skin);
+        return Err(Refusal::Skin(word));
     };
     skin_said(alloc, text)
 }

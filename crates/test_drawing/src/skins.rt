@@ -1,5 +1,7 @@
 //! A skin that is no more than what laying out asks of one.
 
+ghost use Rattle.std.specs.Prelude.{false};
+
 use mad_format::LineSkin;
 use mad_md::Alignment;
 use mad_style::{CompositeKind, CompoundStyle, LineStyle, ListItemsIndentationMode};
@@ -13,7 +15,7 @@ pub struct TestSkin {
 }
 
 impl LineSkin for TestSkin {
-    ghost rules = { λ skin. record { list_items_indentation_mode = skin.mode; whole_words = skin.keeps_words; line_style = λ kind. skin.style } };
+    ghost rules = { λ skin. record { list_items_indentation_mode = skin.mode; whole_words = skin.keeps_words; cell_blanks = false; line_style = λ kind. skin.style } };
 
     fn items_indentation(&self) -> ListItemsIndentationMode {
         self.mode
@@ -21,6 +23,10 @@ impl LineSkin for TestSkin {
 
     fn whole_words(&self) -> bool {
         self.keeps_words
+    }
+
+    fn cell_blanks(&self) -> bool {
+        false
     }
 
     fn style_of(&self, _kind: CompositeKind) -> &LineStyle {

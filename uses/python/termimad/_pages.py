@@ -177,11 +177,11 @@ class Markdown(_Shown):
     >>> print(page)
     ▌ _three_ disks
     <BLANKLINE>
-    ╭────┬────╮
-    │disk│used│
-    ├────┼────┤
-    │/   │   7│
-    ╰────┴────╯
+    ╭──────┬──────╮
+    │ disk │ used │
+    ├──────┼──────┤
+    │ /    │    7 │
+    ╰──────┴──────╯
     >>> page.rows(width=9)[:2]
     ['▌ _three_', '▌ disks']
 

@@ -1,24 +1,24 @@
-use Rattle.std.proofs.Common.{◌+◌, ◌*◌, ◌≤◌, Bool, arith, rules, subst, sym}
-use Rattle.mad_blocks.specs.Tables.{lengths_in, words_in, rows_among, AreKeptWidths}
-use Rattle.mad_blocks.proofs.TableWidths.{kept_fitted, kept_whole, ok_narrow}
+use Rattle.std.proofs.Common.{◌≤◌, ◌<◌, arith, rules}
+use Rattle.mad_blocks.specs.Tables.{most_columns}
+use Rattle.mad_blocks.proofs.TableWidths.{ok_narrow, ok_wide, room_beside}
 use Rattle.mad_blocks.proofs.table_columns.kept_widths.Goals as goal
 
 pub returns-then-most-nbcols : goal.returns-then-most-nbcols
-returns-then-most-nbcols c = ok_narrow c.vec.result c.args.whole_words c.args.nbcols c.args.width c.args.table.now c.requires c.if-most-nbcols.true (search rules)
+returns-then-most-nbcols c =
+    let b = c.args.rules.cell_blanks in
+    let few : most_columns b c.args.width < c.args.nbcols = omega (arith, c.most_columns-most.ensures, c.if-most-nbcols.true) in
+    ok_narrow c.vec.result c.args.rules.whole_words b c.args.nbcols c.args.width c.args.table.now c.requires few (search rules)
 
-pub returns-then-whole_words : goal.returns-then-whole_words
-returns-then-whole_words c =
-    let n = c.args.nbcols in
-    let table = c.args.table.now in
-    let wide : 4 * n + 1 ≤ c.args.width = omega (arith, c.if-most-nbcols.false, c.requires) in
-    subst (λ (b : Bool). AreKeptWidths b n c.args.width table c.in_ok-fit_words.field-0.col_widths.items) (sym c.if-whole_words.true)
-    (kept_whole n c.args.width table c.in_ok-fit_words.field-0 wide (search rules)
-    (c.in_ok-fit_words.ensures c.args.width c.args.width (lengths_in n (rows_among table)) (words_in n (rows_among table)) c.in_ok-cells.ensures c.in_ok-words.ensures))
+pub without_blanks-room-requires : goal.without_blanks-room-requires
+without_blanks-room-requires c = omega (arith, c.most_columns-most.ensures, c.if-most-nbcols.false)
+
+pub fitted_widths-requires : goal.fitted_widths-requires
+fitted_widths-requires c =
+    let few : c.args.nbcols ≤ most_columns c.args.rules.cell_blanks c.args.width = omega (arith, c.most_columns-most.ensures, c.if-most-nbcols.false) in
+    omega (arith, c.without_blanks-room.ensures, room_beside c.args.rules.cell_blanks c.args.nbcols c.args.width c.requires few)
 
 pub returns : goal.returns
 returns c =
-    let n = c.args.nbcols in
-    let table = c.args.table.now in
-    let wide : 4 * n + 1 ≤ c.args.width = omega (arith, c.if-most-nbcols.false, c.requires) in
-    subst (λ (b : Bool). AreKeptWidths b n c.args.width table c.in_ok-fit.field-0.col_widths.items) (sym c.if-whole_words.false)
-    (kept_fitted n c.args.width table c.in_ok-fit.field-0 wide (search rules) (c.in_ok-fit.ensures c.args.width (lengths_in n (rows_among table)) c.in_ok-cells.ensures))
+    let few : c.args.nbcols ≤ most_columns c.args.rules.cell_blanks c.args.width = omega (arith, c.most_columns-most.ensures, c.if-most-nbcols.false) in
+    ok_wide c.fitted_widths.result c.args.rules.whole_words c.args.rules.cell_blanks c.args.nbcols c.args.width c.args.table.now c.requires few
+    (rw c.without_blanks-room.ensures at c.fitted_widths.ensures)

@@ -1,28 +1,34 @@
-use Rattle.std.proofs.Common.{◌+◌, ◌*◌, ◌≤◌, ◌<◌, ◌^◌, ◌∙◌, Bool, length, map, arith, rules, subst, sym}
+use Rattle.std.proofs.Common.{◌≤◌, ◌<◌, map, arith, rules}
 use Rattle.mad_md.specs.Lines.{content_of}
-use Rattle.mad_blocks.specs.Tables.{lengths_in, words_in, rows_among, AreKeptWidths}
-use Rattle.mad_blocks.proofs.ReadTables.{read_few, read_narrow}
-use Rattle.mad_blocks.proofs.TableWidths.{kept_fitted, kept_whole}
+use Rattle.mad_blocks.specs.Tables.{most_columns}
+use Rattle.mad_blocks.proofs.ReadTables.{read_narrow, read_wide}
+use Rattle.mad_blocks.proofs.TableWidths.{room_beside}
 use Rattle.mad_blocks.proofs.table_columns.read_widths.Goals as goal
 
 pub returns-then-most-nbcols : goal.returns-then-most-nbcols
-returns-then-most-nbcols g c = read_narrow c.vec.result (g.S.LineSkin.rules c.args.skin.now) c.args.nbcols c.args.width (map content_of c.args.table.now) c.requires c.if-most-nbcols.true (search rules)
+returns-then-most-nbcols g c =
+    let skin = g.S.LineSkin.rules c.args.skin.now in
+    let most = rw c.cell_blanks.ensures at c.most_columns-most.ensures in
+    let few : most_columns skin.cell_blanks c.args.width < c.args.nbcols = omega (arith, most, c.if-most-nbcols.true) in
+    read_narrow c.vec.result skin c.args.nbcols c.args.width (map content_of c.args.table.now) c.requires few (search rules)
 
-pub returns-then-whole_words : goal.returns-then-whole_words
-returns-then-whole_words g c =
-    let n = c.args.nbcols in
-    let wide : 4 * n + 1 ≤ c.args.width = omega (arith, c.if-most-nbcols.false, c.requires) in
-    let few : length c.args.table.now < 2 ^ 64 = search rules in
-    λ read h.
-    subst (λ (b : Bool). AreKeptWidths b n c.args.width read c.in_ok-fit_words.field-0.col_widths.items) (sym c.if-whole_words.true ∙ c.whole_words.ensures)
-    (kept_whole n c.args.width read c.in_ok-fit_words.field-0 wide (read_few (g.S.LineSkin.rules c.args.skin.now) c.args.table.now read h few)
-    (c.in_ok-fit_words.ensures c.args.width c.args.width (lengths_in n (rows_among read)) (words_in n (rows_among read)) (c.in_ok-cells.ensures read h) (c.in_ok-words.ensures read h)))
+pub without_blanks-room-requires : goal.without_blanks-room-requires
+without_blanks-room-requires g c =
+    let most = rw c.cell_blanks.ensures at c.most_columns-most.ensures in
+    rw c.cell_blanks-2.ensures (omega (arith, most, c.if-most-nbcols.false))
+
+pub fitted_lines-requires : goal.fitted_lines-requires
+fitted_lines-requires g c =
+    let skin = g.S.LineSkin.rules c.args.skin.now in
+    let most = rw c.cell_blanks.ensures at c.most_columns-most.ensures in
+    let room = rw c.cell_blanks-2.ensures at c.without_blanks-room.ensures in
+    let few : c.args.nbcols ≤ most_columns skin.cell_blanks c.args.width = omega (arith, most, c.if-most-nbcols.false) in
+    omega (arith, room, room_beside skin.cell_blanks c.args.nbcols c.args.width c.requires few)
 
 pub returns : goal.returns
 returns g c =
-    let n = c.args.nbcols in
-    let wide : 4 * n + 1 ≤ c.args.width = omega (arith, c.if-most-nbcols.false, c.requires) in
-    let few : length c.args.table.now < 2 ^ 64 = search rules in
-    λ read h.
-    subst (λ (b : Bool). AreKeptWidths b n c.args.width read c.in_ok-fit.field-0.col_widths.items) (sym c.if-whole_words.false ∙ c.whole_words.ensures)
-    (kept_fitted n c.args.width read c.in_ok-fit.field-0 wide (read_few (g.S.LineSkin.rules c.args.skin.now) c.args.table.now read h few) (c.in_ok-fit.ensures c.args.width (lengths_in n (rows_among read)) (c.in_ok-cells.ensures read h)))
+    let skin = g.S.LineSkin.rules c.args.skin.now in
+    let most = rw c.cell_blanks.ensures at c.most_columns-most.ensures in
+    let room = rw c.cell_blanks-2.ensures at c.without_blanks-room.ensures in
+    let few : c.args.nbcols ≤ most_columns skin.cell_blanks c.args.width = omega (arith, most, c.if-most-nbcols.false) in
+    read_wide c.fitted_lines.result skin c.args.nbcols c.args.width (map content_of c.args.table.now) c.requires few (rw room at c.fitted_lines.ensures)

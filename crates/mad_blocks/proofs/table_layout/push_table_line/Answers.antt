@@ -10,7 +10,7 @@ returns-in-TableRow g c = then_ok _ _ c.push_row.result (λ laid. rw c.in-TableR
 pub returns-in_ok-rule-in-TableRule : goal.returns-in_ok-rule-in-TableRule
 returns-in_ok-rule-in-TableRule g c =
     let rule = c.in_ok-rule-in-TableRule.rule in
-    then_ok _ _ c.put_line.result (λ pushed. rw c.in-TableRule.is (TableRule rule ∷ [], pushed, (rule, refl, c.in_ok-rule-in-TableRule.ensures))) c.put_line.ensures
+    then_ok _ _ c.put_line.result (λ pushed. rw c.in-TableRule.is (TableRule rule ∷ [], pushed, (rule, refl, rw c.cell_blanks.ensures at c.in_ok-rule-in-TableRule.ensures))) c.put_line.ensures
 
 pub returns-in_default : goal.returns-in_default
 returns-in_default g c =

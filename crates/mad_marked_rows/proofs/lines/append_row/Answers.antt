@@ -14,6 +14,6 @@ returns c =
     let skin = c.args.skin in
     row_bytes (paint_by skin.paint.styles.now) has_mark skin.runs.now skin.skin.now c.args.outer c.args.filled c.args.numbers.now c.args.cells.now skin.addresses.now c.spaces_beside.result.0 c.spaces_beside.result.1
     (string_bytes c.args.rows.now) (string_bytes c.write.new.self) (string_bytes c.append_cells.new.rows) (string_bytes c.write-2.new.self) (string_bytes c.write-3.new.self)
-    (c.spaces_beside.ensures.left (row_columns c.args.cells.now) c.row_columns-columns.ensures) (c.spaces_beside.ensures.right (row_columns c.args.cells.now) c.row_columns-columns.ensures) c.in_ok-write.ensures.bytes c.in_ok-append_cells.ensures
+    (c.spaces_beside.ensures.left (row_columns c.args.skin.skin.now c.args.cells.now) c.row_columns-columns.ensures) (c.spaces_beside.ensures.right (row_columns c.args.skin.skin.now c.args.cells.now) c.row_columns-columns.ensures) c.in_ok-write.ensures.bytes c.in_ok-append_cells.ensures
     (c.in_ok-write-2.ensures.bytes ∙ ap (λ (b : StyledChar). string_bytes c.append_cells.new.rows ++ piece_bytes (char_piece b).style (char_piece b).text) c.vertical-border.ensures)
     c.in_ok-write-3.ensures.bytes

@@ -1,5 +1,5 @@
 use Rattle.termimad_command.proofs.SayLemmas.{fault_told, mistake_said, refusal_said}
-use Rattle.termimad_command.specs.declared.refusals.Refusal.TheVariants.{Lacking, Skin, NotUtf8, Memory}
+use Rattle.termimad_command.specs.declared.refusals.Refusal.TheVariants.{Lacking, NotUtf8, Memory}
 use Rattle.termimad_command.proofs.refusals.say_refusal.Goals as goal
 
 pub returns-in-Mistaken : goal.returns-in-Mistaken
@@ -7,9 +7,6 @@ returns-in-Mistaken g c = mistake_said _ c.in-Mistaken.text _ _ _ c.in-Mistaken.
 
 pub returns-in-Lacking : goal.returns-in-Lacking
 returns-in-Lacking g c = refusal_said _ Lacking _ _ c.in-Lacking.is c.say-in-Lacking.ensures
-
-pub returns-in-Skin : goal.returns-in-Skin
-returns-in-Skin g c = refusal_said _ Skin _ _ c.in-Skin.is c.say-in-Skin.ensures
 
 pub returns-in-FaultySkin : goal.returns-in-FaultySkin
 returns-in-FaultySkin g c = fault_told _ c.in-FaultySkin.line _ _ _ c.in-FaultySkin.is c.deref-in-FaultySkin.ensures c.say-in-FaultySkin.ensures

@@ -10,4 +10,4 @@ returns-in-Ok g c =
     named_skin (g.T.Texts.holds c.args.texts.now) c.args.word.now c.in-Ok.bytes.items _ c.skin_in.result (sym c.is_said.ensures ∙ c.if-is_said.false) c.in-Ok.ensures c.as_slice.ensures.value c.skin_in.ensures
 
 pub returns-in-Err : goal.returns-in-Err
-returns-in-Err g c = no_skin_named c.args.word.now _ c.skin_unread.result (sym c.is_said.ensures ∙ c.if-is_said.false) c.skin_unread.ensures
+returns-in-Err g c = no_skin_named c.args.word _ c.skin_unread.result (sym c.is_said.ensures ∙ c.if-is_said.false) c.skin_unread.ensures
