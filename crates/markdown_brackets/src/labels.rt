@@ -41,6 +41,21 @@ impl Labels {
         }
     }
 
+    /// The same labels, which are owned.
+    ///
+    /// # Errors
+    ///
+    /// Out of memory is the only error.
+    pub fn copied(&self, alloc: Global) -> Result<Labels, AllocError>
+        ensures { IfOk result (λ labels. labels ≡ self.now) }
+    {
+        let mut numbers = BTreeMap::new(alloc);
+        for (label, number) in &self.numbers {
+            numbers.insert(String::from_str(alloc, label.as_str())?, *number)?;
+        }
+        Ok(Labels { numbers })
+    }
+
     /// The number of a label in the list, from 0 on.
     pub fn number_of(&self, label: &str) -> Option<usize>
         ensures { result ≡ position (bytes_eq label.now) self.now }
