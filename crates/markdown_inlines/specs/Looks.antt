@@ -24,3 +24,7 @@ abbrev pub look_of : Flags → Bool → (link picture : Option ℕ) → Look
 look_of flags code link picture =
     let own = not (is_some picture) in
     record { bold = flags.bold && own; italic = flags.italic && own; strikeout = flags.strikeout && own; code = code && own; link = link; picture = picture }
+
+-- how a text looks that has no flag and belongs to no link, and that no picture says
+abbrev pub plain_look : Look
+plain_look = record { bold = false; italic = false; strikeout = false; code = false; link = None; picture = None }

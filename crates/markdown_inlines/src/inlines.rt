@@ -1,22 +1,23 @@
 //! The inlines of a leaf's text.
 
-ghost use Rattle.std.specs.Prelude.{◌≡◌, ◌<◌, ◌^◌, ◌++◌, List, true, IfOk, OnOk, length};
+ghost use Rattle.std.specs.Prelude.{◌≡◌, ◌<◌, ◌^◌, ◌++◌, [], List, true, IfOk, OnOk, length, map};
 ghost use Rattle.markdown_pieces.specs.Places.{AreCut};
 ghost use Rattle.markdown_inlines.specs.declared.inlines.LinkTarget.{LinkTarget};
-ghost use Rattle.markdown_inlines.specs.Looks.{look_of};
+ghost use Rattle.markdown_inlines.specs.Looks.{look_of, plain_look};
+ghost use Rattle.markdown_inlines.specs.Parts.{shown_text};
 ghost use Rattle.markdown_inlines.specs.Inlines.{is_code, target_by, link_target, with_link, links_from, shown_from, leaf_text, are_shown, leaf_links};
-ghost use Rattle.markdown_inlines.specs.Styled.{spelled_of, IsStyled};
+ghost use Rattle.markdown_inlines.specs.Styled.{shown_with, spelled_of, IsStyled};
 
 use crate::left::left_of;
 use crate::links::{Over, overs_of};
-use crate::looks::{Look, look_of};
+use crate::looks::{Look, look_of, plain_look};
 use crate::parts::push_piece;
 use crate::styled::Styled;
 use markdown_addresses::addresses::Scheme;
 use markdown_brackets::labels::Labels;
 use markdown_brackets::targets::Target;
 use markdown_emphasis::{Flags, flag_pieces};
-use markdown_pieces::cut::cut_text;
+use markdown_pieces::cut::{cut_text, is_quiet};
 use markdown_pieces::pieces::{Kind, Piece};
 use std::alloc::{AllocError, Global};
 
@@ -134,6 +135,21 @@ fn shown_pieces(
     Ok(LeafText { styled, links })
 }
 
+// What is shown of a text of which each byte stands for itself.
+fn quiet_text(alloc: Global, text: &str) -> Result<LeafText, AllocError>
+    ensures shown { IfOk result (λ leaf. spelled_of leaf.styled ≡ map (shown_with plain_look) (shown_text text.now)) }
+    ensures styled { IfOk result (λ leaf. IsStyled leaf.styled) }
+    ensures links { IfOk result (λ leaf. leaf.links.items ≡ []) }
+{
+    let mut styled = Styled::with_capacity(alloc, text.len())?;
+    let look = plain_look();
+    styled.push_text(text, &look)?;
+    Ok(LeafText {
+        styled,
+        links: Vec::new(alloc),
+    })
+}
+
 /// What is shown of a leaf's text, with links to these definitions. It has no control character but the newlines that break its lines,
 /// and none that turns the direction of writing.
 ///
@@ -146,6 +162,10 @@ pub fn leaf_text(alloc: Global, labels: &Labels, text: &str) -> Result<LeafText,
     ensures styled { IfOk result (λ leaf. IsStyled leaf.styled) }
     ensures links { IfOk result (λ leaf. leaf.links.items ≡ leaf_links labels.now text.now) }
 {
+    if is_quiet(text) {
+        let quiet = quiet_text(alloc, text)?;
+        return Ok(quiet);
+    }
     let cut = cut_text(alloc, labels, text)?;
     let flags = flag_pieces(alloc, &cut.pairs, cut.pieces.len())?;
     let left = left_of(alloc, &cut.pieces, &cut.pairs)?;
