@@ -5,7 +5,7 @@ use markdown_writing::{PageBlock, PagePhrase, markdown_of};
 use std::alloc::{AllocError, Global};
 use std::io::{self, Write};
 
-// A page of a heading, three paragraphs, code, a break and a last paragraph.
+// A page of a heading, two paragraphs, code, a break and a list of two items, the second of which holds a quote and an item.
 fn page_text<'p>(
     alloc: Global,
     title: &'p [PagePhrase<'p>],
@@ -13,16 +13,21 @@ fn page_text<'p>(
     spans: &'p [PagePhrase<'p>],
     stressed: &'p [PagePhrase<'p>],
     lines: &'p [&'p str],
-    item: &'p [PagePhrase<'p>],
 ) -> Result<Vec<u8>, AllocError> {
+    let one = [marks];
+    let two = [spans, stressed];
+    let inner = [PageBlock::Paragraph(&two)];
+    let held = [PageBlock::Quote(&inner), PageBlock::Item(&inner)];
+    let code = [PageBlock::Code("rust", lines)];
     let page = [
         PageBlock::Heading(1, title),
-        PageBlock::Paragraph(marks),
-        PageBlock::Paragraph(spans),
-        PageBlock::Paragraph(stressed),
+        PageBlock::Paragraph(&one),
+        PageBlock::Paragraph(&two),
         PageBlock::Code("rust", lines),
         PageBlock::Break,
-        PageBlock::Paragraph(item),
+        PageBlock::Item(&code),
+        PageBlock::Item(&held),
+        PageBlock::Paragraph(&one),
     ];
     markdown_of(alloc, &page)
 }
@@ -41,14 +46,14 @@ fn main(rt: HostRuntime) -> Result<(), anyhow::Error> {
         PagePhrase::Code("`"),
     ];
     let stressed = [
-        PagePhrase::Strong("No"),
+        PagePhrase::Words("- no item, and "),
+        PagePhrase::Strong("no"),
         PagePhrase::Words(" mark is "),
         PagePhrase::Emphasis("a*b"),
         PagePhrase::Words(", nor *this*."),
     ];
     let lines = ["fn main() {}", "```", "    ````"];
-    let item = [PagePhrase::Words("- no item")];
-    let text = page_text(rt.alloc(), &title, &marks, &spans, &stressed, &lines, &item)?;
+    let text = page_text(rt.alloc(), &title, &marks, &spans, &stressed, &lines)?;
     io::writer(&rt).write_all(text.as_slice())?;
     Ok(())
 }

@@ -20,12 +20,14 @@ pub enum PagePhrase<'p> {
 pub enum PageBlock<'p> {
     /// A heading of this level, 1 to 6, and its phrases.
     Heading(usize, &'p [PagePhrase<'p>]),
-    /// The phrases of a paragraph.
-    Paragraph(&'p [PagePhrase<'p>]),
+    /// The lines of a paragraph, one at least, each with its phrases.
+    Paragraph(&'p [&'p [PagePhrase<'p>]]),
     /// Code: the name of its language, which may be empty, and its lines without their ends.
     Code(&'p str, &'p [&'p str]),
     /// A thematic break.
     Break,
     /// A quote of these blocks, one at least.
     Quote(&'p [PageBlock<'p>]),
+    /// An item of a list, that holds these blocks, one at least. Items one below the other are a list.
+    Item(&'p [PageBlock<'p>]),
 }
