@@ -115,11 +115,11 @@ termimad_answer termimad_markdown(const char *text, size_t text_length, const ch
 termimad_answer termimad_code(const char *text, size_t text_length, const char *language, size_t language_length,
                               const char *skin, size_t skin_length, size_t width, char *buffer, size_t capacity);
 
-/* The links of the text, read as termimad_markdown reads it, in the order in which they end. Each is a line: the number of its section in
+/* The links of the text, read as termimad_markdown reads it, in the order of the text. Each is a line: the number of its section in
  * decimal, a tab, and the address to which it leads. Sections count from 0; a heading's is the one that termimad_headings tells.
  *
  * An address is as it is shown: without escapes and entities. No character of it is a tab, a newline, or another that a terminal obeys.
- * Images aren't among the links, nor is html.
+ * Images aren't among the links. A tag a of html with an address is.
  *
  *   termimad_links("see [the disks](disks.md)", 25, buffer, sizeof buffer);
  */

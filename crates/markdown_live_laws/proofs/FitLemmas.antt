@@ -1,6 +1,6 @@
 -- The rows of each text fit a terminal in which the skin and the width have room.
 use Rattle.std.proofs.Common.{◌≡◌, ℕ, ◌^◌, ◌-◌, ◌<◌, ◌≤◌, List, [], ◌∷◌, ◌++◌, take, Option, Some, refl, sym, ap, subst, ◌∙◌}
-use Rattle.std.specs.List.{AllByRecursion}
+use Rattle.std.specs.List.{AllByRecursion, flat_map}
 use Rattle.std.specs.Str.{IsUtf8}
 use Rattle.mad_dressing.specs.Dressed.{dressed, dressed_page}
 use Rattle.mad_dressing.specs.declared.page_marks.PageMarks.{PageMarks}
@@ -28,7 +28,7 @@ use Rattle.markdown_live.specs.LiveMarkdowns.{ArePageRows, Fit, FitsSoFar}
 use Rattle.markdown_live.specs.ShownLines.{shown_line}
 use Rattle.markdown_live.specs.Sources.{FitsWhole}
 use Rattle.markdown_live.proofs.PageRowLemmas.{rows_whole}
-use Rattle.markdown_reader.specs.Mapping.{Mapping, nothing_shown}
+use Rattle.markdown_reader.specs.Mapping.{Mapping, leaves_in, nothing_shown}
 use Rattle.markdown_reader.specs.Steady.{steady_section, steady_sections}
 use Rattle.markdown_stream.specs.Come.{lines_streamed}
 use Rattle.markdown_stream.specs.OpenSections.{after_lines, open_sections}
@@ -43,7 +43,7 @@ use Rattle.markdown_live_laws.proofs.DressLemmas.{dressed_typed}
 use Rattle.markdown_live_laws.proofs.NumberLemmas.{AreSmallParts}
 use Rattle.markdown_live_laws.proofs.ReadingLemmas.{IsSmallReading, end_small, handed_small, lines_small, nothing_small}
 use Rattle.markdown_live_laws.proofs.RowLemmas.{rows_fit}
-use Rattle.markdown_live_laws.proofs.SectionLemmas.{AreSoundSections, IsSound, nothing_is, part_is, parts_are, plain_are, printed_are, sections_are}
+use Rattle.markdown_live_laws.proofs.SectionLemmas.{AreSoundSections, IsSound, all_leaves_small, leaves_small, nothing_is, parts_are, plain_are, printed_are, sections_are}
 
 -- ---- sections that are sound fit
 
@@ -69,7 +69,7 @@ sections_fit keep columns width skin (section ∷ sections) shown room sound =
 streamed_are : PiecesArePlaced → (parts : List PartContent) (s : Streamed) → AreSmallParts parts → IsSound s.mapping → IsSound (parts_streamed parts s).mapping
 unfolding parts_streamed
 streamed_are placed [] s k h = h
-streamed_are placed (part ∷ parts) s k h = streamed_are placed parts (part_streamed part s) k.1 (part_is placed (part_defined s.defined part) part s.mapping k.0 h)
+streamed_are placed (part ∷ parts) s k h = streamed_are placed parts (part_streamed part s) k.1 (parts_are placed (part_defined s.defined part) (leaves_in part) s.mapping (leaves_small part k.0) h)
 
 read_small : (lines : List (List ℕ)) → IsSmallReading (lines_read nothing_read lines)
 read_small lines = lines_small nothing_read lines nothing_small
@@ -84,7 +84,8 @@ open_are : PiecesArePlaced → (end : List ℕ) (lines : List (List ℕ)) → Ar
 open_are placed end lines =
     let s : Streaming = after_lines lines in
     let rest : IsSmallReading (lines_read s.reading (text_lines end)) = lines_small s.reading (text_lines end) (handed_small (lines_read nothing_read lines) (read_small lines)) in
-    (parts_are placed s.streamed.defined (parts_at_end (lines_read s.reading (text_lines end))) (taken s.streamed.mapping) (end_small (lines_read s.reading (text_lines end)) rest) (taken_is s.streamed.mapping (complete_are placed lines))).sections
+    let parts : List PartContent = parts_at_end (lines_read s.reading (text_lines end)) in
+    (parts_are placed s.streamed.defined (flat_map leaves_in parts) (taken s.streamed.mapping) (all_leaves_small parts (end_small (lines_read s.reading (text_lines end)) rest)) (taken_is s.streamed.mapping (complete_are placed lines))).sections
 
 parts_small : (text : List ℕ) → AreSmallParts (parts_of text)
 unfolding lines_read

@@ -1,5 +1,6 @@
 pub mod EntityLemmas
 pub mod TextLemmas
+pub mod HtmlLemmas
 pub mod LineLemmas
 pub mod NumberLemmas
 pub mod ReadingLemmas

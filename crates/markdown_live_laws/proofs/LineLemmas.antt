@@ -1,5 +1,5 @@
 -- Lines that leaves are shown as: their runs are texts that a terminal doesn't obey, and no line has a sign of its own.
-use Rattle.std.proofs.Common.{◌≡◌, ℕ, zero, suc, ◌-◌, ◌%◌, Bool, true, false, not, ◌&&◌, ◌||◌, ◌==◌, Option, Some, None, List, [], ◌∷◌, ◌++◌, append-nil, map, length, take, refl, ap, ◌∙◌, arith, if◌then◌else◌}
+use Rattle.std.proofs.Common.{◌≡◌, ℕ, zero, suc, ◌-◌, ◌%◌, Bool, true, false, not, ◌&&◌, ◌||◌, ◌==◌, List, [], ◌∷◌, ◌++◌, append-nil, map, length, take, refl, ap, ◌∙◌, arith, if◌then◌else◌}
 use Rattle.std.specs.Prelude.{chars, encode_utf8, encode_utf8_all, is_some}
 use Rattle.std.specs.Char.{IsScalar}
 use Rattle.std.specs.List.{AllByRecursion, list_all}
@@ -15,24 +15,17 @@ use Rattle.mad_md.specs.declared.alignment.Alignment.{Alignment}
 use Rattle.mad_md.specs.declared.composite.CompositeStyle.{CompositeStyle}
 use Rattle.mad_md.specs.declared.composite.CompositeStyle.TheVariants.{Paragraph}
 use Rattle.markdown_cells.specs.Cells.{after_cell, alignments, cell_text}
-use Rattle.markdown_html_text.specs.Markup.{markup_of}
-use Rattle.markdown_html_text.specs.Rows.{Flow, Step, affected, cut, gapped, html_rows, markup_step, nothing_shown, plain_step, shown_from, step, text_step, with_bytes}
-use Rattle.markdown_html_text.specs.declared.markup.Effect.{Effect}
-use Rattle.markdown_html_text.specs.declared.markup.Effect.TheVariants.{Cut, Gap, Image, Nothing}
-use Rattle.markdown_html_text.specs.declared.markup.Markup.{Markup}
-use Rattle.markdown_marks.specs.Definitions.{is_space_byte}
-use Rattle.markdown_spans.specs.Attributes.{alternative}
+use Rattle.markdown_html_text.specs.HtmlPieces.{html_cut}
 use Rattle.markdown_emphasis.specs.Flags.{flags_of}
 use Rattle.markdown_pieces.specs.Cut.{CutText, cut_text}
-use Rattle.markdown_inlines.specs.Links.{overs_of}
 use Rattle.markdown_inlines.specs.Printable.{is_printable, is_shown, shown_char}
 use Rattle.markdown_inlines.proofs.PrintableLemmas.{from_shown, shown_is}
 use Rattle.markdown_lines.specs.Printed.{is_obeyed}
 use Rattle.markdown_inlines.specs.Styled.{Shown}
-use Rattle.markdown_inlines.specs.Inlines.{are_shown, char_of, leaf_text, left_of}
+use Rattle.markdown_inlines.specs.Inlines.{all_over, are_shown, char_of, left_of, shown_cut}
 use Rattle.markdown_lines.specs.Code.{code_line, code_lines, code_text, expanded, expanded_char, next_column, spaces}
-use Rattle.markdown_lines.specs.Glyphs.{glyph_of, is_edge, is_same_run, leaf_glyphs, run_with, runs_from, runs_of, space, spaced_from, trimmed, without_back, without_front}
-use Rattle.markdown_lines.specs.Leaf.{cell_runs, html_lines, html_row, leaf_rows, row_of, rows_from, shown_text}
+use Rattle.markdown_lines.specs.Glyphs.{glyph_of, html_glyphs, is_edge, is_same_run, leaf_glyphs, run_with, runs_from, runs_of, space, spaced_from, trimmed, without_back, without_front}
+use Rattle.markdown_lines.specs.Leaf.{cell_runs, html_lines, leaf_rows, row_of, rows_from, rows_of}
 use Rattle.markdown_lines.specs.Restyled.{empty_line, restyled, row_runs}
 use Rattle.markdown_lines.specs.Tables.{body, cells, row_said, ruled, shown_cells, table_lines}
 use Rattle.markdown_lines.specs.declared.glyphs.Glyph.{Glyph}
@@ -40,6 +33,7 @@ use Rattle.markdown_marks.specs.Remaining.{Remaining}
 use Rattle.markdown_marks.specs.Tables as tables
 use Rattle.markdown_reader.specs.PlainLines.{IsPlainStyle}
 use Rattle.markdown_live_laws.specs.Placed.{PiecesArePlaced}
+use Rattle.markdown_live_laws.proofs.HtmlLemmas.{html_chars}
 use Rattle.markdown_live_laws.proofs.TextLemmas.{AreChars, IsShownChar, from_scalars, leaf_chars, lossy_utf8, shown_is_char}
 
 -- ---- lines
@@ -130,10 +124,11 @@ glyphs_are bold (s ∷ ss) h k =
     let picture : Bool = is_some s.look.picture && (s.char == 10) in
     (record { scalar = char_or_space picture s.char h.0; fine = fine_or_space picture s.char (fine_by (s.char == 10) s.char both.0) }, glyphs_are bold ss h.1 both.1)
 
+cut_fine : (bold : Bool) (cut : CutText) (text : List ℕ) → AllByRecursion IsShownChar (shown_cut cut text) → AreFine (map (glyph_of bold) (shown_cut cut text))
+cut_fine bold cut text h = glyphs_are bold (shown_cut cut text) h (from_shown text 0 cut.pieces (flags_of (length cut.pieces) cut.pairs) (left_of cut.pairs cut.pieces) (all_over cut.pieces))
+
 leaf_fine : PiecesArePlaced → (labels : List (List ℕ)) (bold : Bool) (text : List ℕ) → IsUtf8 text → AreFine (leaf_glyphs labels bold text)
-leaf_fine placed labels bold text utf8 =
-    let cut : CutText = cut_text labels text in
-    glyphs_are bold (leaf_text labels text) (leaf_chars placed labels text utf8) (from_shown text 0 cut.pieces (flags_of (length cut.pieces) cut.pairs) (left_of cut.pairs cut.pieces) (overs_of cut.pieces))
+leaf_fine placed labels bold text utf8 = cut_fine bold (cut_text labels text) text (leaf_chars placed labels text utf8)
 
 if_glyphs : (P : Glyph → Type 0) (t : Bool) (a b : List Glyph) → AllByRecursion P a → AllByRecursion P b → AllByRecursion P (if t then a else b)
 if_glyphs P true a b h k = h
@@ -202,12 +197,18 @@ rows_are row (g ∷ gs) h k =
     lines_by (g.c == 10) (row_of row ∷ rows_from [] gs) (rows_from (row ++ g ∷ []) gs) (λ e. (row_is row h, rows_are [] gs tt k.1))
     (λ e. rows_are (row ++ g ∷ []) gs (all_joined IsClearGlyph row (g ∷ []) h (clear_of g e k.0, tt)) k.1)
 
+rows_of_are : (gs : List Glyph) → AreFine gs → AreOwnLines (rows_of gs)
+rows_of_are gs h = lines_by (length gs == 0) [] (rows_from [] gs) (λ e. tt) (λ e. rows_are [] gs tt h)
+
 -- the rows of a leaf
 pub leaf_is : PiecesArePlaced → (labels : List (List ℕ)) (text : List ℕ) → IsUtf8 text → AreOwnLines (leaf_rows labels text)
 unfolding leaf_rows
-leaf_is placed labels text utf8 =
-    let gs : List Glyph = trimmed (leaf_glyphs labels false text) in
-    lines_by (length gs == 0) [] (rows_from [] gs) (λ e. tt) (λ e. rows_are [] gs tt (trimmed_are IsFineGlyph (leaf_glyphs labels false text) (leaf_fine placed labels false text utf8)))
+leaf_is placed labels text utf8 = rows_of_are (trimmed (leaf_glyphs labels false text)) (trimmed_are IsFineGlyph (leaf_glyphs labels false text) (leaf_fine placed labels false text utf8))
+
+-- the rows of a leaf of html
+pub html_is : (text : List ℕ) → IsUtf8 text → AreOwnLines (html_lines text)
+unfolding html_lines
+html_is text utf8 = rows_of_are (trimmed (html_glyphs text)) (trimmed_are IsFineGlyph (html_glyphs text) (cut_fine false (html_cut text) text (html_chars text utf8)))
 
 -- ---- cells
 
@@ -255,69 +256,6 @@ table_is placed labels columns (head ∷ delimiters ∷ lines) =
     (tt, (cells_are placed labels true (shown_cells columns head.bytes) (tables.row_of head.bytes), all_joined IsOwnLine (body labels columns rule lines) (table_rule rule ∷ []) (body_is placed labels columns rule lines) (tt, tt)))
 
 -- ---- other leaves
-
-shown_all_clear : (cs : List ℕ) → AreChars cs → AreClear (map shown_char cs)
-shown_all_clear [] h = tt
-shown_all_clear (c ∷ cs) h = (shown_clear c h.0, shown_all_clear cs h.1)
-
-text_is : (text : List ℕ) → IsUtf8 text → IsClearText (shown_text text)
-unfolding shown_text
-text_is text utf8 = (map shown_char (chars text), shown_all_clear (chars text) (from_scalars (chars text) (scalars-chars text utf8)), refl)
-
-abbrev AreTextRows : Flow → Type 0
-AreTextRows f = AllByRecursion IsUtf8 f.rows
-
-if_rows : (t : Bool) (a b : List (List ℕ)) → AllByRecursion IsUtf8 a → AllByRecursion IsUtf8 b → AllByRecursion IsUtf8 (if t then a else b)
-if_rows true a b h k = h
-if_rows false a b h k = k
-
-if_flow : (t : Bool) (a b : Flow) → AreTextRows a → AreTextRows b → AreTextRows (if t then a else b)
-if_flow true a b h k = h
-if_flow false a b h k = k
-
-row_cut : (f : Flow) → AreTextRows f → AreTextRows (cut f)
-row_cut f h = if_rows (length f.row == 0) f.rows (f.rows ++ utf8_lossy f.row ∷ []) h (all_joined IsUtf8 f.rows (utf8_lossy f.row ∷ []) h (lossy_utf8 f.row, tt))
-
-affected_is : (effect : Effect) (bytes : List ℕ) (f : Flow) → AreTextRows f → AreTextRows (affected effect bytes f)
-affected_is Nothing bytes f h = h
-affected_is Gap bytes f h = h
-affected_is Cut bytes f h = row_cut f h
-affected_is (Image value) bytes f h = if_flow (length (alternative bytes value) == 0) f (with_bytes (alternative bytes value) f) h h
-
-markup_is : (found : Option Markup) (b : ℕ) (bs : List ℕ) (f : Flow) → AreTextRows f → AreTextRows (markup_step found b bs f).flow
-markup_is None b bs f h = h
-markup_is (Some markup) b bs f h = affected_is markup.effect bs f h
-
-if_step : (t : Bool) (a b : Step) → AreTextRows a.flow → AreTextRows b.flow → AreTextRows (if t then a else b).flow
-if_step true a b h k = h
-if_step false a b h k = k
-
-plain_is : (b : ℕ) (bs : List ℕ) (f : Flow) → AreTextRows f → AreTextRows (plain_step b bs f).flow
-unfolding plain_step
-plain_is b bs f h = if_step (is_space_byte b) (record { flow = gapped f; more = 0 }) (text_step b bs f) h h
-
-step_is : (b : ℕ) (bs : List ℕ) (f : Flow) → AreTextRows f → AreTextRows (step b bs f).flow
-unfolding step
-step_is b bs f h = if_step (b == 60) (markup_step (markup_of bs) b bs f) (plain_step b bs f) (markup_is (markup_of bs) b bs f h) (plain_is b bs f h)
-
-flow_is : (skip : ℕ) (f : Flow) (bs : List ℕ) → AreTextRows f → AreTextRows (shown_from skip f bs)
-unfolding shown_from
-flow_is skip f [] h = h
-flow_is (suc skip) f (b ∷ bs) h = flow_is skip f bs h
-flow_is zero f (b ∷ bs) h = flow_is (step b bs f).more (step b bs f).flow bs (step_is b bs f h)
-
-html_texts : (text : List ℕ) → AllByRecursion IsUtf8 (html_rows text)
-unfolding html_rows
-html_texts text = row_cut (shown_from 0 nothing_shown text) (flow_is 0 nothing_shown text tt)
-
-html_lines_are : (texts : List (List ℕ)) → AllByRecursion IsUtf8 texts → AreOwnLines (map html_row texts)
-html_lines_are [] h = tt
-html_lines_are (text ∷ texts) h = (record { style = tt; runs = (text_is text h.0, tt) }, html_lines_are texts h.1)
-
--- the lines of html
-pub html_is : (text : List ℕ) → AreOwnLines (html_lines text)
-unfolding html_lines
-html_is text = html_lines_are (html_rows text) (html_texts text)
 
 spaces_are : (count : ℕ) → AreClear (spaces count)
 unfolding spaces

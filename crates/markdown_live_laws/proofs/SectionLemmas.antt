@@ -3,7 +3,7 @@ use Rattle.std.proofs.Common.{◌≡◌, ℕ, zero, suc, ◌+◌, ◌-◌, ◌<�
 use Rattle.std.specs.Prelude.{chars, codes, min, IfSome}
 use Rattle.std.specs.Char.{IsScalar}
 use Rattle.std.specs.Int.{is_in_range}
-use Rattle.std.specs.List.{AllByRecursion, list_all}
+use Rattle.std.specs.List.{AllByRecursion, flat_map, list_all}
 use Rattle.std.specs.Str.{IsUtf8, NonePass}
 use Rattle.std.proofs.Math.Utf8.{scalar, scalars}
 use Rattle.std.proofs.lemmas.Bool.{and_parts, and_from}
@@ -33,19 +33,20 @@ use Rattle.markdown_gutters.specs.Signs.{after_box, after_line, alert_of, alert_
 use Rattle.markdown_gutters.specs.declared.forms.Form.{Form}
 use Rattle.markdown_gutters.specs.declared.forms.Form.TheVariants.{Boxed, Large, Listed, Words}
 use Rattle.markdown_gutters.specs.declared.lists.Counted.{Counted}
+use Rattle.markdown_html_text.specs.HtmlLeaves.{html_leaves, html_level}
 use Rattle.markdown_leaves.specs.Defining.{joined}
-use Rattle.markdown_leaves.specs.Parts.{PartContent, begins, block, ends}
+use Rattle.markdown_leaves.specs.Parts.{BlockContent, PartContent, begins, block, ends}
 use Rattle.markdown_leaves.specs.declared.parts.Kind.{Kind}
 use Rattle.markdown_leaves.specs.declared.parts.Kind.TheVariants.{Definitions, Fenced, Heading, Html, Indented, Nothing, Paragraph as ParagraphKind, Rule, Table}
 use Rattle.markdown_lines.specs.Code.{code_lines}
 use Rattle.markdown_lines.specs.Leaf.{html_lines}
-use Rattle.markdown_lines.specs.Links.{Defined}
+use Rattle.markdown_lines.specs.Links.{Defined, html_addresses}
 use Rattle.markdown_lines.specs.Printed.{ArePrinted, IsPrintedCell, IsPrintedLine, IsPrintedRun, is_obeyed}
 use Rattle.markdown_lines.specs.Restyled.{empty_line, restyled}
 use Rattle.markdown_lines.specs.Steady.{AreSteadyLines, AreSteadyRuns, IsSteadyCell, IsSteadyLine, steady_line, steady_lines, steady_run, steady_runs}
 use Rattle.markdown_lines.specs.Tables.{table_lines}
 use Rattle.markdown_marks.specs.Remaining.{Remaining}
-use Rattle.markdown_reader.specs.Mapping.{Mapping, added, addresses_in, alert_by, alert_line, begun, blank_row, code_shown, closed, ended, ended_by, heading_style, is_spaced, item_ended, leaf_shown, linked, list_ended, new_gutter, nothing_shown, numbered, paragraph_by, passed, put, quote_begun, section_of, shown_part, shown_parts, spaced, table_addresses, task_by, text_of, with_last, with_list, with_marks, with_section, words, words_shown}
+use Rattle.markdown_reader.specs.Mapping.{Mapping, added, addresses_in, alert_by, alert_line, begun, blank_row, code_shown, closed, ended, ended_by, heading_style, html_by, html_leaf, html_parts, html_text, is_spaced, item_ended, leaf_shown, leaves_by, leaves_in, linked, list_ended, new_gutter, nothing_shown, numbered, paragraph_by, passed, put, quote_begun, section_of, shown_part, shown_parts, spaced, table_addresses, task_by, text_of, with_last, with_list, with_marks, with_section, words, words_shown}
 use Rattle.markdown_reader.specs.PlainLines.{ArePlainLines, ArePlainSections, IsPlainLine}
 use Rattle.markdown_reader.specs.Printed.{ArePrintedSections}
 use Rattle.markdown_reader.specs.Steady.{AreSteadySections, steady_section, steady_sections}
@@ -238,9 +239,14 @@ code_shown_is : (marks : List MarkRun) (lines : List Remaining) (m : Mapping) �
 code_shown_is marks lines m h =
     marked_is [] (put Boxed (code_lines 0 lines) [] (with_marks marks m)) (put_is Boxed (code_lines 0 lines) [] (with_marks marks m) (code_is 0 lines) (marked_is marks m h))
 
+html_by_is : (words : Bool) (level : ℕ) (text : List ℕ) (m : Mapping) → IsUtf8 text → IsSound m → IsSound (html_by words level text m)
+html_by_is true level text m utf8 h = put_is Words (html_lines text) (html_addresses text) m (html_is text utf8) h
+html_by_is false level text m utf8 h =
+    put_is Large (restyled (heading_style level) (heading_style level) (html_lines text)) (html_addresses text) m (restyled_is (heading_style level) (html_lines text) tt (html_is text utf8)) h
+
 leaf_shown_is : PiecesArePlaced → (defined : Defined) (kind : Kind) (lines : List Remaining) (m : Mapping) → IsSound m → IsSound (leaf_shown defined kind lines m)
 leaf_shown_is placed defined ParagraphKind lines m h = paragraph_is placed (new_gutter m) defined (joined [] lines) m h
-leaf_shown_is placed defined Html lines m h = put_is Words (html_lines (joined [] lines)) [] m (html_is (joined [] lines)) h
+leaf_shown_is placed defined Html lines m h = html_by_is (html_level (joined [] lines) == 0) (html_level (joined [] lines)) (html_text (joined [] lines)) m (lossy_utf8 _) h
 leaf_shown_is placed defined (Heading level) lines m h =
     let rows : List LineContent = words defined (joined [] lines) in
     put_is Large (restyled (heading_style level) (heading_style level) rows) (addresses_in defined (joined [] lines)) m (restyled_is (heading_style level) rows tt (words_are placed defined (joined [] lines))) h
@@ -259,7 +265,7 @@ pub nothing_is : IsSound nothing_shown
 nothing_is = record { sections = tt; gutters = tt; lists = (none_small, tt) }
 
 -- a part is shown so
-pub part_is : PiecesArePlaced → (defined : Defined) (part : PartContent) (m : Mapping) → IsSmallPart part → IsSound m → IsSound (shown_part defined part m)
+part_is : PiecesArePlaced → (defined : Defined) (part : PartContent) (m : Mapping) → IsSmallPart part → IsSound m → IsSound (shown_part defined part m)
 unfolding shown_part
 part_is placed defined (begins container apart) m k h = begun_is container (passed apart m) k (passed_is apart m h)
 part_is placed defined ends m k h = ended_is m h
@@ -270,6 +276,38 @@ pub parts_are : PiecesArePlaced → (defined : Defined) (parts : List PartConten
 unfolding shown_parts
 parts_are placed defined [] m k h = h
 parts_are placed defined (part ∷ parts) m k h = parts_are placed defined parts (shown_part defined part m) k.1 (part_is placed defined part m k.0 h)
+
+-- ---- html leaf by leaf
+
+rest_small : (leaves : List (List ℕ)) → AreSmallParts (map (html_leaf false) leaves)
+rest_small [] = tt
+rest_small (leaf ∷ leaves) = (tt, rest_small leaves)
+
+html_small : (apart : Bool) (leaves : List (List ℕ)) → AreSmallParts (html_parts apart leaves)
+html_small apart [] = tt
+html_small apart (leaf ∷ leaves) = (tt, rest_small leaves)
+
+block_leaves_small : (kind : Kind) (leaf : BlockContent) → AreSmallParts (leaves_by kind leaf)
+block_leaves_small Html leaf = html_small leaf.apart (html_leaves (joined [] leaf.lines))
+block_leaves_small ParagraphKind leaf = (tt, tt)
+block_leaves_small (Heading level) leaf = (tt, tt)
+block_leaves_small Indented leaf = (tt, tt)
+block_leaves_small Fenced leaf = (tt, tt)
+block_leaves_small (Table columns) leaf = (tt, tt)
+block_leaves_small Rule leaf = (tt, tt)
+block_leaves_small Nothing leaf = (tt, tt)
+block_leaves_small Definitions leaf = (tt, tt)
+
+-- the leaves of a part have the numbers that it has
+pub leaves_small : (part : PartContent) → IsSmallPart part → AreSmallParts (leaves_in part)
+leaves_small (begins container apart) h = (h, tt)
+leaves_small ends h = (tt, tt)
+leaves_small (block leaf) h = block_leaves_small leaf.kind leaf
+
+-- so do those of parts
+pub all_leaves_small : (parts : List PartContent) → AreSmallParts parts → AreSmallParts (flat_map leaves_in parts)
+all_leaves_small [] h = tt
+all_leaves_small (part ∷ parts) h = all_joined IsSmallPart (leaves_in part) (flat_map leaves_in parts) (leaves_small part h.0) (all_leaves_small parts h.1)
 
 -- ---- steady sections
 

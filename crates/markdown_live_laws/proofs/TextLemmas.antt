@@ -26,7 +26,7 @@ use Rattle.markdown_spans.specs.Code.{unpadded, is_padded, inner, is_space}
 use Rattle.markdown_spans.specs.Html.{html_len}
 use Rattle.markdown_spans.specs.Entities.{entity_of, escape_of}
 use Rattle.markdown_spans.specs.declared.attributes.Html.{Html}
-use Rattle.markdown_spans.specs.declared.attributes.Html.TheVariants.{Nothing, Break, Alternative}
+use Rattle.markdown_spans.specs.declared.attributes.Html.TheVariants.{Nothing, Break, Alternative, Source, On, Off, Link as LinkTag, LinkEnd}
 use Rattle.markdown_spans.specs.declared.entities.Entity.{Entity}
 use Rattle.markdown_spans.specs.declared.entities.Escape.TheVariants.{Sign as SignEscape, Break as BreakEscape, Itself}
 use Rattle.markdown_addresses.specs.Addresses.{address_len}
@@ -39,9 +39,8 @@ use Rattle.markdown_live_laws.specs.Placed.{PiecesArePlaced}
 use Rattle.markdown_pieces.specs.declared.pieces.Kind.{Kind}
 use Rattle.markdown_pieces.specs.declared.pieces.Kind.TheVariants.{Plain, Shown as ShownKind, Code as CodeKind, Address, Bare, Html as HtmlKind, Soft, Hard, Run as RunKind, Opening, Closing}
 use Rattle.markdown_pieces.specs.declared.pieces.Piece.{Piece}
-use Rattle.markdown_inlines.specs.Inlines.{leaf_text, left_of, look_at, shown_from, shown_piece}
-use Rattle.markdown_inlines.specs.Links.{overs_of}
-use Rattle.markdown_inlines.specs.Parts.{alternative_text, characters, closing_shown, html_shown, kind_characters, name_by, name_shown, opening_shown, part, piece_shown, shown_text, sign_char, target_name}
+use Rattle.markdown_inlines.specs.Inlines.{all_over, leaf_text, left_of, look_at, shown_cut, shown_from, shown_piece}
+use Rattle.markdown_inlines.specs.Parts.{alternative_text, characters, closing_shown, html_shown, kind_characters, name_by, name_shown, opening_shown, part, piece_shown, shown_text, sign_char, source_name, target_name}
 use Rattle.markdown_inlines.specs.Printable.{shown_char}
 use Rattle.markdown_inlines.specs.Styled.{Shown, shown_with}
 use Rattle.markdown_inlines.specs.declared.links.Over.{Over}
@@ -203,7 +202,7 @@ abbrev pub IsShownKind : Kind → Type 0
 IsShownKind (ShownKind c second) = IsScalar c × IfSome second IsScalar
 IsShownKind _ = Unit {0}
 
-abbrev IsShownPiece : Piece → Type 0
+abbrev pub IsShownPiece : Piece → Type 0
 IsShownPiece p = IsShownKind p.kind
 
 if_piece : (t : Bool) (a b : Piece) → IsShownPiece a → IsShownPiece b → IsShownPiece (if t then a else b)
@@ -320,6 +319,11 @@ html_chars : (html : Html) (text : List ℕ) (at : ℕ) → AreChars (html_shown
 html_chars Nothing text at = tt
 html_chars Break text at = (refl, tt)
 html_chars (Alternative value) text at = text_chars (alternative_text (drop (at + 1) text) value) (lossy_utf8 _)
+html_chars (Source value) text at = text_chars (source_name (drop (at + 1) text) value) (lossy_utf8 _)
+html_chars (On flag) text at = tt
+html_chars (Off flag) text at = tt
+html_chars (LinkTag value) text at = tt
+html_chars LinkEnd text at = tt
 
 opening_chars : (image opens : Bool) → AreChars (opening_shown image opens)
 opening_chars true true = tt
@@ -396,8 +400,11 @@ pieces_chars text at (p ∷ ps) (f ∷ fs) (n ∷ ns) (o ∷ os) utf8 begin cut 
     (all_joined IsScalar (characters text at p n o.opens) (name_shown o.silent p.kind text at) (kind_chars p.kind text at p.more n o.opens utf8 begin cut.0 cut.2 own.0) (name_chars o.silent p.kind text at)))
     (pieces_chars text (at + (p.more + 1)) ps fs ns os utf8 cut.2 cut.3 own.1)
 
--- each character that is shown of a leaf's text is one, where its pieces are texts of their own
+-- each character that is shown of a text that was cut is one, where its pieces are texts of their own
+pub cut_chars : (cut : CutText) (text : List ℕ) → IsUtf8 text → AreCut text 0 cut.pieces → AllByRecursion IsShownPiece cut.pieces → AllByRecursion IsShownChar (shown_cut cut text)
+cut_chars cut text utf8 placed own =
+    pieces_chars text 0 cut.pieces (flags_of (length cut.pieces) cut.pairs) (left_of cut.pairs cut.pieces) (all_over cut.pieces) utf8 (IsCharBoundary-start text utf8) placed own
+
+-- so it is of a leaf's text
 pub leaf_chars : PiecesArePlaced → (labels : List (List ℕ)) (text : List ℕ) → IsUtf8 text → AllByRecursion IsShownChar (leaf_text labels text)
-leaf_chars placed labels text utf8 =
-    let cut : CutText = cut_text labels text in
-    pieces_chars text 0 cut.pieces (flags_of (length cut.pieces) cut.pairs) (left_of cut.pairs cut.pieces) (overs_of cut.pieces) utf8 (IsCharBoundary-start text utf8) (placed labels text utf8) (cut_is labels text 0 0 0 nothing_read text)
+leaf_chars placed labels text utf8 = cut_chars (cut_text labels text) text utf8 (placed labels text utf8) (cut_is labels text 0 0 0 nothing_read text)

@@ -85,7 +85,7 @@ pub extern "C" fn termimad_code(
     hand_out(code_bytes(alloc, text, language, skin, width), buffer)
 }
 
-/// The links of a text of Markdown as people write it, in the order in which they end, each as a line: the number of its section, a tab, and the address.
+/// The links of a text of Markdown as people write it, in the order of the text, each as a line: the number of its section, a tab, and the address.
 #[unsafe(no_mangle)]
 pub extern "C" fn termimad_links(alloc: Global, text: &[u8], buffer: &mut [u8]) -> Answer
     ensures { Answers (AreLinksOf text.now) (RefusesCall ⊥ text.now []) buffer.old result buffer.new }

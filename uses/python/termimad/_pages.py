@@ -192,7 +192,7 @@ class Markdown(_Shown):
 
     @property
     def links(self) -> List[Link]:
-        """Its links, in the order in which they end: no images. An address has no escapes and entities, and no character that a terminal obeys.
+        """Its links, in the order of the text: no images. An address has no escapes and entities, and no character that a terminal obeys.
 
         >>> [link.address for link in Markdown("[a](b.md), <https://c.org> and ![an image](d.png)").links]
         ['b.md', 'https://c.org']

@@ -664,7 +664,7 @@ pub struct Heading {
     pub section: usize,
 }
 
-/// The links of a text of Markdown as people write it, in the order in which they end. Images aren't among them, nor is html.
+/// The links of a text of Markdown as people write it, in the order of the text. Images aren't among them.
 ///
 /// ```
 /// let links = termimad_proved::links("see [the disks](disks.md)").unwrap();
