@@ -1,4 +1,0 @@
-pub mod Heads
-pub mod Kinds
-pub mod Rules
-pub mod Tables

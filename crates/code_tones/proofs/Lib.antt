@@ -1,3 +1,0 @@
-pub mod CursorLemmas
-pub mod JoinLemmas
-pub mod WalkLemmas

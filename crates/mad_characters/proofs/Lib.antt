@@ -1,3 +1,0 @@
-pub mod CharColumns
-pub mod PictureLemmas
-pub mod WideColumns

@@ -1,3 +1,0 @@
-pub mod DressLemmas
-pub mod MarkLemmas
-pub mod SignLemmas

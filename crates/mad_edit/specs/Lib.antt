@@ -1,4 +1,0 @@
-pub mod Editor
-pub mod Undo
-pub mod Words
-pub mod Examples

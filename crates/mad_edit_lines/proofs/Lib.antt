@@ -1,4 +1,0 @@
-pub mod PositionLemmas
-pub mod RowLemmas
-pub mod TextLemmas
-pub mod ColumnLemmas

@@ -1,4 +1,0 @@
-pub mod TextLines
-pub mod LineColumns
-pub mod CharClasses
-pub mod PositionOrder

@@ -1,3 +1,0 @@
-pub mod Marks
-pub mod Hearing
-pub mod Laws

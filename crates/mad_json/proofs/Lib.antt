@@ -1,5 +1,0 @@
-pub mod AttributeLemmas
-pub mod ItemLemmas
-pub mod ReadBars
-pub mod ReadingBack
-pub mod SkinLaw

@@ -1,5 +1,0 @@
-use Rattle.mad_links.proofs.AreaLemmas.{areas_are_the_same}
-use Rattle.mad_links.proofs.laws.areas_are_the_same.Goals as goal
-
-pub returns : goal.returns
-returns c = areas_are_the_same

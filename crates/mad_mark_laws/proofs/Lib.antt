@@ -1,4 +1,0 @@
-pub mod LayoutLemmas
-pub mod NumberedLemmas
-pub mod TableLemmas
-pub mod TextLemmas

@@ -1,2 +1,0 @@
-pub mod StartLemmas
-pub mod ValueLemmas

@@ -1,8 +1,0 @@
-use Rattle.std.proofs.Common.{◌≡◌, ◌+◌, drop}
-use Rattle.mad_md.specs.Flagged.{flagged_text}
-use Rattle.mad_marks.specs.LineMarks.{has_mark}
-use Rattle.mad_marks.specs.RowMarks.{counted}
-use Rattle.mad_marks.proofs.numbers.count_in.Given as goal
-
-abbrev pub invariant-loop-compound : goal.invariant-loop-compound
-invariant-loop-compound l = l.count + counted (has_mark l.composite.kind) (flagged_text (drop l.compound-index l.composite.compounds.items)) ≡ counted (has_mark l.composite.kind) (flagged_text l.composite.compounds.items)

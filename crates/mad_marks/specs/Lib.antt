@@ -1,3 +1,0 @@
-pub mod LineMarks
-pub mod RowMarks
-pub mod RowNumbers

@@ -1,5 +1,0 @@
-use Rattle.std.proofs.Common.{rules}
-use Rattle.mad_measure.proofs.area.Area.bottom.Goals as goal
-
-pub returns : goal.returns
-returns c = search rules

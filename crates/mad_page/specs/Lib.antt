@@ -1,3 +1,0 @@
-pub mod PageKeys
-pub mod PageLaws
-pub mod Pages

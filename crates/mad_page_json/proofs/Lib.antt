@@ -1,3 +1,0 @@
-pub mod BackLemmas
-pub mod LoopLemmas
-pub mod WholeLemmas

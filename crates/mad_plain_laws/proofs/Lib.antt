@@ -1,2 +1,0 @@
-pub mod CodeLemmas
-pub mod PageLemmas

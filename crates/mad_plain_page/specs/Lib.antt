@@ -1,4 +1,0 @@
-pub mod Laws
-pub mod PlainTexts
-pub mod StyledRows
-pub mod Taking

@@ -1,3 +1,0 @@
-mod PutLemmas
-pub mod ReadLemmas
-pub mod WordRowLemmas

@@ -1,2 +1,0 @@
-pub mod ReadRows
-pub mod WordRows

@@ -1,3 +1,0 @@
-pub mod KnownLemmas
-pub mod PieceLemmas
-pub mod StyleLemmas

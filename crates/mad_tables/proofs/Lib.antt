@@ -1,2 +1,0 @@
-pub mod CellLemmas
-pub mod CutLemmas

@@ -1,4 +1,0 @@
-pub mod MadViews
-pub mod Scrolls
-pub mod ViewKeys
-pub mod Views

@@ -1,2 +1,0 @@
-mod BareLemmas
-pub mod NoneLemmas

@@ -1,9 +1,0 @@
-pub mod Blocks
-pub mod Lists
-pub mod Escaped
-pub mod Defined
-pub mod Inlines
-pub mod Html
-pub mod Laws
-pub mod Prints
-pub mod Printed

@@ -1,3 +1,0 @@
-pub mod FenceLemmas
-pub mod LineLemmas
-pub mod PrintedLemmas

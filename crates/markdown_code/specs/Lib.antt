@@ -1,2 +1,0 @@
-pub mod CodeTexts
-pub mod FencedTexts

@@ -1,2 +1,0 @@
-pub mod Destinations
-pub mod LeadsOf

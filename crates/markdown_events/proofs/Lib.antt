@@ -1,4 +1,0 @@
-pub mod LineLemmas
-pub mod NestLemmas
-pub mod PlaceLemmas
-pub mod WalkLemmas

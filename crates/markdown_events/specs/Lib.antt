@@ -1,4 +1,0 @@
-pub mod Contents
-pub mod Laws
-pub mod Places
-pub mod Walks

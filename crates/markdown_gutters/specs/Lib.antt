@@ -1,3 +1,0 @@
-pub mod Forms
-pub mod Lists
-pub mod Signs

@@ -1,6 +1,0 @@
-pub mod Counts
-pub mod Headings
-pub mod HeadingsSaid
-pub mod Named
-pub mod Printed
-pub mod Targets

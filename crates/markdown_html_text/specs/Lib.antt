@@ -1,3 +1,0 @@
-pub mod Markup
-pub mod Rows
-pub mod RowsOf

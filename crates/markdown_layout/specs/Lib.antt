@@ -1,9 +1,0 @@
-pub mod DrawnMarkdown
-pub mod DressedTexts
-pub mod KeptPremises
-pub mod Looks
-pub mod NestedRows
-pub mod RowEnds
-pub mod ShownFaces
-pub mod TableCells
-pub mod WrittenPages

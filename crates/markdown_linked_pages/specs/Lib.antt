@@ -1,5 +1,0 @@
-pub mod LinkedPageLaws
-pub mod LinkedPageRows
-pub mod LinkedPages
-pub mod LinkedRowLaws
-pub mod MarkLaws

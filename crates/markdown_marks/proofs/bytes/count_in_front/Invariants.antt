@@ -1,9 +1,0 @@
-use Rattle.std.proofs.Common.{◌≡◌, ◌≤◌, ◌+◌, ◌-◌, ◌==◌, length, drop}
-use Rattle.std.specs.List.{prefix_len}
-use Rattle.markdown_marks.proofs.bytes.count_in_front.Given as goal
-
-abbrev pub invariant-loop-i : goal.invariant-loop-i
-invariant-loop-i l = record { so_far : l.i + prefix_len (λ b. b == l.byte) (drop l.i l.bytes) ≡ prefix_len (λ b. b == l.byte) l.bytes; within : l.i ≤ length l.bytes }
-
-abbrev pub decreases-loop-i : goal.decreases-loop-i
-decreases-loop-i l = length l.bytes - l.i

@@ -1,3 +1,0 @@
-pub mod Interrupts
-pub mod LastBlank
-pub mod Paragraphs

@@ -1,5 +1,0 @@
-mod EdgeLemmas
-mod RunLemmas
-pub mod RowLemmas
-pub mod CellLemmas
-pub mod ByteLemmas

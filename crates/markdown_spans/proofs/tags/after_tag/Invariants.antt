@@ -1,9 +1,0 @@
-use Rattle.std.proofs.Common.{◌≡◌, length}
-use Rattle.markdown_spans.specs.Tags.{after_tag}
-use Rattle.markdown_spans.proofs.tags.after_tag.Given as goal
-
-abbrev pub invariant-loop-rest : goal.invariant-loop-rest
-invariant-loop-rest l = after_tag l.here l.rest ≡ after_tag l.fn.place l.bytes
-
-abbrev pub decreases-loop-rest : goal.decreases-loop-rest
-decreases-loop-rest l = length l.rest

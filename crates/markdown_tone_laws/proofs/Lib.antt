@@ -1,3 +1,0 @@
-pub mod CodeLemmas
-pub mod ToneLemmas
-pub mod FenceLemmas

@@ -1,2 +1,0 @@
-pub mod CodeSource
-pub mod Fences

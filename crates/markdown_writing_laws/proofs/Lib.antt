@@ -1,6 +1,0 @@
-pub mod PieceLemmas
-pub mod CodeLemmas
-pub mod TextLemmas
-pub mod RunLemmas
-pub mod LinkLemmas
-pub mod PrintLemmas

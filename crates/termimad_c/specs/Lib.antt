@@ -1,7 +1,0 @@
-pub mod Answers
-pub mod DataTables
-pub mod HeldTexts
-pub mod Inputs
-pub mod Making
-pub mod Outlines
-pub mod TextsInPieces

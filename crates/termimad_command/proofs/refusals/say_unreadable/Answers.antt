@@ -1,6 +1,0 @@
-use Rattle.std.proofs.Common.{◌∙◌, inl}
-use Rattle.termimad_command.proofs.SayLemmas.{same_said}
-use Rattle.termimad_command.proofs.refusals.say_unreadable.Goals as goal
-
-pub returns-in-Ok : goal.returns-in-Ok
-returns-in-Ok g c = inl (same_said _ _ _ _ (c.deref.ensures ∙ c.in-Ok.ensures) c.say.ensures)

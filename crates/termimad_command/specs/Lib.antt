@@ -1,6 +1,0 @@
-pub mod Calls
-pub mod Refusals
-pub mod Runs
-pub mod Skins
-pub mod Texts
-pub mod Written

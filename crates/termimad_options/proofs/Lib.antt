@@ -1,3 +1,0 @@
-mod RuleLemmas
-mod CallLemmas
-mod LawLemmas

@@ -1,2 +1,0 @@
-pub mod BlockLemmas
-pub mod RunLemmas

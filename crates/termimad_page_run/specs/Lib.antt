@@ -1,3 +1,0 @@
-pub mod Blocks
-pub mod PlainSkins
-pub mod Runs

@@ -1,4 +1,0 @@
-pub mod Failures
-pub mod GivenSkins
-pub mod Numbers
-pub mod SkinFaults
