@@ -24,9 +24,9 @@
  * come from one allocator and align as the C library's do. No call is made from a signal handler, or from the child of a fork in a
  * program with threads. There is enough stack; 1 MiB is.
  *
- * There is no state between calls but behind a termimad_stream, so any thread may call: what termimad_parts needs of the calls before, its caller
- * hands it. While a call runs the whole result is in memory, also what doesn't fit the buffer. All memory that a call takes it gives back, but what
- * a termimad_stream keeps.
+ * There is no state between calls but behind a termimad_stream and a termimad_live, so any thread may call: what termimad_parts needs of the calls
+ * before, its caller hands it. While a call runs the whole result is in memory, also what doesn't fit the buffer. All memory that a call takes it
+ * gives back, but what a termimad_stream or a termimad_live keeps.
  */
 #ifndef TERMIMAD_H
 #define TERMIMAD_H
@@ -74,6 +74,11 @@ typedef struct {
     void *text; /* where it is kept: no caller reads or changes it */
 } termimad_stream;
 
+/* A text of Markdown that comes in pieces and grows on a terminal, from termimad_live_begin to termimad_live_end. */
+typedef struct {
+    void *text; /* where it is kept: no caller reads or changes it */
+} termimad_live;
+
 /* The text in an area of the screen: what `termimad-view area LEFT TOP WIDTH HEIGHT` writes.
  *
  * LEFT and TOP count columns and rows from 0. WIDTH is at least 4; LEFT + WIDTH and TOP + HEIGHT are at most 65535.
@@ -115,11 +120,11 @@ termimad_answer termimad_markdown(const char *text, size_t text_length, const ch
 termimad_answer termimad_code(const char *text, size_t text_length, const char *language, size_t language_length,
                               const char *skin, size_t skin_length, size_t width, char *buffer, size_t capacity);
 
-/* The links of the text, read as termimad_markdown reads it, in the order in which they end. Each is a line: the number of its section in
+/* The links of the text, read as termimad_markdown reads it, in the order of the text. Each is a line: the number of its section in
  * decimal, a tab, and the address to which it leads. Sections count from 0; a heading's is the one that termimad_headings tells.
  *
  * An address is as it is shown: without escapes and entities. No character of it is a tab, a newline, or another that a terminal obeys.
- * Images aren't among the links, nor is html.
+ * Images aren't among the links. A tag a of html with an address is.
  *
  *   termimad_links("see [the disks](disks.md)", 25, buffer, sizeof buffer);
  */
@@ -201,6 +206,63 @@ termimad_answer termimad_stream_take(termimad_stream *stream, const char *text, 
 
 /* Ends a text that was begun, whether all of it came or not, and gives its memory back. The stream can be begun anew. */
 void termimad_stream_end(termimad_stream *stream);
+
+/* Begins a text that comes in pieces and grows on a terminal that scrolls: what has come so far is shown, and what still changes is redrawn in place.
+ * It is read as termimad_markdown reads one, in its skins, and laid out in WIDTH columns, for a screen of HEIGHT rows.
+ *
+ * WIDTH is at most the terminal's columns less one, and HEIGHT at most its rows. The cursor is at the beginning of a blank row, below which all is
+ * blank. Until the end nothing else writes on the terminal. What isn't so spoils what is seen, and nothing else.
+ *
+ * Where the status is TERMIMAD_DONE the text is begun, and lives until termimad_live_end. What stood in the struct is lost. Else it stays as it was,
+ * and nothing is begun. COUNT is 0. WIDTH and HEIGHT are at most 65535, else TERMIMAD_CONDITION.
+ */
+termimad_answer termimad_live_begin(termimad_live *live, const char *skin, size_t skin_length, size_t width, size_t height);
+
+/* Takes the next piece of a text that was begun; where LAST isn't 0, the last one. The buffer gets the bytes that wait then: write them all on the
+ * terminal, in their order. Then it shows the text as far as it has come.
+ *
+ * The rows of a leaf, as of a paragraph or a table, scroll off and stay once it ends. Of the leaf that grows the last rows are shown, HEIGHT at most.
+ * After the last piece the terminal has all rows that `termimad-view markdown-stream WIDTH` writes of the text, wherever it was cut, and the cursor
+ * is below them. This holds where the text has stood on that terminal alone, since it was begun or resized.
+ *
+ * A piece is cut anywhere, also inside a character. COUNT is how many bytes waited. Where the status is TERMIMAD_SHORT, the buffer is full, and the
+ * others wait: ask again with an empty piece, also after the last one. Each piece takes the time of the leaf that grows, so hand what there is, and
+ * not character by character.
+ *
+ * TERMIMAD_NOT_UTF8: the piece makes no text of what came. TERMIMAD_CONDITION: the text has ended already. Then nothing was taken. After
+ * TERMIMAD_MEMORY the text is of no use, but for its end. The struct is one that was begun and hasn't ended. No two calls use it at a time, and no
+ * copy of it is used.
+ *
+ *   termimad_live live;
+ *   if (termimad_live_begin(&live, "none", 4, 79, 24).status != TERMIMAD_DONE)
+ *       return 1;
+ *   char piece[8192], bytes[4096];
+ *   size_t came;
+ *   do {
+ *       came = fread(piece, 1, sizeof piece, stdin);
+ *       termimad_answer now = termimad_live_take(&live, piece, came, came == 0, bytes, sizeof bytes);
+ *       while (now.status == TERMIMAD_SHORT) {
+ *           fwrite(bytes, 1, sizeof bytes, stdout);
+ *           now = termimad_live_take(&live, "", 0, came == 0, bytes, sizeof bytes);
+ *       }
+ *       fwrite(bytes, 1, now.count, stdout);
+ *       fflush(stdout);
+ *   } while (came > 0);
+ *   termimad_live_end(&live);
+ */
+termimad_answer termimad_live_take(termimad_live *live, const char *text, size_t text_length, size_t last, char *buffer, size_t capacity);
+
+/* Goes on below whatever stands on the terminal, in WIDTH columns and on a screen of HEIGHT rows: after its size has changed, or on another one. The
+ * buffer gets the bytes that wait then: a new row begins.
+ *
+ * What is on the screen stays. The next piece, also an empty one, shows below it what grows. So nothing is lost, and the rows of one leaf may stand
+ * there twice. Take all bytes that wait before you call it. All below the cursor is blank. For the rest WIDTH, HEIGHT, COUNT and TERMIMAD_SHORT are as
+ * above; ask for bytes that wait by termimad_live_take. TERMIMAD_CONDITION: a number is over 65535, or the text has ended already. Then nothing changed.
+ */
+termimad_answer termimad_live_resize(termimad_live *live, size_t width, size_t height, char *buffer, size_t capacity);
+
+/* Ends a text that was begun, whether all of it came or not, and gives its memory back. The struct can be begun anew. */
+void termimad_live_end(termimad_live *live);
 
 /* The text as one line with its inline marks, and a newline: what `termimad-view inline` writes.
  *

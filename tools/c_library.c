@@ -306,13 +306,94 @@ static int try_stream(unsigned number, char *room, unsigned *counted)
     return is_right;
 }
 
+/* Appends what a call handed out. */
+static void keep(termimad_answer now, const char *buffer, size_t capacity, char *all, size_t *length)
+{
+    size_t got = now.status > TERMIMAD_SHORT ? 0 : now.count < capacity ? now.count : capacity;
+    if (*length + got > ROOM / 2) {
+        fprintf(stderr, "more bytes than there is room for\n");
+        exit(2);
+    }
+    memcpy(all + *length, buffer, got);
+    *length += got;
+}
+
+/* Hands a piece to a live text, or resizes it first where the height isn't 0, into buffers of a few bytes. */
+static uint32_t live_step(termimad_live *live, const char *piece, size_t count, int last, size_t width, size_t height, char *all, size_t *length)
+{
+    termimad_answer now = { 0, TERMIMAD_DONE };
+    size_t capacity = next(40);
+    do {
+        char *buffer = __real_malloc(capacity);
+        int resizes = height > 0;
+        now = resizes ? termimad_live_resize(live, width, height, buffer, capacity) : termimad_live_take(live, piece, count, (size_t)last, buffer, capacity);
+        keep(now, buffer, capacity, all, length);
+        free(buffer);
+        if (!resizes)
+            count = 0;
+        height = 0;
+        capacity = capacity * 2 + 1;
+        if (resizes && now.status == TERMIMAD_DONE)
+            now.status = TERMIMAD_SHORT;
+    } while (now.status == TERMIMAD_SHORT);
+    return now.status;
+}
+
+/* Hands a text to a live text in pieces of `step` bytes, and answers the last status: before the piece of the number `turn` it is resized. `grants` growths
+ * of memory are granted at first, or all below zero. Where the status is done, `all` has all bytes, and `length` is how many these are. */
+static uint32_t lived(const bytes *text, const bytes *skin, size_t width, size_t height, size_t step, size_t turn, long grants, char *all, size_t *length)
+{
+    termimad_live live;
+    granted = grants;
+    uint32_t begun = termimad_live_begin(&live, skin->bytes, skin->length, width, height).status, status = begun;
+    *length = 0;
+    int last = 0;
+    for (size_t at = 0, number = 0; status == TERMIMAD_DONE && !last; at += step, number++) {
+        size_t left = text->length - at;
+        last = left <= step;
+        status = live_step(&live, text->bytes + at, last ? left : step, last, width / 2, number == turn ? height + 1 : 0, all, length);
+    }
+    granted = -1;
+    if (begun == TERMIMAD_DONE) {
+        char none;
+        if (status == TERMIMAD_DONE && termimad_live_resize(&live, width, height, &none, 0).status != TERMIMAD_CONDITION)
+            status = UINT32_MAX;
+        termimad_live_end(&live);
+    }
+    return status;
+}
+
+/* Shows one text twice, once while memory runs out. Where both are done the bytes have to be the same. */
+static int try_live(unsigned number, char *room, unsigned *counted)
+{
+    bytes text = random_text();
+    const char *word = skins[next(COUNT(skins))];
+    bytes skin = copy_of(word, strlen(word));
+    size_t width = next(8) ? numbers[next(12)] : 65536 + next(9), height = next(8) ? next(30) : 65536 + next(9);
+    size_t step = 8 + next(60), turn = next(12), length, other;
+    char *again = room + ROOM / 2;
+    uint32_t status = lived(&text, &skin, width, height, step, turn, -1, room, &length);
+    uint32_t poor = lived(&text, &skin, width, height, step, turn, (long)next(60), again, &other);
+    int is_right = status < TERMIMAD_MEMORY && (poor == TERMIMAD_MEMORY || (poor == status && (status != TERMIMAD_DONE || other == length)))
+        && memcmp(room, again, length < other ? length : other) == 0;
+    if (is_right) {
+        counted[status]++;
+        counted[TERMIMAD_MEMORY] += poor == TERMIMAD_MEMORY;
+    } else {
+        fprintf(stderr, "live %u: status %u, then %u\n", number, (unsigned)status, (unsigned)poor);
+    }
+    free(text.bytes);
+    free(skin.bytes);
+    return is_right;
+}
+
 int main(int count, char **words)
 {
     unsigned calls = count > 1 ? (unsigned)strtoul(words[1], NULL, 10) : 1000;
     unsigned counted[TERMIMAD_MEMORY + 1] = { 0 }, wrong = 0;
     char *room = taken(ROOM);
     for (unsigned number = 0; number < calls; number++)
-        wrong += number % 4 == 3 ? !try_stream(number, room, counted) : !try_call(number, room, counted);
+        wrong += number % 8 == 3 ? !try_stream(number, room, counted) : number % 8 == 7 ? !try_live(number, room, counted) : !try_call(number, room, counted);
     free(room);
     printf("%u calls: done %u, of these short %u, condition %u, not UTF-8 %u, skin %u; refused memory %u; wrong %u\n", calls, counted[TERMIMAD_DONE],
            counted[TERMIMAD_SHORT], counted[TERMIMAD_CONDITION], counted[TERMIMAD_NOT_UTF8], counted[TERMIMAD_SKIN], counted[TERMIMAD_MEMORY], wrong);

@@ -1,7 +1,8 @@
-"""What a leaf shows: the runs of its rows, the text of html, lines of code, and where links lead."""
+"""What a leaf shows: the runs of its rows, those of html, lines of code, and where links lead."""
 from __future__ import annotations
 
 import re
+from collections.abc import Iterator
 from dataclasses import dataclass
 
 from .blocks import BLOCK_TAGS, Node, cells_of
@@ -54,80 +55,132 @@ def printable(s: str) -> str:
 Row = list[Run]
 
 
-def runs_of_leaf(s: str, defs: dict) -> list[Row]:
-    """The rows of a leaf (cut at hard breaks), each a list of runs whose neighbours differ. Empty rows at the leaf's ends aren't shown: none
-    is left of a leaf that shows nothing. What is said of a picture has the link around it and no other flag, and a break in it is a space. Of images in
-    one another the outermost is the picture."""
-    rows = [[]]
-    depth = {"em": 0, "strong": 0, "del": 0}
-    links = []  # of the open links and images: the address of the link that they are in
-    images: list[Picture | None] = []  # of the same: the picture that they are or are in
+FLAG_OF = {"b": "bold", "strong": "bold", "i": "italic", "em": "italic", "s": "strike", "del": "strike", "code": "code", "kbd": "code", "tt": "code", "samp": "code"}
 
-    def put(text: str, code: bool = False, link: Address | None = None) -> None:
+
+class Shown:
+    """The rows of a leaf so far, each a list of runs whose neighbours differ, and what is on: flags by tags and by pairs of marks, each counted, the links
+    and images of brackets that are open, and the link that a tag has begun. A link of brackets or an address comes before one of a tag. What is said of
+    a picture has the link around it and no other flag, and a break in it is a space; tags in it change nothing. Of images in one another the outermost is
+    the picture."""
+
+    def __init__(self) -> None:
+        self.rows: list[Row] = [[]]
+        self.marks = {"bold": 0, "italic": 0, "strike": 0}
+        self.tags = {"bold": 0, "italic": 0, "strike": 0, "code": 0}
+        self.links: list[Address | None] = []  # of the open links and images: the address of the link that they are in
+        self.images: list[Picture | None] = []  # of the same: the picture that they are or are in
+        self.tag_link: Address | None = None
+        self.addresses: list[str] = []  # of all links
+
+    def put(self, text: str, code: bool = False, link: Address | None = None, picture: Picture | None = None) -> None:
         text = printable(text)
         if not text:
             return
-        picture = images[-1] if images else None
-        if picture:
-            r = Run(text, link=links[-1], picture=picture)
-        else:
-            link = links[-1] if links and links[-1] is not None else link
-            r = Run(text, depth["strong"] > 0, depth["em"] > 0, code, depth["del"] > 0, link)
-        row = rows[-1]
-        if row and row[-1].same(r):
+        picture = self.images[-1] if self.images and self.images[-1] else picture
+        around = self.links[-1] if self.links and self.links[-1] is not None else None if picture else link
+        run = Run(text, link=around or self.tag_link, picture=picture)
+        if not picture:
+            run.bold, run.italic, run.strike = (self.tags[k] + self.marks[k] > 0 for k in ("bold", "italic", "strike"))
+            run.code = code or self.tags["code"] > 0
+        row = self.rows[-1]
+        if row and row[-1].same(run):
             row[-1].text += text
         else:
-            row.append(r)
+            row.append(run)
 
-    def cut() -> None:
-        if images and images[-1]:
-            put(" ")
+    def cut(self) -> None:
+        if self.images and self.images[-1]:
+            self.put(" ")
         else:
-            rows.append([])
+            self.rows.append([])
 
+    def tag(self, text: str) -> None:
+        """A tag, which may be an image, or say something of the text behind it."""
+        m = MARKUP.match(text)
+        name = (m.group(3) or "").lower() if m else ""
+        said = image_text(text)
+        if said is not None:
+            self.put(said, picture=Picture())
+            return
+        link = None
+        if name == "a" and not m.group(2):
+            href = attribute(m.group(4), "href")
+            if href:
+                link = Address(printable(href))
+                self.addresses.append(link.text)
+        if self.images and self.images[-1]:
+            return
+        if name in FLAG_OF:
+            flag = FLAG_OF[name]
+            self.tags[flag] = max(0, self.tags[flag] + (-1 if m.group(2) else 1))
+        elif name == "a":
+            self.tag_link = link
+
+    def trimmed(self) -> list[Row]:
+        """Empty rows at the leaf's ends aren't shown: none is left of a leaf that shows nothing."""
+        return without_empty_ends([trim(r) for r in self.rows])
+
+
+def shown_of_leaf(s: str, defs: dict) -> Shown:
+    """What a leaf shows. It is cut at hard breaks."""
+    shown = Shown()
+    of_mark = {"em": "italic", "strong": "bold", "del": "strike"}
     reader = Inlines(s, defs)
     reader.bare = True
     found = reader.read()
     for k, p in enumerate(found):
         if p.kind == "text":
-            put(p.text)
+            shown.put(p.text)
         elif p.kind in ADDRESSES:
-            put(p.text, link=Address(address(p)))
+            shown.addresses.append(printable(address(p)))
+            shown.put(p.text, link=Address(address(p)))
         elif p.kind == "code":
-            put(p.text, True)
+            shown.put(p.text, True)
         elif p.kind == "html":
             if re.match(r"</?br(?![A-Za-z0-9-])", p.text, re.I):
-                cut()
+                shown.cut()
             else:
-                put(image_text(p.text))
+                shown.tag(p.text)
         elif p.kind == "break":
-            cut()
+            shown.cut()
         elif p.kind == "soft":
-            put(" ")
+            shown.put(" ")
         elif p.kind == "run":
             for t in p.before:
-                depth[t] -= 1
-            put(s[p.start] * p.count)
+                shown.marks[of_mark[t]] -= 1
+            shown.put(s[p.start] * p.count)
             for t in p.after:
-                depth[t] += 1
+                shown.marks[of_mark[t]] += 1
         elif p.tag is None:
-            put(s[p.start:p.start + (2 if s[p.start] == "!" else 1)])
+            shown.put(s[p.start:p.start + (2 if s[p.start] == "!" else 1)])
         elif p.kind == "open":
+            links, images = shown.links, shown.images
             image, inside = p.tag[0] == "image", images[-1] if images else None
             links.append(links[-1] if links and (image or inside) else None if image or inside else Address(p.tag[1]))
             images.append(inside or (Picture() if image else None))
         else:
             if p.tag[0] == "image" and found[k - 1].kind == "open" and found[k - 1].tag is p.tag:
-                put(file_name(p, s))
-            links.pop()
-            images.pop()
-    return without_empty_ends([trim(r) for r in rows])
+                shown.put(file_name(p, s))
+            if p.tag[0] == "link":
+                shown.addresses.append(printable(p.tag[1]))
+            shown.links.pop()
+            shown.images.pop()
+    return shown
+
+
+def runs_of_leaf(s: str, defs: dict) -> list[Row]:
+    return shown_of_leaf(s, defs).trimmed()
 
 
 def file_name(p: Piece, s: str) -> str:
     """What an image says that has nothing between its brackets: the last part of its address's path, if that stands in parentheses behind it."""
     inline = p.end > p.start + 1 and s[p.start + 1] == "("
-    return re.split("[?#]", p.tag[1])[0].rpartition("/")[2] if inline else ""
+    return file_of(p.tag[1]) if inline else ""
+
+
+def file_of(address_text: str) -> str:
+    return re.split("[?#]", address_text)[0].rpartition("/")[2]
 
 
 def without_empty_ends(rows: list[Row]) -> list[Row]:
@@ -144,10 +197,8 @@ def address(p: Piece) -> str:
 
 
 def links_of_leaf(s: str, defs: dict) -> list[str]:
-    """Where the links of a leaf lead, in the order in which they end."""
-    reader = Inlines(s, defs)
-    reader.bare = True
-    return [printable(address(p) if p.kind in ADDRESSES else p.tag[1]) for p in reader.read() if p.kind in ADDRESSES or p.kind == "close" and p.tag and p.tag[0] == "link"]
+    """Where the links of a leaf lead, in the order of their closing brackets, their addresses and their tags."""
+    return shown_of_leaf(s, defs).addresses
 
 
 def trim(row: Row) -> Row:
@@ -193,42 +244,62 @@ def decoded(s: str) -> str:
     return ENTITY.sub(entity_text, s)
 
 
-def image_text(tag: str) -> str:
-    """What an image's tag says; nothing for all others."""
+def attribute(attributes: str, name: str) -> str | None:
+    """The first of this name, if it says something else than blanks."""
+    found = next((a for a in re.finditer(ATTRIBUTE, attributes) if a.group(1).lower() == name), None)
+    return decoded(BLANKS.sub(" ", found.group(2) or found.group(3) or found.group(4) or "").strip(" ")) or None if found else None
+
+
+def image_text(tag: str) -> str | None:
+    """What an image's tag says, or the name of its file; None of all others."""
     m = MARKUP.match(tag)
     if not m or m.group(2) or (m.group(3) or "").lower() != "img":
-        return ""
-    found = next((a for a in re.finditer(ATTRIBUTE, m.group(4)) if a.group(1).lower() == "alt"), None)
-    return decoded(BLANKS.sub(" ", found.group(2) or found.group(3) or found.group(4) or "").strip(" ")) if found else ""
+        return None
+    source = attribute(m.group(4), "src")
+    return attribute(m.group(4), "alt") or (file_of(source) if source else None)
 
 
-def html_rows(lines: list[str]) -> list[str]:
-    """What is shown of raw html: its text without the tags, and what images say. Block tags cut it. Blanks that meet are one space, and none is at the
-    ends of a row. Comments, scripts and tags without an end go on to the end of the text."""
+HEADING = re.compile(r"h[1-6]\Z")
+
+
+def html_leaves(lines: list[str]) -> Iterator[tuple[int, list[Row], list[str]]]:
+    """The leaves of a block of html: each tag of a heading begins another one. Of each its level, or 0, its rows, and where its links lead. Block tags cut
+    rows. Blanks that meet are one space, with the flags where the first stands, and none is in front of a row. Comments, scripts and tags without an end
+    go on to the end of the text."""
     s = "\n".join(lines)
-    rows, gap, at = [""], False, 0
+    level, shown, begun, gapped, at = 0, Shown(), False, False, 0
 
-    def put(text: str) -> None:
-        nonlocal gap
-        if text:
-            rows[-1] += (" " if gap and rows[-1] else "") + text
-            gap = False
+    def gap() -> None:
+        nonlocal gapped
+        if begun and not gapped:
+            shown.put(" ")
+            gapped = True
 
     for m in list(MARKUP.finditer(s)) + [None]:
         for k, word in enumerate(BLANKS.split(s[at:m.start() if m else len(s)])):
-            gap = gap or k > 0
-            put(decoded(word))
-        if m:
-            at = m.end()
-            name = (m.group(3) or "").lower()
-            if name in CUTTING_TAGS:
-                rows.append("")
-                gap = False
-            elif name in CELL_TAGS:
-                gap = True
-            else:
-                put(image_text(m.group()))
-    return [printable(r) for r in rows if r]
+            if k > 0:
+                gap()
+            if word:
+                shown.put(decoded(word))
+                begun, gapped = True, False
+        if m is None:
+            break
+        at = m.end()
+        name = (m.group(3) or "").lower()
+        if HEADING.match(name):
+            yield level, shown.trimmed(), shown.addresses
+            level, shown, begun, gapped = 0 if m.group(2) else int(name[1]), Shown(), False, False
+        elif name in CUTTING_TAGS:
+            if begun:
+                shown.cut()
+            begun = gapped = False
+        elif name in CELL_TAGS:
+            gap()
+        else:
+            shown.tag(m.group())
+            if image_text(m.group()) is not None:
+                begun, gapped = True, False
+    yield level, shown.trimmed(), shown.addresses
 
 
 def expanded(s: str) -> str:

@@ -1,7 +1,6 @@
-"""The rows of a text's page at a width, in a skin without styles: python3 -m markdown_model.page [--tags] [--sections] WIDTH FILE ..
+"""The rows of a text's page at a width, in a skin without styles: python3 -m markdown_model.page [--sections] WIDTH FILE ..
 
-WIDTH is a number or `none`. With --sections it writes the sections that are shown there, a table that has no room as a list. With --tags, tags of html set
-flags, which the library doesn't read.
+WIDTH is a number or `none`. With --sections it writes the sections that are shown there, a table that has no room as a list.
 """
 from __future__ import annotations
 
@@ -134,8 +133,8 @@ def in_ascii(section: Section) -> Section:
     return replace(section, gutters=[ASCII.get(g, g) for g in section.gutters], bullet=ASCII[BULLET])
 
 
-def page(source: str, width: int | None, look: str = "page", tags: bool = False, streamed: bool = False) -> list[str]:
-    return texts(width, sections_of(source, tags, streamed), look)
+def page(source: str, width: int | None, look: str = "page", streamed: bool = False) -> list[str]:
+    return texts(width, sections_of(source, streamed), look)
 
 
 def width_of(word: str) -> int | None:
@@ -143,15 +142,14 @@ def width_of(word: str) -> int | None:
 
 
 def main() -> None:
-    parser = argparse.ArgumentParser(usage="python3 -m markdown_model.page [--tags] [--sections] WIDTH FILE ..")
-    parser.add_argument("--tags", action="store_true")
+    parser = argparse.ArgumentParser(usage="python3 -m markdown_model.page [--sections] WIDTH FILE ..")
     parser.add_argument("--sections", action="store_true")
     parser.add_argument("width", type=width_of)
     parser.add_argument("files", nargs="+", type=Path)
     given = parser.parse_args()
     for path in given.files:
         raw = path.read_bytes()
-        sections = sections_of((gzip.decompress(raw) if path.suffix == ".gz" else raw).decode("utf-8", "replace"), given.tags)
+        sections = sections_of((gzip.decompress(raw) if path.suffix == ".gz" else raw).decode("utf-8", "replace"))
         rows = dump.picture(shown_sections(given.width, sections)) if given.sections else texts(given.width, sections)
         print("\n".join(rows))
 

@@ -6,13 +6,12 @@ from __future__ import annotations
 
 import re
 from bisect import bisect_left, bisect_right
-from collections.abc import Callable, Iterator
+from collections.abc import Iterator
 from dataclasses import dataclass, field, replace
 
-from . import leaves, tags
 from .blocks import Node, cells_of, lines_of, read_blocks, runs_of
 from .html import define, definitions, text_of_leaf
-from .leaves import Row, cell_runs, compounds, expanded, html_rows, links_of
+from .leaves import cell_runs, compounds, expanded, html_leaves, links_of, runs_of_leaf
 from .lines import CODE, EMPTY, PARAGRAPH, Align, Composite, Compound, HorizontalRule, Line, Normal, TableRow, TableRule, header, paragraph
 from .steady import steady
 
@@ -96,10 +95,9 @@ class Open:
 @dataclass
 class Mapping:
     """`open` are the containers that are open; of the last `fresh` nothing is shown yet. `last` is the leaf that was shown last, and the containers that
-    it was in. With `tags`, tags of html set flags. With `streamed`, a leaf knows the definitions up to it alone, as in a text that comes in pieces."""
+    it was in. With `streamed`, a leaf knows the definitions up to it alone, as in a text that comes in pieces."""
 
     source: str
-    tags: bool = False
     streamed: bool = False
     sections: list[Section] = field(default_factory=list)
     links: list[tuple[int, str]] = field(default_factory=list)
@@ -108,7 +106,6 @@ class Mapping:
     last: tuple[Node, list[Open]] | None = None
 
     def __post_init__(self) -> None:
-        self.runs: Callable[[str, dict], list[Row]] = tags.runs_of_leaf if self.tags else leaves.runs_of_leaf
         doc = read_blocks(self.source)
         self.defs = {} if self.streamed else definitions(doc)
         self.blank_lines = blank_lines(self.source, doc)
@@ -141,8 +138,9 @@ class Mapping:
         if node.kind == "def":
             define(self.defs, node)
         elif node.kind == "html":
-            for part in self.html_parts(node):
-                self.put(*part)
+            for level, rows, links in html_leaves(node.lines):
+                kind = header(level) if level else PARAGRAPH
+                self.put(replace(node, kind="head" if level else "html"), [Normal(Composite(kind, compounds(r))) for r in rows], links)
         elif node.kind == "para" and self.fresh:
             front, rest = self.sign(node)
             lines = front + self.lines_of(rest)
@@ -168,7 +166,7 @@ class Mapping:
         """What a leaf shows: none where it isn't shown."""
         if node.kind in ("para", "head"):
             kind = PARAGRAPH if node.kind == "para" else header(node.level)
-            return [Normal(Composite(kind, compounds(r))) for r in self.runs(text_of_leaf(node), self.defs)]
+            return [Normal(Composite(kind, compounds(r))) for r in runs_of_leaf(text_of_leaf(node), self.defs)]
         if node.kind in ("fence", "code"):
             return [Normal(Composite(CODE, [Compound(expanded(x))] if x else [])) for x in node.lines]
         if node.kind == "table":
@@ -181,20 +179,11 @@ class Mapping:
         return [rule, head, *([rule] if rows else []), *rows, rule]
 
     def table_row(self, line: str, most: int, bold: bool) -> TableRow:
-        return TableRow([Composite(PARAGRAPH, compounds(cell_runs(self.runs(t, self.defs), bold))) for t in cells_of(line)[:most]])
-
-    def html_parts(self, node: Node) -> Iterator[tuple[Node, list[Line]]]:
-        """A block of html, as a leaf or as several."""
-        if not self.tags:
-            yield node, [paragraph([Compound(x)]) for x in html_rows(node.lines)]
-            return
-        for level, rows in tags.html_parts(node.lines):
-            kind = header(level) if level else PARAGRAPH
-            yield replace(node, kind="head" if level else "html"), [Normal(Composite(kind, compounds(r))) for r in rows]
+        return TableRow([Composite(PARAGRAPH, compounds(cell_runs(runs_of_leaf(t, self.defs), bold))) for t in cells_of(line)[:most]])
 
     # ---- sections
 
-    def put(self, node: Node, lines: list[Line]) -> None:
+    def put(self, node: Node, lines: list[Line], links: list[str] | None = None) -> None:
         """A leaf's lines, behind the gutters of the open containers. Before them is a blank row where one is wanted, behind those that the last leaf was in
         too, up to the last bar. A leaf without lines isn't shown."""
         if not lines:
@@ -204,7 +193,7 @@ class Mapping:
             while both and both[-1].hangs:
                 both.pop()
             self.sections.append(Section(both, 0, [EMPTY]))
-        self.links += [(len(self.sections), x) for x in links_of(node, self.defs)]
+        self.links += [(len(self.sections), x) for x in (links_of(node, self.defs) if links is None else links)]
         sides = [CODE_SIDES] if node.kind in ("fence", "code") else []
         fence = (node.info, *node.lines) if node.kind == "fence" else ()
         self.sections.append(Section([x.gutter for x in self.open] + sides, self.fresh + len(sides), lines, fence=fence))
@@ -248,8 +237,8 @@ def behind_mark(source: str) -> str:
     return source.removeprefix("\ufeff")
 
 
-def mapping_of(source: str, tags: bool = False, streamed: bool = False) -> Mapping:
-    return Mapping(behind_mark(source), tags, streamed)
+def mapping_of(source: str, streamed: bool = False) -> Mapping:
+    return Mapping(behind_mark(source), streamed)
 
 
 def steadied(line: Line) -> Line:
@@ -262,9 +251,9 @@ def steadied(line: Line) -> Line:
     return TableRow([one(cell) for cell in line.cells]) if isinstance(line, TableRow) else line
 
 
-def sections_of(source: str, tags: bool = False, streamed: bool = False) -> list[Section]:
+def sections_of(source: str, streamed: bool = False) -> list[Section]:
     """The sections of a text, steady."""
-    return [replace(s, lines=[steadied(x) for x in s.lines]) for s in mapping_of(source, tags, streamed).sections]
+    return [replace(s, lines=[steadied(x) for x in s.lines]) for s in mapping_of(source, streamed).sections]
 
 
 def links_in(source: str) -> list[tuple[int, str]]:

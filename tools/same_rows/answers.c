@@ -140,20 +140,48 @@ static made pieces_of(const request *it)
     return whole;
 }
 
-/* The rows of Markdown in pieces of so many bytes, by a buffer of a few bytes. */
+/* A text of Markdown that comes in pieces, or one that grows on a terminal. */
+typedef struct {
+    int grows;
+    termimad_stream stream;
+    termimad_live live;
+} kept;
+
+static uint32_t begin(kept *it, const request *r)
+{
+    const size_t *n = r->numbers;
+    it->grows = strcmp(r->call, "live") == 0;
+    return (it->grows ? termimad_live_begin(&it->live, r->texts[1], r->lengths[1], n[0], n[1]) : termimad_stream_begin(&it->stream, r->texts[1], r->lengths[1], n[0])).status;
+}
+
+static termimad_answer take(kept *it, const char *piece, size_t count, int last, char *buffer, size_t capacity)
+{
+    return it->grows ? termimad_live_take(&it->live, piece, count, (size_t)last, buffer, capacity)
+                     : termimad_stream_take(&it->stream, piece, count, (size_t)last, buffer, capacity);
+}
+
+static void end(kept *it)
+{
+    if (it->grows)
+        termimad_live_end(&it->live);
+    else
+        termimad_stream_end(&it->stream);
+}
+
+/* What Markdown makes in pieces of so many bytes, by a buffer of a few bytes: its last number says how many. */
 static made stream_of(const request *it)
 {
     made whole = { NULL, 0, TERMIMAD_DONE };
-    termimad_stream stream;
-    size_t length = it->lengths[0], cut = it->numbers[1];
-    whole.status = termimad_stream_begin(&stream, it->texts[1], it->lengths[1], it->numbers[0]).status;
+    kept text;
+    size_t length = it->lengths[0], cut = it->numbers[it->number_count - 1];
+    whole.status = begin(&text, it);
     if (whole.status != TERMIMAD_DONE)
         return whole;
     for (size_t at = 0; at <= length && whole.status == TERMIMAD_DONE; at += cut) {
         size_t count = length - at < cut ? length - at : cut;
         do {
             char buffer[64];
-            termimad_answer now = termimad_stream_take(&stream, it->texts[0] + at, count, at + cut > length, buffer, sizeof buffer);
+            termimad_answer now = take(&text, it->texts[0] + at, count, at + cut > length, buffer, sizeof buffer);
             size_t got = now.count < sizeof buffer ? now.count : sizeof buffer;
             whole.bytes = room_of(whole.bytes, whole.count + got);
             memcpy(whole.bytes + whole.count, buffer, got);
@@ -162,7 +190,7 @@ static made stream_of(const request *it)
             count = 0;
         } while (whole.status == TERMIMAD_SHORT);
     }
-    termimad_stream_end(&stream);
+    end(&text);
     return whole;
 }
 
@@ -190,11 +218,20 @@ static made whole_of(const request *it)
     return whole;
 }
 
+static made made_of(const request *it)
+{
+    if (strcmp(it->call, "pieces") == 0)
+        return pieces_of(it);
+    if (strcmp(it->call, "markdown-pieces") == 0 || strcmp(it->call, "live") == 0)
+        return stream_of(it);
+    return strcmp(it->call, "rows") == 0 ? rows_of(it) : whole_of(it);
+}
+
 int main(void)
 {
     request it;
     while (read_request(&it)) {
-        made whole = strcmp(it.call, "pieces") == 0 ? pieces_of(&it) : strcmp(it.call, "markdown-pieces") == 0 ? stream_of(&it) : strcmp(it.call, "rows") == 0 ? rows_of(&it) : whole_of(&it);
+        made whole = made_of(&it);
         if (whole.status != TERMIMAD_DONE)
             whole.count = 0;
         printf("%u %zu\n", (unsigned)whole.status, whole.count);

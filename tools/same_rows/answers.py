@@ -49,6 +49,15 @@ def markdown_pieces_of(text: bytes, skin: termimad.Skin, width: int, cut: int) -
     return made
 
 
+def live_of(text: bytes, skin: termimad.Skin, width: int, height: int, cut: int) -> str:
+    """Markdown that grows on a terminal."""
+    shown = io.StringIO()
+    with termimad.live(width, skin, shown, height) as out:
+        for piece in cut_up(text, cut):
+            out.write(piece)
+    return shown.getvalue()
+
+
 def markdown_of(text: bytes, skin: termimad.Skin, width: int) -> str:
     """Markdown by the call, which has to be what a page has."""
     made = termimad.markdown(text, width, skin)
@@ -80,6 +89,7 @@ def made_by(call: str, numbers: list[int], texts: list[bytes]) -> str:
         "inline": lambda: termimad.inline(text, skin),
         "pieces": lambda: pieces_of(text, skin, *numbers),
         "markdown-pieces": lambda: markdown_pieces_of(text, skin, *numbers),
+        "live": lambda: live_of(text, skin, *numbers),
         "rows": lambda: str(termimad.rows(text, *numbers, skin)),
         "fit": lambda: termimad.fit(text, *numbers, skin),
         "printable": lambda: termimad.printable(text),

@@ -3,7 +3,7 @@
 use std::io::{self, BufRead, Read, Write};
 use termimad_proved::{
     area, code, fit, headings, inline, links, markdown, markdown_as_read, printable, rows, rows_as_read, table,
-    text, Align, Area, Heading, Link, Page, Refused,
+    text, Align, Area, Heading, Link, LiveMarkdown, Page, Refused,
 };
 
 const NOT_UTF8: u32 = 3;
@@ -67,13 +67,28 @@ fn pieces(request: &Request, skin: &str) -> Result<String, u32> {
     } else {
         markdown_as_read(source, width, skin).collect()
     };
-    made
-        .map_err(|error| {
-            let refused = error
-                .get_ref()
-                .and_then(|inner| inner.downcast_ref::<Refused>());
-            refused.map_or(NOT_UTF8, |it| status_of(*it))
-        })
+    made.map_err(|error| status_of_error(&error))
+}
+
+fn status_of_error(error: &io::Error) -> u32 {
+    let refused = error
+        .get_ref()
+        .and_then(|inner| inner.downcast_ref::<Refused>());
+    refused.map_or(NOT_UTF8, |it| status_of(*it))
+}
+
+/// The text in pieces, as it grows on a terminal.
+fn grown(request: &Request, skin: &str) -> Result<String, u32> {
+    let [width, height, cut] = request.numbers[..] else {
+        panic!("live takes three numbers")
+    };
+    let mut live = LiveMarkdown::new(width, height, skin).map_err(status_of)?;
+    let mut made = String::new();
+    for piece in request.texts[0].chunks(cut) {
+        made += &live.take(piece).map_err(|error| status_of_error(&error))?;
+    }
+    made += &live.finish().map_err(|error| status_of_error(&error))?;
+    Ok(made)
 }
 
 /// An area whose numbers fit its type, which knows no others.
@@ -132,11 +147,12 @@ fn made_by(request: &Request) -> Result<String, u32> {
         .map(|it| std::str::from_utf8(it))
         .collect();
     let numbers = &request.numbers;
-    if request.call.ends_with("pieces") {
-        return pieces(
-            request,
-            std::str::from_utf8(&request.texts[1]).map_err(|_| NOT_UTF8)?,
-        );
+    if request.call.ends_with("pieces") || request.call == "live" {
+        let skin = std::str::from_utf8(&request.texts[1]).map_err(|_| NOT_UTF8)?;
+        return match request.call.as_str() {
+            "live" => grown(request, skin),
+            _ => pieces(request, skin),
+        };
     }
     // A `str` is UTF-8, so the type refuses all others.
     let texts = texts.map_err(|_| NOT_UTF8)?;

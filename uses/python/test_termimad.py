@@ -1,10 +1,15 @@
 """What the module's calls do, by its own examples and by 1,000 random calls: `TERMIMAD_LIBRARY=.. python3 -m unittest` in this folder."""
 import doctest
+import fcntl
 import io
+import os
 import pathlib
+import pty
 import random
 import re
+import struct
 import tempfile
+import termios
 import unittest
 import unittest.mock
 
@@ -19,6 +24,25 @@ def load_tests(_loader, tests, _pattern):
     for module in (termimad, termimad._pages):
         tests.addTests(doctest.DocTestSuite(module))
     return tests
+
+
+def rows_on_a_terminal(written):
+    """The rows of a terminal that has room for all, once it has read this."""
+    rows = [""]
+    for part in re.findall(r"\x1b\[\?7[lh]|\x1b\[0?m|\r\x1b\[K|\x1b\[1A\x1b\[K|\n|[^\x1b\r\n]+", written):
+        if part == "\n":
+            rows.append("")
+        elif part == "\r\x1b[K":
+            rows[-1] = ""
+        elif part == "\x1b[1A\x1b[K":
+            rows[-2:] = [""]
+        elif part[0] != "\x1b":
+            rows[-1] += part
+    return rows[:-1]
+
+
+def resize(terminal, rows, columns):
+    fcntl.ioctl(terminal, termios.TIOCSWINSZ, struct.pack("HHHH", rows, columns, 0, 0))
 
 
 class Tables(unittest.TestCase):
@@ -132,6 +156,7 @@ class Texts(unittest.TestCase):
             (termimad.WrongNumber, r"aligns\[1\]=4 is over 3", lambda: termimad.table([["a"]], 40, aligns=[0, 4])),
             (termimad.WrongNumber, "width=65536 is over 65535", lambda: list(termimad.pieces(["a"], 65536))),
             (termimad.WrongSkin, "skin='nothing'", lambda: termimad.live(20, "nothing")),
+            (termimad.WrongNumber, "height=70000 is over 65535", lambda: termimad.live(20, "none", height=70000)),
             (termimad.NotUtf8, "a piece is not UTF-8", lambda: list(termimad.pieces([b"\xe6", b"a"], 20))),
             (termimad.NotUtf8, "a piece is not UTF-8", lambda: list(termimad.pieces([b"\xe6"], 20))),
             (TypeError, "a piece is of type int", lambda: list(termimad.pieces([7], 20))),
@@ -206,6 +231,31 @@ class Texts(unittest.TestCase):
             out.write("one\n\ntwo")
             raise KeyError
         self.assertEqual(file.getvalue(), "one\n")
+
+    def test_what_grows_is_redrawn(self):
+        text = "# head\n\n- an *item*\n- and one more\n\nlast words"
+        file = io.StringIO()
+        with termimad.live(30, "none", file, height=24) as out:
+            for letter in text:
+                out.write(letter)
+        self.assertEqual(rows_on_a_terminal(file.getvalue()), termimad.Markdown(text).rows(30))
+        file = io.StringIO()
+        with self.assertRaises(KeyError), termimad.live(30, "none", file, height=24) as out:
+            out.write("one")
+            raise KeyError
+        self.assertEqual(rows_on_a_terminal(file.getvalue()), ["one"])
+
+    def test_a_terminal_shows_what_grows(self):
+        ours, theirs = pty.openpty()
+        with open(theirs, "w", encoding="utf-8") as file:
+            resize(theirs, 24, 21)
+            with termimad.live(skin="none", file=file) as out:
+                out.write("one tw")
+                self.assertEqual(os.read(ours, 4096), b"\x1b[?7lone tw\x1b[?7h")
+                resize(theirs, 24, 9)
+                out.write("o three\n\n")
+                self.assertEqual(os.read(ours, 4096), b"\x1b[0m\r\n\x1b[?7lone two\r\nthree\r\n\x1b[?7h")
+        os.close(ours)
 
     def test_random_calls(self):
         draw = random.Random(7)

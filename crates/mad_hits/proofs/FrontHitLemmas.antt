@@ -3,6 +3,7 @@ use Rattle.std.proofs.Common.{◌≡◌, ℕ, zero, suc, ◌+◌, ◌-◌, ◌^�
 use Rattle.std.specs.List.{range_with_len}
 use Rattle.std.proofs.lemmas.List.{append-nil, map-append, map-id, map_more}
 use Rattle.std.proofs.lemmas.List.FromFn.{length-range_with_len, map-range_with_len_more}
+use Rattle.regex.specs.Patterns.{Re}
 use Rattle.mad_wrap.specs.WrapLines.{capped}
 use Rattle.mad_format.specs.declared.line.FmtLine.{FmtLine}
 use Rattle.mad_style.specs.declared.compound_styles.CompoundStyle.{CompoundStyle}
@@ -30,7 +31,7 @@ range_more : (a n j : ℕ) → a + n ≡ j → range_with_len a (n + 1) ≡ rang
 range_more a n j e =
     sym (map-id (range_with_len a (n + 1))) ∙ (map-range_with_len_more (λ (k : ℕ). k) a n j e ∙ ap (λ (l : List ℕ). l ++ j ∷ []) (map-id (range_with_len a n)))
 
-rows_more : (skin : RowSkin) (style : CompoundStyle) (room : RowRoom) (sought : List ℕ) (lines : List FmtLine) (fs : List Front) (starts : List ℕ) (y n : ℕ) (rows : List ℕ) (row : ℕ) (a b : List ℕ) → n ≡ y + length rows
+rows_more : (skin : RowSkin) (style : CompoundStyle) (room : RowRoom) (sought : Re) (lines : List FmtLine) (fs : List Front) (starts : List ℕ) (y n : ℕ) (rows : List ℕ) (row : ℕ) (a b : List ℕ) → n ≡ y + length rows
     → AreRowsMarked skin style room sought lines fs starts y rows a → IsRowMarked skin style room sought lines fs starts n row b → AreRowsMarked skin style room sought lines fs starts y (rows ++ row ∷ []) (a ++ b)
 rows_more skin style room sought lines fs starts y n [] row a b at none here =
     let same : n ≡ y = omega (arith, at) in
@@ -44,7 +45,7 @@ rows_more skin style room sought lines fs starts y n (r ∷ rows) row a b at (fi
 )
 
 -- a row more
-pub row_more : (skin : RowSkin) (style : CompoundStyle) (room : RowRoom) (sought : List ℕ) (lines : List FmtLine) (fs : List Front) (starts : List ℕ) (top y row : ℕ) (a b : List ℕ) → row ≡ top + y
+pub row_more : (skin : RowSkin) (style : CompoundStyle) (room : RowRoom) (sought : Re) (lines : List FmtLine) (fs : List Front) (starts : List ℕ) (top y row : ℕ) (a b : List ℕ) → row ≡ top + y
     → AreRowsMarked skin style room sought lines fs starts 0 (range_with_len top y) a → IsRowMarked skin style room sought lines fs starts y row b → AreRowsMarked skin style room sought lines fs starts 0 (range_with_len top (y + 1)) (a ++ b)
 row_more skin style room sought lines fs starts top y row a b at so here =
     let long : length (range_with_len top y) ≡ y = length-range_with_len top y in

@@ -2,11 +2,9 @@ pub mod DrawnHits
 pub mod FrontHitLemmas
 pub mod HitLemmas
 pub mod LineLemmas
-pub mod MatchLemmas
 pub mod OwnRowLemmas
 pub mod PaneLemmas
 pub mod PartLemmas
-pub mod RowHitLemmas
 pub mod RowStandLemmas
 pub mod StandLemmas
 pub mod TookLemmas

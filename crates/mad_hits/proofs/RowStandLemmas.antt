@@ -1,8 +1,8 @@
 -- All hits of a row stand in it, those of a table's row too.
-use Rattle.std.proofs.Common.{◌≡◌, ℕ, ◌+◌, ◌-◌, ◌^◌, ◌<◌, true, List, [], ◌∷◌, ◌++◌, drop, map, take, length, Option, Some, None, refl, ap, sym, ◌∙◌, subst, arith, append_assoc}
-use Rattle.std.specs.Prelude.{chars, slice_get}
+use Rattle.std.proofs.Common.{◌≡◌, ℕ, ◌+◌, ◌-◌, ◌^◌, ◌<◌, nat_lt, Bool, true, false, List, [], ◌∷◌, ◌++◌, drop, map, take, Option, Some, None, refl, ap, sym, ◌∙◌, subst, arith, append_assoc}
+use Rattle.std.specs.Prelude.{slice_get, if◌then◌else◌}
 use Rattle.std.specs.List.{AllByRecursion, flat_map}
-use Rattle.std.proofs.lemmas.List.{append-nil, drop-map, map-append, take-map}
+use Rattle.std.proofs.lemmas.List.{drop-map, map-append, take-map}
 use Rattle.std.proofs.lemmas.Option.{same_Some}
 use Rattle.std.proofs.lemmas.List.Concat.{flat_map-append}
 use Rattle.mad_measure.proofs.AllLemmas.{all_joined}
@@ -29,13 +29,14 @@ use Rattle.mad_page_rows.proofs.FillLemmas.{faces_fill}
 use Rattle.mad_pages.specs.Fronts.{front_at, row_behind}
 use Rattle.mad_sections.specs.Gutters.{columns_of}
 use Rattle.mad_wrap.specs.WrapLines.{capped}
-use Rattle.mad_search.specs.Searches.{row_text}
+use Rattle.regex.specs.Patterns.{Re}
+use Rattle.mad_patterns.specs.Breaks.{line_rows, line_start}
+use Rattle.mad_patterns.specs.Searches.{composite_text}
 use Rattle.mad_hits.specs.Drawn.{marked_columns}
 use Rattle.mad_hits.specs.HitLaws.{cell_chars, DrawnHitsStand, HasIndent, HitsChangeNoCharacter, IsCounted, IsCountedCell, StandsWithin}
-use Rattle.mad_hits.specs.Hits.{AreTextHits, AreTextsHits, Marked, marked_at, placed_cells, placed_texts, text_column}
-use Rattle.mad_hits.specs.Overs.{overs_above, overs_below}
+use Rattle.mad_hits.specs.Hits.{Marked, PlacedText, marked_at, placed_cell, placed_cells, placed_line, placed_row, placed_texts, text_column}
 use Rattle.mad_hits.specs.FrontHits.{hit_behind}
-use Rattle.mad_hits.specs.Parts.{AreRowHits, line_parts, part_above, part_below}
+use Rattle.mad_hits.specs.Parts.{AreRowHits, char_count, marked_bytes, part_of, text_hits, texts_hits}
 use Rattle.mad_hits.specs.Rooms.{in_room, room_columns}
 use Rattle.mad_hits.specs.Styled.{styled_text}
 use Rattle.mad_hits.proofs.StandLemmas.{amid, mark_stands, styled_stands}
@@ -44,24 +45,33 @@ use Rattle.mad_hits.proofs.StandLemmas.{amid, mark_stands, styled_stands}
 abbrev further : ℕ → Marked → Marked
 further n hit = record { column = capped (n + hit.column); chars = hit.chars }
 
-all_mapped : (P : Marked → Type 0) (n : ℕ) (f : ℕ → Marked) → ((x : ℕ) → P (further n (f x))) → (xs : List ℕ) → AllByRecursion P (map (further n) (map f xs))
-all_mapped P n f each [] = tt
-all_mapped P n f each (x ∷ xs) = (each x, all_mapped P n f each xs)
-
 -- a hit of a text that begins in a column, so many columns further right
 moved : (n column : ℕ) (text : List StyledChar) (count start : ℕ) → further (capped n) (marked_at column text count start) ≡ marked_at (n + column) text count start
 moved n column text count start =
     ap (λ (m : ℕ). let hit : Marked = record { column = m; chars = (marked_at column text count start).chars } in hit) (omega arith)
 
--- the hits of a composite, of which each stands in a row
-text_stands : (skin : RowSkin) (width n : ℕ) (sought : List ℕ) (row : List RowPiece) (l : FmtComposite) (column : ℕ) (hits : List Marked) → ((count start : ℕ) → StandsWithin width row (further n (marked_at column (styled_text skin l) count start)))
-    → AreTextHits skin sought (record { column = column; text = l }) hits → AllByRecursion (StandsWithin width row) (map (further n) hits)
-text_stands skin width n sought row l column hits each h =
-    subst (λ (m : List Marked). AllByRecursion (StandsWithin width row) (map (further n) m)) (sym h.are)
-    (all_mapped (StandsWithin width row) n (marked_at column (styled_text skin l) (length (chars sought))) (each (length (chars sought))) h.starts)
-
 both_behind : (P : Marked → Type 0) (n : ℕ) (a b : List Marked) → AllByRecursion P (map (further n) a) → AllByRecursion P (map (further n) b) → AllByRecursion P (map (further n) (a ++ b))
 both_behind P n a b p q = subst (AllByRecursion P) (sym (map-append (further n) a b)) (all_joined P (map (further n) a) (map (further n) b) p q)
+
+-- the characters in some bytes of a text, of which each part stands in a row
+part_stands : (P : Marked → Type 0) (n column : ℕ) (text : List StyledChar) (bytes : List ℕ) (part : ℕ × ℕ) → ((count start : ℕ) → P (further n (marked_at column text count start))) → AllByRecursion P (map (further n) (marked_bytes column text bytes part))
+part_stands P n column text bytes part each = there (nat_lt part.0 part.1)
+  where
+    there : (b : Bool) → AllByRecursion P (map (further n) (if b then marked_at column text (char_count (take part.1 bytes) - char_count (take part.0 bytes)) (char_count (take part.0 bytes)) ∷ [] else []))
+    there true = (each (char_count (take part.1 bytes) - char_count (take part.0 bytes)) (char_count (take part.0 bytes)), tt)
+    there false = tt
+
+-- so do the parts of all hits
+parts_stand : (P : Marked → Type 0) (n column : ℕ) (text : List StyledChar) (bytes : List ℕ) (own : ℕ × ℕ) (found : List (ℕ × ℕ)) → ((count start : ℕ) → P (further n (marked_at column text count start)))
+    → AllByRecursion P (map (further n) (flat_map (λ (hit : ℕ × ℕ). marked_bytes column text bytes (part_of own hit)) found))
+parts_stand P n column text bytes own [] each = tt
+parts_stand P n column text bytes own (hit ∷ found) each =
+    both_behind P n (marked_bytes column text bytes (part_of own hit)) (flat_map (λ (h : ℕ × ℕ). marked_bytes column text bytes (part_of own h)) found) (part_stands P n column text bytes (part_of own hit) each) (parts_stand P n column text bytes own found each)
+
+-- the hits of a composite, of which each stands in a row
+text_stands : (skin : RowSkin) (width n : ℕ) (row : List RowPiece) (placed : PlacedText) → ((count start : ℕ) → StandsWithin width row (further n (marked_at placed.column (styled_text skin placed.text) count start)))
+    → AllByRecursion (StandsWithin width row) (map (further n) (text_hits skin placed))
+text_stands skin width n row placed each = parts_stand (StandsWithin width row) n placed.column (styled_text skin placed.text) (composite_text placed.text) placed.own placed.hits each
 
 -- ---- a line of a text, amid what is in front of it and behind it
 
@@ -73,20 +83,6 @@ line_stands skin width rest nf l f b count start narrow wide prefix shown =
     let column : ℕ = text_column skin outer margins l in
     subst (StandsWithin width (f ++ (line_pieces skin (Some rest) true (Normal l) ++ b))) (sym (moved nf column (styled_text skin l) count start))
     (mark_stands skin outer margins true l f b nf (nf + column) width count start wide prefix shown refl narrow)
-
--- its parts of what goes over a break
-parts_stand : (skin : RowSkin) (width rest nf : ℕ) (sought : List ℕ) (l : FmtComposite) (f b : List RowPiece) (above below : List ℕ) → width < 2 ^ 16 → pieces_columns f ≡ nf → HasIndent skin l → AreShownPieces (f ++ (line_pieces skin (Some rest) true (Normal l) ++ b))
-    → AllByRecursion (StandsWithin width (f ++ (line_pieces skin (Some rest) true (Normal l) ++ b))) (map (further (capped nf)) (line_parts skin sought rest above below (Normal l)))
-parts_stand skin width rest nf sought l f b above below narrow wide prefix shown =
-    let P : Marked → Type 0 = StandsWithin width (f ++ (line_pieces skin (Some rest) true (Normal l) ++ b)) in
-    let n : ℕ = capped nf in
-    let column : ℕ = text_column skin (Some rest) (margins_of skin (Some rest) l) l in
-    let text : List StyledChar = styled_text skin l in
-    let count : ℕ = length (chars sought) in
-    let end : ℕ = length (chars (row_text sought (Normal l))) in
-    both_behind P n (map (part_below column text count) above) (map (part_above column text end) below)
-    (all_mapped P n (part_below column text count) (λ at. line_stands skin width rest nf l f b (count - (at + 1)) 0 narrow wide prefix shown) above)
-    (all_mapped P n (part_above column text end) (λ at. line_stands skin width rest nf l f b at (end - at) narrow wide prefix shown) below)
 
 -- ---- a row of a table
 
@@ -104,11 +100,11 @@ others_amid : (skin : RowSkin) (cell : FmtComposite) (cells : List FmtComposite)
 others_amid skin cell cells f b =
     append_assoc (f ++ vertical_piece skin ∷ []) (composite_pieces skin None (cell_margins skin) true cell) (flat_map (cell_pieces skin) cells ++ b) ∙ cell_amid skin cell cells f b
 
-cells_stand : (skin : RowSkin) (width nf : ℕ) (sought : List ℕ) (f b : List RowPiece) (column : ℕ) (cells : List FmtComposite) (hits : List Marked) → width < 2 ^ 16 → pieces_columns f ≡ nf + column → pieces_columns (vertical_piece skin ∷ []) ≡ 1
-    → AllByRecursion (IsCountedCell skin) cells → AreShownPieces (f ++ (flat_map (cell_pieces skin) cells ++ b)) → AreTextsHits skin sought (placed_cells skin column cells) hits
-    → AllByRecursion (StandsWithin width (f ++ (flat_map (cell_pieces skin) cells ++ b))) (map (further (capped nf)) hits)
-cells_stand skin width nf sought f b column [] hits narrow wide border counted shown are = subst (λ (m : List Marked). AllByRecursion (StandsWithin width (f ++ b)) (map (further (capped nf)) m)) (sym are) tt
-cells_stand skin width nf sought f b column (cell ∷ cells) hits narrow wide border counted shown (first, others, are, own, rest) =
+cells_stand : (skin : RowSkin) (width nf : ℕ) (sought : Re) (f b : List RowPiece) (column : ℕ) (cells : List FmtComposite) → width < 2 ^ 16 → pieces_columns f ≡ nf + column → pieces_columns (vertical_piece skin ∷ []) ≡ 1
+    → AllByRecursion (IsCountedCell skin) cells → AreShownPieces (f ++ (flat_map (cell_pieces skin) cells ++ b))
+    → AllByRecursion (StandsWithin width (f ++ (flat_map (cell_pieces skin) cells ++ b))) (map (further (capped nf)) (texts_hits skin (placed_cells skin sought column cells)))
+cells_stand skin width nf sought f b column [] narrow wide border counted shown = tt
+cells_stand skin width nf sought f b column (cell ∷ cells) narrow wide border counted shown =
     let n : ℕ = capped nf in
     let bordered : List RowPiece = f ++ vertical_piece skin ∷ [] in
     let behind : List RowPiece = flat_map (cell_pieces skin) cells ++ b in
@@ -116,20 +112,21 @@ cells_stand skin width nf sought f b column (cell ∷ cells) hits narrow wide bo
     let P : Marked → Type 0 = StandsWithin width row in
     let inside : ℕ = column + 1 in
     let text : ℕ = inside + text_column skin None (cell_margins skin) cell in
+    let first : List Marked = text_hits skin (placed_cell skin sought column cell) in
+    let others : List Marked = texts_hits skin (placed_cells skin sought (inside + cell_columns skin cell) cells) in
     let wide_border : pieces_columns bordered ≡ nf + inside = let both = columns-both f (vertical_piece skin ∷ []) in omega (arith, both, wide, border) in
     let wide_cell : pieces_columns (bordered ++ composite_pieces skin None (cell_margins skin) true cell) ≡ nf + (inside + cell_columns skin cell) =
     let both = columns-both bordered (composite_pieces skin None (cell_margins skin) true cell) in let place = counted.0.place in omega (arith, both, wide_border, place) in
     let own_stand : AllByRecursion P (map (further n) first) =
-    text_stands skin width n sought row cell text first
+    text_stands skin width n row (placed_cell skin sought column cell)
     (λ count start.
     subst P (sym (moved nf text (styled_text skin cell) count start))
     (subst (λ (ps : List RowPiece). StandsWithin width ps (marked_at (nf + text) (styled_text skin cell) count start)) (cell_amid skin cell cells f b)
-    (mark_stands skin None (cell_margins skin) true cell bordered behind (nf + inside) (nf + text) width count start wide_border counted.0.indent (subst AreShownPieces (sym (cell_amid skin cell cells f b)) shown) (omega arith) narrow)))
-    own in
+    (mark_stands skin None (cell_margins skin) true cell bordered behind (nf + inside) (nf + text) width count start wide_border counted.0.indent (subst AreShownPieces (sym (cell_amid skin cell cells f b)) shown) (omega arith) narrow))) in
     let rest_stand : AllByRecursion P (map (further n) others) =
     subst (λ (ps : List RowPiece). AllByRecursion (StandsWithin width ps) (map (further n) others)) (others_amid skin cell cells f b)
-    (cells_stand skin width nf sought (bordered ++ composite_pieces skin None (cell_margins skin) true cell) b (inside + cell_columns skin cell) cells others narrow wide_cell border counted.1 (subst AreShownPieces (sym (others_amid skin cell cells f b)) shown) rest) in
-    subst (λ (m : List Marked). AllByRecursion P (map (further n) m)) (sym are) (both_behind P n first others own_stand rest_stand)
+    (cells_stand skin width nf sought (bordered ++ composite_pieces skin None (cell_margins skin) true cell) b (inside + cell_columns skin cell) cells narrow wide_cell border counted.1 (subst AreShownPieces (sym (others_amid skin cell cells f b)) shown)) in
+    both_behind P n first others own_stand rest_stand
 
 -- the pieces of a row of a table, amid what is in front of it and behind it
 table_amid : (f l all r b : List RowPiece) (v : RowPiece) → f ++ ((l ++ ((all ++ v ∷ []) ++ r)) ++ b) ≡ (f ++ l) ++ (all ++ (v ∷ r ++ b))
@@ -139,58 +136,47 @@ table_amid f l all r b v =
     ∙ ap (λ (ps : List RowPiece). f ++ (l ++ ps)) (append_assoc all (v ∷ []) (r ++ b))
     ∙ sym (append_assoc f l (all ++ (v ∷ r ++ b)))
 
-table_stands : (skin : RowSkin) (width rest nf : ℕ) (sought : List ℕ) (cells : List FmtComposite) (hits : List Marked) (f b row : List RowPiece) → width < 2 ^ 16 → pieces_columns f ≡ nf → pieces_columns (vertical_piece skin ∷ []) ≡ 1 → AllByRecursion (IsCountedCell skin) cells
+table_stands : (skin : RowSkin) (width rest nf : ℕ) (sought : Re) (cells : List FmtComposite) (f b row : List RowPiece) → width < 2 ^ 16 → pieces_columns f ≡ nf → pieces_columns (vertical_piece skin ∷ []) ≡ 1 → AllByRecursion (IsCountedCell skin) cells
     → row ≡ spaces skin.paragraph.compound_style (left_of_place skin.table.align (row_columns skin cells) (Some rest)) ++ ((flat_map (cell_pieces skin) cells ++ vertical_piece skin ∷ []) ++ spaces skin.paragraph.compound_style (right_of_place skin.table.align (row_columns skin cells) (Some rest)))
-    → AreShownPieces (f ++ (row ++ b)) → AreTextsHits skin sought (placed_cells skin (left_of_place skin.table.align (row_columns skin cells) (Some rest)) cells) hits → AllByRecursion (StandsWithin width (f ++ (row ++ b))) (map (further (capped nf)) hits)
-table_stands skin width rest nf sought cells hits f b row narrow wide border counted is shown are =
+    → AreShownPieces (f ++ (row ++ b)) → AllByRecursion (StandsWithin width (f ++ (row ++ b))) (map (further (capped nf)) (texts_hits skin (placed_row skin sought rest cells)))
+table_stands skin width rest nf sought cells f b row narrow wide border counted is shown =
     let left : ℕ = left_of_place skin.table.align (row_columns skin cells) (Some rest) in
     let l : List RowPiece = spaces skin.paragraph.compound_style left in
     let right : List RowPiece = spaces skin.paragraph.compound_style (right_of_place skin.table.align (row_columns skin cells) (Some rest)) in
     let all : List RowPiece = flat_map (cell_pieces skin) cells in
+    let hits : List Marked = texts_hits skin (placed_cells skin sought left cells) in
     let same : f ++ (row ++ b) ≡ (f ++ l) ++ (all ++ (vertical_piece skin ∷ right ++ b)) = ap (λ (ps : List RowPiece). f ++ (ps ++ b)) is ∙ table_amid f l all right b (vertical_piece skin) in
     let wide_left : pieces_columns (f ++ l) ≡ nf + left = let both = columns-both f l in let blank = spaces_columns skin.paragraph.compound_style left in omega (arith, both, wide, blank) in
     subst (λ (ps : List RowPiece). AllByRecursion (StandsWithin width ps) (map (further (capped nf)) hits)) (sym same)
-    (cells_stand skin width nf sought (f ++ l) (vertical_piece skin ∷ right ++ b) left cells hits narrow wide_left border counted (subst AreShownPieces same shown) are)
+    (cells_stand skin width nf sought (f ++ l) (vertical_piece skin ∷ right ++ b) left cells narrow wide_left border counted (subst AreShownPieces same shown))
 
 -- ---- any row
 
--- what a row's hits are of its own line
-own_of : (skin : RowSkin) (width : ℕ) (sought : List ℕ) (lines : List FmtLine) (starts : List ℕ) (row : ℕ) (hits : List Marked) (line : FmtLine) → slice_get lines row ≡ Some line → AreRowHits skin width sought lines starts row hits
-    → (own : List Marked) × AreTextsHits skin sought (placed_texts skin width line) own × (hits ≡ own ++ line_parts skin sought width (overs_above sought lines starts row) (overs_below sought lines starts row) line)
-own_of skin width sought lines starts row hits line is are =
-    let same : are.line ≡ line = same_Some _ _ (sym are.is ∙ is) in (
-      are.own,
-      subst (λ (x : FmtLine). AreTextsHits skin sought (placed_texts skin width x) are.own) same are.within,
-      are.are ∙ ap (λ (x : FmtLine). are.own ++ line_parts skin sought width (overs_above sought lines starts row) (overs_below sought lines starts row) x) same,
-    )
+-- what a row's hits are, by its line
+hits_of : (skin : RowSkin) (width : ℕ) (sought : Re) (lines : List FmtLine) (starts : List ℕ) (row : ℕ) (hits : List Marked) (line : FmtLine) → slice_get lines row ≡ Some line → AreRowHits skin width sought lines starts row hits
+    → hits ≡ texts_hits skin (placed_texts skin sought width lines starts row line)
+hits_of skin width sought lines starts row hits line is are =
+    let same : are.line ≡ line = same_Some _ _ (sym are.is ∙ is) in are.are ∙ ap (λ (x : FmtLine). texts_hits skin (placed_texts skin sought width lines starts row x)) same
 
--- a rule has none
-none_stand : (P : Marked → Type 0) (n : ℕ) (own hits : List Marked) → own ≡ [] → hits ≡ own ++ [] → AllByRecursion P (map (further n) hits)
-none_stand P n own hits none are = subst (λ (m : List Marked). AllByRecursion P (map (further n) m)) (sym (are ∙ append-nil own ∙ none)) tt
-
--- the hits of a line stand in it, amid what is in front of it and behind it
-amid_stand : (skin : RowSkin) (width rest nf : ℕ) (sought : List ℕ) (lines : List FmtLine) (starts : List ℕ) (row : ℕ) (hits : List Marked) (line : FmtLine) (f b : List RowPiece) → slice_get lines row ≡ Some line → width < 2 ^ 16 → pieces_columns f ≡ nf → IsCounted skin line
-    → AreShownPieces (f ++ (line_pieces skin (Some rest) true line ++ b)) → AreRowHits skin rest sought lines starts row hits → AllByRecursion (StandsWithin width (f ++ (line_pieces skin (Some rest) true line ++ b))) (map (further (capped nf)) hits)
-amid_stand skin width rest nf sought lines starts row hits (Normal l) f b is narrow wide counted shown h =
-    let it = own_of skin rest sought lines starts row hits (Normal l) is h in
+-- the texts of a line have hits that stand in it, amid what is in front of it and behind it
+texts_stand : (skin : RowSkin) (width rest nf : ℕ) (sought : Re) (lines : List FmtLine) (starts : List ℕ) (row : ℕ) (line : FmtLine) (f b : List RowPiece) → width < 2 ^ 16 → pieces_columns f ≡ nf → IsCounted skin line
+    → AreShownPieces (f ++ (line_pieces skin (Some rest) true line ++ b)) → AllByRecursion (StandsWithin width (f ++ (line_pieces skin (Some rest) true line ++ b))) (map (further (capped nf)) (texts_hits skin (placed_texts skin sought rest lines starts row line)))
+texts_stand skin width rest nf sought lines starts row (Normal l) f b narrow wide counted shown =
     let P : Marked → Type 0 = StandsWithin width (f ++ (line_pieces skin (Some rest) true (Normal l) ++ b)) in
-    let n : ℕ = capped nf in
-    let column : ℕ = text_column skin (Some rest) (margins_of skin (Some rest) l) l in
-    let texts = it.1 in
-    let own : AllByRecursion P (map (further n) it.0) =
-    subst (λ (m : List Marked). AllByRecursion P (map (further n) m)) (sym (texts.2 ∙ ap (λ (m : List Marked). texts.0 ++ m) texts.4 ∙ append-nil texts.0))
-    (text_stands skin width n sought (f ++ (line_pieces skin (Some rest) true (Normal l) ++ b)) l column texts.0 (λ count start. line_stands skin width rest nf l f b count start narrow wide counted shown) texts.3) in
-    subst (λ (m : List Marked). AllByRecursion P (map (further n) m)) (sym it.2)
-    (both_behind P n it.0 _ own (parts_stand skin width rest nf sought l f b (overs_above sought lines starts row) (overs_below sought lines starts row) narrow wide counted shown))
-amid_stand skin width rest nf sought lines starts row hits (TableRow cells) f b is narrow wide counted shown h =
-    let it = own_of skin rest sought lines starts row hits (TableRow cells) is h in
-    let line : List RowPiece = line_pieces skin (Some rest) true (TableRow cells) in
-    subst (λ (m : List Marked). AllByRecursion (StandsWithin width (f ++ (line ++ b))) (map (further (capped nf)) m)) (sym (it.2 ∙ append-nil it.0))
-    (table_stands skin width rest nf sought cells.cells.items it.0 f b line narrow wide counted.0 counted.1 refl shown it.1)
-amid_stand skin width rest nf sought lines starts row hits (TableRule rule) f b is narrow wide counted shown h =
-    let it = own_of skin rest sought lines starts row hits (TableRule rule) is h in none_stand _ (capped nf) it.0 hits it.1 it.2
-amid_stand skin width rest nf sought lines starts row hits HorizontalRule f b is narrow wide counted shown h =
-    let it = own_of skin rest sought lines starts row hits HorizontalRule is h in none_stand _ (capped nf) it.0 hits it.1 it.2
+    let placed : PlacedText = placed_line skin sought rest (line_rows lines starts row) (row - line_start lines starts row) l in
+    both_behind P (capped nf) (text_hits skin placed) []
+    (text_stands skin width (capped nf) (f ++ (line_pieces skin (Some rest) true (Normal l) ++ b)) placed (λ count start. line_stands skin width rest nf l f b count start narrow wide counted shown)) tt
+texts_stand skin width rest nf sought lines starts row (TableRow table) f b narrow wide counted shown =
+    table_stands skin width rest nf sought table.cells.items f b (line_pieces skin (Some rest) true (TableRow table)) narrow wide counted.0 counted.1 refl shown
+texts_stand skin width rest nf sought lines starts row (TableRule rule) f b narrow wide counted shown = tt
+texts_stand skin width rest nf sought lines starts row HorizontalRule f b narrow wide counted shown = tt
+
+-- so do the hits of the row
+amid_stand : (skin : RowSkin) (width rest nf : ℕ) (sought : Re) (lines : List FmtLine) (starts : List ℕ) (row : ℕ) (hits : List Marked) (line : FmtLine) (f b : List RowPiece) → slice_get lines row ≡ Some line → width < 2 ^ 16 → pieces_columns f ≡ nf → IsCounted skin line
+    → AreShownPieces (f ++ (line_pieces skin (Some rest) true line ++ b)) → AreRowHits skin rest sought lines starts row hits → AllByRecursion (StandsWithin width (f ++ (line_pieces skin (Some rest) true line ++ b))) (map (further (capped nf)) hits)
+amid_stand skin width rest nf sought lines starts row hits line f b is narrow wide counted shown h =
+    subst (λ (m : List Marked). AllByRecursion (StandsWithin width (f ++ (line_pieces skin (Some rest) true line ++ b))) (map (further (capped nf)) m)) (sym (hits_of skin rest sought lines starts row hits line is h))
+    (texts_stand skin width rest nf sought lines starts row line f b narrow wide counted shown)
 
 -- a row shows the same characters with tones
 

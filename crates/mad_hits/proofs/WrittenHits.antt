@@ -6,6 +6,7 @@ use Rattle.std.specs.Result.{IsErrAnd}
 use Rattle.std.proofs.lemmas.Bool.Decides.{nat_tests}
 use Rattle.std.proofs.lemmas.List.{drop_all}
 use Rattle.std.proofs.lemmas.Result.{err_from_is_err_and}
+use Rattle.regex.specs.Patterns.{Re}
 use Rattle.mad_term.specs.Draws.{Draws}
 use Rattle.mad_term.specs.Trace.{Trace, TookWith, after}
 use Rattle.mad_term.specs.declared.errors.Error.{Error}
@@ -113,7 +114,7 @@ none_written {T} done style front width y hits i old past = took_none old ∙ ap
 -- ---- rows
 
 -- the hits of a row that were found are those of its line behind its front
-line_hits : (skin : RowSkin) (room : RowRoom) (sought : List ℕ) (lines : List FmtLine) (starts : List ℕ) (row : ℕ) (own : FrontContent) (rest : ℕ) (inner : RowSkin) (hits : List Marked)
+line_hits : (skin : RowSkin) (room : RowRoom) (sought : Re) (lines : List FmtLine) (starts : List ℕ) (row : ℕ) (own : FrontContent) (rest : ℕ) (inner : RowSkin) (hits : List Marked)
     → inner ≡ line_skin skin own → rest ≡ room_columns room - columns_of (has_ascii_boxes skin) own.gutters → AreRowHits inner rest sought lines starts row hits → AreLineHits skin room sought lines own starts row hits
 line_hits skin room sought lines starts row own rest inner hits inner_is rest_is are =
     subst (λ (s : RowSkin). AreRowHits s (room_columns room - columns_of (has_ascii_boxes skin) own.gutters) sought lines starts row hits) inner_is (subst (λ (n : ℕ). AreRowHits inner n sought lines starts row hits) rest_is are)
@@ -124,7 +125,7 @@ hits_at skin style room own front hits given front_is same =
     ap (λ (hs : List Hit). placed style front hs) same ∙ ap (λ (n : ℕ). placed style n hits) front_is
 
 -- the hits of a row were drawn, or that was refused
-pub row_written : {T : Type 0} (r : Result T Error) (skin : RowSkin) (style : CompoundStyle) (room : RowRoom) (sought : List ℕ) (lines : List FmtLine) (fs : List Front) (starts : List ℕ) (y row : ℕ) (own : FrontContent) (hits given : List Hit) (front rest : ℕ) (inner : RowSkin) (old new : Trace)
+pub row_written : {T : Type 0} (r : Result T Error) (skin : RowSkin) (style : CompoundStyle) (room : RowRoom) (sought : Re) (lines : List FmtLine) (fs : List Front) (starts : List ℕ) (y row : ℕ) (own : FrontContent) (hits given : List Hit) (front rest : ℕ) (inner : RowSkin) (old new : Trace)
     → own ≡ front_at fs row → inner ≡ line_skin skin own → rest ≡ room_columns room - columns_of (has_ascii_boxes skin) own.gutters → front ≡ capped (room.left + fronts skin own.gutters) → given ≡ hits
     → AreRowHits inner rest sought lines starts row (map marked_of hits) → Draws old (hits_bytes room.end y (placed style front given)) r new → WritesRowHits skin style room sought lines fs starts y row old r new
 row_written {T} r skin style room sought lines fs starts y row own hits given front rest inner old new own_is inner_is rest_is front_is same are h =
@@ -138,7 +139,7 @@ row_written {T} r skin style room sought lines fs starts y row own hits given fr
     )
 
 -- the hits of a row that were drawn in its place mark the row
-row_marked : (skin : RowSkin) (style : CompoundStyle) (room : RowRoom) (sought : List ℕ) (lines : List FmtLine) (fs : List Front) (starts : List ℕ) (y row : ℕ) (own : FrontContent) (hits given : List Hit) (front rest : ℕ) (inner : RowSkin) (old new : Trace)
+row_marked : (skin : RowSkin) (style : CompoundStyle) (room : RowRoom) (sought : Re) (lines : List FmtLine) (fs : List Front) (starts : List ℕ) (y row : ℕ) (own : FrontContent) (hits given : List Hit) (front rest : ℕ) (inner : RowSkin) (old new : Trace)
     → own ≡ front_at fs row → inner ≡ line_skin skin own → rest ≡ room_columns room - columns_of (has_ascii_boxes skin) own.gutters → front ≡ capped (room.left + fronts skin own.gutters) → given ≡ hits
     → AreRowHits inner rest sought lines starts row (map marked_of hits) → new ≡ after old (hits_bytes room.end y (placed style front given)) → TookWith old new (AreHitsShown room.end y (placed style front given))
     → TookWith old new (IsRowMarked skin style room sought lines fs starts y row)
@@ -157,7 +158,7 @@ row_marked skin style room sought lines fs starts y row own hits given front res
     (took_exact old new bytes (AreHitsShown room.end y (placed style front given)) taken shown)
 
 -- the same of a call that drew them, or was refused
-pub row_shown : {T : Type 0} (r : Result T Error) (skin : RowSkin) (style : CompoundStyle) (room : RowRoom) (sought : List ℕ) (lines : List FmtLine) (fs : List Front) (starts : List ℕ) (y row : ℕ) (own : FrontContent) (hits given : List Hit) (front rest : ℕ) (inner : RowSkin) (old new : Trace)
+pub row_shown : {T : Type 0} (r : Result T Error) (skin : RowSkin) (style : CompoundStyle) (room : RowRoom) (sought : Re) (lines : List FmtLine) (fs : List Front) (starts : List ℕ) (y row : ℕ) (own : FrontContent) (hits given : List Hit) (front rest : ℕ) (inner : RowSkin) (old new : Trace)
     → own ≡ front_at fs row → inner ≡ line_skin skin own → rest ≡ room_columns room - columns_of (has_ascii_boxes skin) own.gutters → front ≡ capped (room.left + fronts skin own.gutters) → given ≡ hits
     → AreRowHits inner rest sought lines starts row (map marked_of hits) → Draws old (hits_bytes room.end y (placed style front given)) r new → OnOk r (TookWith old new (AreHitsShown room.end y (placed style front given)))
     → OnOk r (TookWith old new (IsRowMarked skin style room sought lines fs starts y row))
@@ -166,14 +167,14 @@ row_shown {T} (Ok x) skin style room sought lines fs starts y row own hits given
 row_shown {T} (Err e) skin style room sought lines fs starts y row own hits given front rest inner old new own_is inner_is rest_is front_is same are taken shown = tt
 
 -- memory for them was refused
-pub row_unfound : {T : Type 0} (r : Result T Error) (skin : RowSkin) (style : CompoundStyle) (room : RowRoom) (sought : List ℕ) (lines : List FmtLine) (fs : List Front) (starts : List ℕ) (y row : ℕ) (old : Trace) → IsErrAnd r (λ e. e ≡ Memory)
+pub row_unfound : {T : Type 0} (r : Result T Error) (skin : RowSkin) (style : CompoundStyle) (room : RowRoom) (sought : Re) (lines : List FmtLine) (fs : List Front) (starts : List ℕ) (y row : ℕ) (old : Trace) → IsErrAnd r (λ e. e ≡ Memory)
     → WritesRowHits skin style room sought lines fs starts y row old r old
 row_unfound {T} r skin style room sought lines fs starts y row old refused =
     let p = err_from_is_err_and r refused in
     inr (p.1 ∙ ap Err p.2, refl)
 
 -- a row whose hits were drawn, before the others
-pub row_before : {T U : Type 0} (r : Result T Error) (done : U) (skin : RowSkin) (style : CompoundStyle) (room : RowRoom) (sought : List ℕ) (lines : List FmtLine) (fs : List Front) (starts : List ℕ) (y row after_it n : ℕ) (old mid new : Trace) → after_it ≡ row + 1
+pub row_before : {T U : Type 0} (r : Result T Error) (done : U) (skin : RowSkin) (style : CompoundStyle) (room : RowRoom) (sought : Re) (lines : List FmtLine) (fs : List Front) (starts : List ℕ) (y row after_it n : ℕ) (old mid new : Trace) → after_it ≡ row + 1
     → WritesRowHits {T = U} skin style room sought lines fs starts y row old (Ok done) mid → WritesRowsHits skin style room sought lines fs starts (y + 1) (range_with_len after_it n) mid r new
     → WritesRowsHits skin style room sought lines fs starts y (range_with_len row (n + 1)) old r new
 row_before {T} {U} r done skin style room sought lines fs starts y row after_it n old mid new at (inl h) rest =
@@ -184,7 +185,7 @@ row_before {T} {U} r done skin style room sought lines fs starts y row after_it 
 row_before {T} {U} r done skin style room sought lines fs starts y row after_it n old mid new at (inr h) rest = absurd (cc)
 
 -- a row that was refused ends the drawing
-pub row_refused : {T : Type 0} (r : Result T Error) (e : Error) (skin : RowSkin) (style : CompoundStyle) (room : RowRoom) (sought : List ℕ) (lines : List FmtLine) (fs : List Front) (starts : List ℕ) (y row n : ℕ) (old new : Trace) → IsErrAnd r (λ d. d ≡ e)
+pub row_refused : {T : Type 0} (r : Result T Error) (e : Error) (skin : RowSkin) (style : CompoundStyle) (room : RowRoom) (sought : Re) (lines : List FmtLine) (fs : List Front) (starts : List ℕ) (y row n : ℕ) (old new : Trace) → IsErrAnd r (λ d. d ≡ e)
     → WritesRowHits {T = T} skin style room sought lines fs starts y row old (Err e) new → WritesRowsHits skin style room sought lines fs starts y (range_with_len row (n + 1)) old r new
 row_refused {T} r e skin style room sought lines fs starts y row n old new refused h =
     let p = err_from_is_err_and r refused in
@@ -193,7 +194,7 @@ row_refused {T} r e skin style room sought lines fs starts y row n old new refus
     (subst (λ (m : ℕ). WritesRowsHits {T = T} skin style room sought lines fs starts y (range_with_len row m) old (Err e) new) (let it : suc n ≡ n + 1 = omega arith in it) (inr (refl, h)))
 
 -- all rows are to come
-pub rows_to_come : {T : Type 0} (r : Result T Error) (skin : RowSkin) (style : CompoundStyle) (room : RowRoom) (sought : List ℕ) (lines : List FmtLine) (fs : List Front) (starts : List ℕ) (y top row n count : ℕ) (old new : Trace) → y ≡ 0 → row ≡ top + y → n + y ≡ count
+pub rows_to_come : {T : Type 0} (r : Result T Error) (skin : RowSkin) (style : CompoundStyle) (room : RowRoom) (sought : Re) (lines : List FmtLine) (fs : List Front) (starts : List ℕ) (y top row n count : ℕ) (old new : Trace) → y ≡ 0 → row ≡ top + y → n + y ≡ count
     → WritesRowsHits skin style room sought lines fs starts y (range_with_len row n) old r new → WritesRowsHits skin style room sought lines fs starts 0 (range_with_len top count) old r new
 rows_to_come {T} r skin style room sought lines fs starts y top row n count old new none at left h =
     let first : row ≡ top = omega (arith, at, none) in
@@ -203,6 +204,6 @@ rows_to_come {T} r skin style room sought lines fs starts y top row n count old 
     (subst (λ (m : ℕ). WritesRowsHits skin style room sought lines fs starts y (range_with_len row m) old r new) all h))
 
 -- as many rows as are counted
-pub counted : {T : Type 0} (r : Result T Error) (skin : RowSkin) (style : CompoundStyle) (room : RowRoom) (sought : List ℕ) (lines : List FmtLine) (fs : List Front) (starts : List ℕ) (y top count n : ℕ) (old new : Trace) → count ≡ n
+pub counted : {T : Type 0} (r : Result T Error) (skin : RowSkin) (style : CompoundStyle) (room : RowRoom) (sought : Re) (lines : List FmtLine) (fs : List Front) (starts : List ℕ) (y top count n : ℕ) (old new : Trace) → count ≡ n
     → WritesRowsHits skin style room sought lines fs starts y (range_with_len top count) old r new → WritesRowsHits skin style room sought lines fs starts y (range_with_len top n) old r new
 counted {T} r skin style room sought lines fs starts y top count n old new is h = subst (λ (m : ℕ). WritesRowsHits skin style room sought lines fs starts y (range_with_len top m) old r new) is h

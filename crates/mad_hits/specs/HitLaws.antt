@@ -1,6 +1,7 @@
 -- Laws of hits: what they change of the rows that they are drawn over.
 use Rattle.std.specs.Prelude.{◌≡◌, ℕ, ◌+◌, ◌^◌, ◌<◌, ◌≤◌, true, List, [], ◌∷◌, map, take, drop, Some, None, slice_get}
 use Rattle.std.specs.List.{AllByRecursion}
+use Rattle.regex.specs.Patterns.{Re}
 use Rattle.mad_screen.specs.Glyph.{Glyph}
 use Rattle.mad_screen.specs.Painting.{IsWhole, look_of_style}
 use Rattle.mad_style.specs.StyledChars.{char_alone, char_style}
@@ -76,12 +77,12 @@ StandInRow skin style room all front line hits =
 -- what is in front of its line. The row has as many columns as the hits were found for. Its line is shown, as it is without tones.
 abbrev pub HitsChangeNoCharacter : Type 0
 HitsChangeNoCharacter =
-    (skin : RowSkin) (style : CompoundStyle) (room : RowRoom) (all : ℕ) (sought : List ℕ) (lines : List FmtLine) (front : FrontContent) (starts : List ℕ) (row : ℕ) (hits : List Marked) (line : FmtLine) → slice_get lines row ≡ Some line → room.end < 2 ^ 16
+    (skin : RowSkin) (style : CompoundStyle) (room : RowRoom) (all : ℕ) (sought : Re) (lines : List FmtLine) (front : FrontContent) (starts : List ℕ) (row : ℕ) (hits : List Marked) (line : FmtLine) → slice_get lines row ≡ Some line → room.end < 2 ^ 16
     → AreFacesShown skin → IsCountedRow skin front line → AreShownPieces (behind_pieces skin (Some (room_columns room)) true (without_marks (row_behind front line)))
     → AreLineHits skin room sought lines front starts row hits → StandInRow skin style room all front line hits
 
 -- each of the hits that these bytes show stands in its row
-abbrev pub RowsStand : (skin : RowSkin) (style : CompoundStyle) (room : RowRoom) (all : ℕ) (sought : List ℕ) (lines : List FmtLine) (fs : List Front) (starts : List ℕ) (y : ℕ) (rows bytes : List ℕ) → AreRowsMarked skin style room sought lines fs starts y rows bytes → Type 0
+abbrev pub RowsStand : (skin : RowSkin) (style : CompoundStyle) (room : RowRoom) (all : ℕ) (sought : Re) (lines : List FmtLine) (fs : List Front) (starts : List ℕ) (y : ℕ) (rows bytes : List ℕ) → AreRowsMarked skin style room sought lines fs starts y rows bytes → Type 0
 RowsStand skin style room all sought lines fs starts y [] bytes marked = Unit {0}
 RowsStand skin style room all sought lines fs starts y (row ∷ rows) bytes marked =
     ((line : FmtLine) → slice_get lines row ≡ Some line → IsCountedRow skin (front_at fs row) line → AreShownPieces (behind_pieces skin (Some (room_columns room)) true (without_marks (row_behind (front_at fs row) line)))
@@ -91,5 +92,5 @@ RowsStand skin style room all sought lines fs starts y (row ∷ rows) bytes mark
 -- So it is with all hits that are drawn over rows.
 abbrev pub DrawnHitsStand : Type 0
 DrawnHitsStand =
-    (skin : RowSkin) (style : CompoundStyle) (room : RowRoom) (all : ℕ) (sought : List ℕ) (lines : List FmtLine) (fs : List Front) (starts : List ℕ) (y : ℕ) (rows bytes : List ℕ) → room.end < 2 ^ 16 → AreFacesShown skin
+    (skin : RowSkin) (style : CompoundStyle) (room : RowRoom) (all : ℕ) (sought : Re) (lines : List FmtLine) (fs : List Front) (starts : List ℕ) (y : ℕ) (rows bytes : List ℕ) → room.end < 2 ^ 16 → AreFacesShown skin
     → (marked : AreRowsMarked skin style room sought lines fs starts y rows bytes) → RowsStand skin style room all sought lines fs starts y rows bytes marked

@@ -3,8 +3,6 @@ pub mod FrontHits
 pub mod FrontRows
 pub mod HitLaws
 pub mod Hits
-pub mod Matches
-pub mod Overs
 pub mod OwnRows
 pub mod Panes
 pub mod Parts

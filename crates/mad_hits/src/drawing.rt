@@ -4,6 +4,7 @@ ghost use Rattle.std.specs.List.{range_with_len};
 ghost use Rattle.std.specs.Prelude.{◌≡◌, ◌+◌, ◌-◌, ◌<◌, ◌^◌, OnOk, length, map, min};
 ghost use Rattle.mad_term.specs.Draws.{Draws};
 ghost use Rattle.mad_term.specs.Trace.{TookWith};
+ghost use Rattle.regex.specs.Strings.{regex_pattern};
 ghost use Rattle.mad_style.specs.StyledChars.{char_style};
 ghost use Rattle.mad_term.specs.Styles.{IsStyle};
 ghost use Rattle.mad_hits.specs.Drawn.{AreHitsShown, IsHitShown, hit_bytes, hits_bytes};
@@ -13,8 +14,7 @@ ghost use Rattle.mad_page_rows.specs.FaceLaws.{fronts};
 ghost use Rattle.mad_wrap.specs.WrapLines.{capped};
 
 use crate::columns::columns_in_front;
-use crate::hits::{Hit, columns_of};
-use crate::parts::row_hits;
+use crate::hits::{Hit, columns_of, row_hits};
 use crate::rooms::RowRoom;
 use crate::styled::overlaid_chars;
 use mad_draw::{Rows, draw_rows};
@@ -27,14 +27,15 @@ use mad_rows::RowSkin;
 use mad_sections::Gutter;
 use mad_style::{CompoundStyle, StyledChar};
 use mad_term::{Error, Out};
+use regex::Regex;
 use std::alloc::{AllocError, Global};
 
 /// Draws the hits of what is sought over rows of a page that were drawn in an area, those from the row `top` on, as many as its height. The page
 /// has the columns of its room. The style of a hit's characters is overwritten with `style`. Nothing is flushed.
 ///
 /// Parts of what is shown begin in the rows `starts`, as [`mad_pages::PagedPage`] tells. What is sought is in the lines alone; a hit begins behind what
-/// stands in front of its line. Of what goes over the break between two rows that come of one line of the text, each row has its part, also where the
-/// other one isn't in the area.
+/// stands in front of its line. Of a hit in several rows that come of one line of the text, each row has its part, also where another one isn't in
+/// the area.
 ///
 /// # Errors
 ///
@@ -50,10 +51,10 @@ pub fn draw_row_hits<O: Out>(
     top: usize,
     room: RowRoom,
     height: u16,
-    sought: &str,
+    sought: &Regex,
 ) -> Result<(), Error>
-    ensures writes { WritesRowsHits skin.now style room sought.now lines.now fronts.now starts.now 0 (range_with_len top (min height (length lines.now - top))) (O.seen out.old) result (O.seen out.new) }
-    ensures shown { OnOk result (TookWith (O.seen out.old) (O.seen out.new) (AreRowsMarked skin.now style room sought.now lines.now fronts.now starts.now 0 (range_with_len top (min height (length lines.now - top))))) }
+    ensures writes { WritesRowsHits skin.now style room (regex_pattern sought.now) lines.now fronts.now starts.now 0 (range_with_len top (min height (length lines.now - top))) (O.seen out.old) result (O.seen out.new) }
+    ensures shown { OnOk result (TookWith (O.seen out.old) (O.seen out.new) (AreRowsMarked skin.now style room (regex_pattern sought.now) lines.now fronts.now starts.now 0 (range_with_len top (min height (length lines.now - top))))) }
 {
     let count = usize::from(height).min(lines.len().saturating_sub(top));
     let mut y: u16 = 0;
@@ -79,12 +80,12 @@ fn draw_row<O: Out>(
     row: usize,
     room: RowRoom,
     y: u16,
-    sought: &str,
+    sought: &Regex,
 ) -> Result<(), Error>
     requires low { y + 1 < 2 ^ 16 }
     requires within { row < length lines.now }
-    ensures writes { WritesRowHits skin.now style room sought.now lines.now fronts.now starts.now y row (O.seen out.old) result (O.seen out.new) }
-    ensures shown { OnOk result (TookWith (O.seen out.old) (O.seen out.new) (IsRowMarked skin.now style room sought.now lines.now fronts.now starts.now y row)) }
+    ensures writes { WritesRowHits skin.now style room (regex_pattern sought.now) lines.now fronts.now starts.now y row (O.seen out.old) result (O.seen out.new) }
+    ensures shown { OnOk result (TookWith (O.seen out.old) (O.seen out.new) (IsRowMarked skin.now style room (regex_pattern sought.now) lines.now fronts.now starts.now y row)) }
 {
     let own = front_at(fronts, row);
     let gutters = own.gutters;

@@ -1,20 +1,23 @@
-//! What is drawn once more of a line: the characters of each hit, and where they stand.
+//! What is drawn once more of a row: the characters of each hit, and where they stand.
 
-ghost use Rattle.std.specs.Prelude.{◌≡◌, ◌++◌, ◌+◌, ◌≤◌, ℕ, IfOk, OnOk, length, map, min};
+ghost use Rattle.std.specs.Prelude.{◌≡◌, ◌++◌, ◌+◌, ◌-◌, ◌<◌, ◌≤◌, ℕ, IfOk, OnOk, length, map, min};
+ghost use Rattle.regex.specs.Strings.{regex_pattern};
 ghost use Rattle.mad_wrap.specs.WrapLines.{capped};
 ghost use Rattle.mad_measure.specs.TextColumns.{columns};
-ghost use Rattle.mad_format.specs.declared.line.FmtLine.TheVariants.{Normal};
 ghost use Rattle.mad_style.specs.StyledChars.{char_alone};
-ghost use Rattle.mad_hits.specs.Hits.{marked_at, marked_of, placed_cells, placed_row, placed_texts, span, widthless, Adds, AreHits, AreHitsAt, AreTextHits, AreTextsHits};
+ghost use Rattle.mad_patterns.specs.Breaks.{line_rows, line_start};
+ghost use Rattle.mad_hits.specs.Hits.{marked_at, marked_of, placed_cell, placed_cells, placed_line, span, widthless};
+ghost use Rattle.mad_hits.specs.Parts.{text_hits, texts_hits, AreRowHits};
 
-use crate::matches::{letters_of, starts};
+use crate::parts::push_parts;
 use crate::places::{column_in_cell, column_in_row, table_column};
 use crate::styled::styled_text;
 use mad_characters::char_columns;
 use mad_format::{FmtComposite, FmtLine};
+use mad_patterns::{composite_text, found_line, hits_in};
 use mad_rows::{RowSkin, cell_columns};
-use mad_search::has_capital;
 use mad_style::StyledChar;
+use regex::Regex;
 use std::alloc::{AllocError, Global};
 
 /// Characters of a row that are drawn once more.
@@ -26,152 +29,139 @@ pub struct Hit {
     pub chars: Vec<StyledChar>,
 }
 
-/// The hits of what is sought in a line, in a row of `width` columns. Each has the characters of what is sought, and those without columns
-/// after them. A rule has none.
+/// What is drawn once more of the row of an index, of `width` columns: of each hit the part that is in it, with the characters without columns behind it.
+/// Parts of the text begin in the rows `starts`. Each cell of a table is sought for itself. Past the last row there is nothing.
 ///
 /// # Errors
 ///
 /// Out of memory is the only error.
-pub fn hits_in(
+pub fn row_hits(
     alloc: Global,
     skin: &RowSkin,
-    line: &FmtLine,
+    lines: &[FmtLine],
+    starts: &[usize],
+    row: usize,
     width: usize,
-    sought: &str,
+    sought: &Regex,
 ) -> Result<Vec<Hit>, AllocError>
-    ensures { IfOk result (λ hits. AreHits skin.now width sought.now line.now hits.items) }
+    ensures { IfOk result (λ hits. row < length lines.now → AreRowHits skin.now width (regex_pattern sought.now) lines.now starts.now row (map marked_of hits.items)) }
 {
+    let mut hits = Vec::new(alloc);
+    let Some(line) = lines.get(row) else {
+        return Ok(hits);
+    };
     match line {
-        FmtLine::Normal(composite) => text_hits(alloc, skin, composite, width, sought),
-        FmtLine::TableRow(row) => cells_hits(alloc, skin, row.cells.as_slice(), width, sought),
-        FmtLine::TableRule(_) | FmtLine::HorizontalRule => Ok(Vec::new(alloc)),
+        FmtLine::Normal(composite) => {
+            push_line_hits(
+                alloc, &mut hits, skin, composite, lines, starts, row, width, sought,
+            )?;
+            Ok(hits)
+        }
+        FmtLine::TableRow(table) => {
+            let cells = table.cells.as_slice();
+            let left = table_column(skin, cells, width);
+            push_cells_hits(alloc, &mut hits, skin, cells, left, sought)?;
+            Ok(hits)
+        }
+        FmtLine::TableRule(_) | FmtLine::HorizontalRule => Ok(hits),
     }
 }
 
-// The hits of a composite that has a row of `width` columns.
-fn text_hits(
+// Puts the parts of hits in a line of text after others, which is the row of this index.
+fn push_line_hits(
     alloc: Global,
+    hits: &mut Vec<Hit>,
     skin: &RowSkin,
     composite: &FmtComposite,
+    lines: &[FmtLine],
+    starts: &[usize],
+    row: usize,
     width: usize,
-    sought: &str,
-) -> Result<Vec<Hit>, AllocError>
-    ensures { IfOk result (λ hits. AreTextsHits skin.now sought.now (placed_texts skin.now width (Normal composite.now)) (map marked_of hits.items)) }
+    sought: &Regex,
+) -> Result<(), AllocError>
+    requires { row < length lines.now }
+    ensures { OnOk result (map marked_of hits.new.items ≡ map marked_of hits.old.items ++ text_hits skin.now (placed_line skin.now (regex_pattern sought.now) width (line_rows lines.now starts.now row) (row - line_start lines.now starts.now row) composite.now)) }
 {
-    let mut hits = Vec::new(alloc);
+    let found = found_line(alloc, lines, starts, sought, row)?;
+    let own = found.place(row - found.start);
     let column = column_in_row(skin, composite, width);
-    push_hits(alloc, &mut hits, skin, composite, column, sought)?;
-    Ok(hits)
+    push_hits(
+        alloc,
+        hits,
+        skin,
+        composite,
+        column,
+        own,
+        found.hits.as_slice(),
+    )?;
+    Ok(())
 }
 
-// Those of the cells of a row of `width` columns.
-fn cells_hits(
-    alloc: Global,
-    skin: &RowSkin,
-    cells: &[FmtComposite],
-    width: usize,
-    sought: &str,
-) -> Result<Vec<Hit>, AllocError>
-    ensures { IfOk result (λ hits. AreTextsHits skin.now sought.now (placed_row skin.now width cells.now) (map marked_of hits.items)) }
-{
-    let mut hits = Vec::new(alloc);
-    let left = table_column(skin, cells, width);
-    push_cells_hits(alloc, &mut hits, skin, cells, left, sought)?;
-    Ok(hits)
-}
-
-// Puts the hits of cells after others; a border is before each cell, the first one in that column.
+// Puts the hits in cells after others; a border is before each cell, the first one in that column.
 fn push_cells_hits(
     alloc: Global,
     hits: &mut Vec<Hit>,
     skin: &RowSkin,
     cells: &[FmtComposite],
     left: usize,
-    sought: &str,
+    sought: &Regex,
 ) -> Result<(), AllocError>
-    ensures { OnOk result ((column : ℕ) → left ≡ capped column → Adds (AreTextsHits skin.now sought.now (placed_cells skin.now column cells.now)) hits.old.items hits.new.items) }
+    ensures { OnOk result ((column : ℕ) → left ≡ capped column → map marked_of hits.new.items ≡ map marked_of hits.old.items ++ texts_hits skin.now (placed_cells skin.now (regex_pattern sought.now) column cells.now)) }
 {
     let mut column = left;
     for cell in cells {
-        let inside = column.saturating_add(1);
-        let text = inside.saturating_add(column_in_cell(skin, cell));
-        push_hits(alloc, hits, skin, cell, text, sought)?;
-        column = inside.saturating_add(cell_columns(skin, cell));
+        push_cell_hits(alloc, hits, skin, cell, column, sought)?;
+        column = column
+            .saturating_add(1)
+            .saturating_add(cell_columns(skin, cell));
     }
     Ok(())
 }
 
-// Puts the hits of a composite after others, whose text begins in that column.
+// Puts those in a cell after others, behind its border in that column.
+fn push_cell_hits(
+    alloc: Global,
+    hits: &mut Vec<Hit>,
+    skin: &RowSkin,
+    cell: &FmtComposite,
+    border: usize,
+    sought: &Regex,
+) -> Result<(), AllocError>
+    ensures { OnOk result ((column : ℕ) → border ≡ capped column → map marked_of hits.new.items ≡ map marked_of hits.old.items ++ text_hits skin.now (placed_cell skin.now (regex_pattern sought.now) column cell.now)) }
+{
+    let text = composite_text(alloc, cell)?;
+    let found = hits_in(alloc, sought, text.as_str())?;
+    let own = (0, text.len());
+    let column = border
+        .saturating_add(1)
+        .saturating_add(column_in_cell(skin, cell));
+    push_hits(alloc, hits, skin, cell, column, own, found.as_slice())?;
+    Ok(())
+}
+
+// Puts the parts after others that hits have in a composite, whose text begins in that column and stands there in that in which was sought.
 fn push_hits(
     alloc: Global,
     hits: &mut Vec<Hit>,
     skin: &RowSkin,
     composite: &FmtComposite,
     column: usize,
-    sought: &str,
+    own: (usize, usize),
+    found: &[(usize, usize)],
 ) -> Result<(), AllocError>
-    ensures { OnOk result ((n : ℕ) → column ≡ capped n → Adds (AreTextHits skin.now sought.now (record { column = n; text = composite.now })) hits.old.items hits.new.items) }
+    ensures { OnOk result ((n : ℕ) → column ≡ capped n → map marked_of hits.new.items ≡ map marked_of hits.old.items ++ text_hits skin.now (record { column = n; text = composite.now; own = own; hits = found.now })) }
 {
     let text = styled_text(alloc, skin, composite)?;
-    push_hits_at(alloc, hits, text.as_slice(), column, sought)?;
-    Ok(())
-}
-
-/// The hits in characters that begin in the first column.
-///
-/// # Errors
-///
-/// Out of memory is the only error.
-pub(crate) fn hits_at_start(
-    alloc: Global,
-    text: &[StyledChar],
-    sought: &str,
-) -> Result<Vec<Hit>, AllocError>
-    ensures { IfOk result (λ hits. AreHitsAt sought.now 0 text.now (map marked_of hits.items)) }
-{
-    let mut hits = Vec::new(alloc);
-    push_hits_at(alloc, &mut hits, text, 0, sought)?;
-    Ok(hits)
-}
-
-// Puts the hits in characters after others, which begin in that column.
-fn push_hits_at(
-    alloc: Global,
-    hits: &mut Vec<Hit>,
-    text: &[StyledChar],
-    column: usize,
-    sought: &str,
-) -> Result<(), AllocError>
-    ensures { OnOk result ((n : ℕ) → column ≡ capped n → Adds (AreHitsAt sought.now n text.now) hits.old.items hits.new.items) }
-{
-    let letters = letters_of(alloc, sought)?;
-    let starts = starts(alloc, text, letters.as_slice(), has_capital(sought))?;
-    push_marked(
+    let bytes = composite_text(alloc, composite)?;
+    push_parts(
         alloc,
         hits,
-        text,
+        text.as_slice(),
+        bytes.as_str().as_bytes(),
         column,
-        starts.as_slice(),
-        letters.as_slice().len(),
+        own,
+        found,
     )?;
-    Ok(())
-}
-
-// Puts the hits after others that begin at these indices of a text, which begins in that column.
-fn push_marked(
-    alloc: Global,
-    hits: &mut Vec<Hit>,
-    text: &[StyledChar],
-    column: usize,
-    starts: &[usize],
-    count: usize,
-) -> Result<(), AllocError>
-    ensures { OnOk result ((n : ℕ) → column ≡ capped n → map marked_of hits.new.items ≡ map marked_of hits.old.items ++ map (marked_at n text.now count) starts.now) }
-{
-    for start in starts {
-        let hit = hit_at(alloc, text, column, *start, count)?;
-        hits.push(hit)?;
-    }
     Ok(())
 }
 

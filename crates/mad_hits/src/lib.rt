@@ -3,20 +3,16 @@
 //!
 //! 1. [`columns`]: the columns in front of a row's line. [`rooms`]: those that rows have. [`rows`], [`panes`]: rows in an area of the screen, beside a scroll bar.
 //! 2. [`styled`]: the characters of a composite, each in its style.
-//! 3. [`matches`]: where what is sought begins among them.
-//! 4. [`places`]: where the texts of a row begin; [`hits`]: what is drawn of a line.
-//! 5. [`overs`]: where it goes over the break between two rows; [`parts`]: what is drawn of a row.
-//! 6. [`drawing`]: all of it, over rows that were drawn, behind the fronts.
-//! 7. [`own_rows`]: rows whose characters have styles of their own, and their hits.
-//! 8. [`laws`]: what hits change.
+//! 3. [`places`]: where the texts of a row begin; [`parts`]: the part of a hit that is in a text; [`hits`]: what is drawn of a row.
+//! 4. [`drawing`]: all of it, over rows that were drawn, behind the fronts.
+//! 5. [`own_rows`]: rows whose characters have styles of their own, and their hits.
+//! 6. [`laws`]: what hits change.
 #![tactic(auto)]
 
 mod columns;
 mod drawing;
 mod hits;
 pub mod laws;
-mod matches;
-mod overs;
 mod own_rows;
 mod panes;
 mod parts;
@@ -27,9 +23,8 @@ mod styled;
 
 pub use columns::columns_in_front;
 pub use drawing::draw_row_hits;
-pub use hits::{Hit, hits_in};
+pub use hits::{Hit, row_hits};
 pub use own_rows::draw_own_rows;
 pub use panes::{draw_page_rows, left_columns};
-pub use parts::row_hits;
 pub use rooms::RowRoom;
 pub use rows::FrontRows;

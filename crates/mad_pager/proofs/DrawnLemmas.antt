@@ -44,7 +44,8 @@ use Rattle.mad_outline.specs.Sources.{Content}
 use Rattle.mad_pager.proofs.PageFills.{text_fills}
 use Rattle.std.proofs.lemmas.Bool.{ltb-false}
 use Rattle.std.proofs.lemmas.Bool.Decides.{nat_tests}
-use Rattle.mad_pager.specs.Screens.{status_skin, is_small, area_of, bar_of, text_pane, field_pane, prompt_pane, prompt_row, status_pane, status_words, AreDrawnOver, ArePanesDrawn, IsFieldShown, IsLineIn, IsStatusLine, AreLinesShown, IsFieldRow, IsLastRow, IsStatus, IsDrawing, IsPicture, IsTypingShown, IsStatusShown, IsFieldInRow, IsShowing, IsShown, IsUnshown, WritesStatus, own_rows, question, room_of}
+use Rattle.regex.specs.Patterns.{Re}
+use Rattle.mad_pager.specs.Screens.{status_skin, is_small, area_of, bar_of, text_pane, field_pane, prompt_pane, prompt_row, status_pane, status_words, AreHitsDrawn, ArePanesDrawn, IsFieldShown, IsLineIn, IsStatusLine, AreLinesShown, IsFieldRow, IsLastRow, IsStatus, IsDrawing, IsPicture, IsTypingShown, IsStatusShown, IsFieldInRow, IsShowing, IsShown, IsUnshown, WritesStatus, own_rows, question, room_of}
 use Rattle.mad_pager.specs.Sessions.{State, paged_skin, field_row, last_row, prompt_cell, text_area}
 
 -- ---- what is shown
@@ -152,7 +153,7 @@ screen_shown skin name s large a b lines row =
     }
 
 -- and then what is drawn over them
-pub over_shown : (skin : PageSkin) (name : List ℕ) (content : Content) (s : State) (a b : List ℕ) → ArePanesDrawn skin name s a → AreDrawnOver skin (own_rows skin content s) s b → IsDrawing skin name content s (a ++ b)
+pub over_shown : (skin : PageSkin) (name : List ℕ) (content : Content) (s : State) (a b : List ℕ) → ArePanesDrawn skin name s a → AreHitsDrawn skin (own_rows skin content s) s b → IsDrawing skin name content s (a ++ b)
 over_shown skin name content s a b panes over = record { panes = a; hits = b; are = refl; drawn = panes; marked = over }
 
 -- a line that was drawn in an area of one row
@@ -239,15 +240,15 @@ unshown_exit skin name content asks s old new r e is h =
     subst (λ (t : Result Unit Error). MatchResult t (λ _. IsShown skin name content asks s old new) (λ d. IsUnshown skin name content asks s old d new)) (sym (p.1 ∙ ap Err p.2)) h
 
 -- the hits of the rows on the screen, along what is equal
-pub hits_along : (skin dress : RowSkin) (style : CompoundStyle) (given_room room : RowRoom) (height rows top : ℕ) (text sought : List ℕ) (shown lines : List FmtLine) (front fronts : List Front) (given starts : List ℕ) (old new : Trace) → dress ≡ skin → given_room ≡ room → height ≡ rows → text ≡ sought
+pub hits_along : (skin dress : RowSkin) (style : CompoundStyle) (given_room room : RowRoom) (height rows top : ℕ) (text sought : Re) (shown lines : List FmtLine) (front fronts : List Front) (given starts : List ℕ) (old new : Trace) → dress ≡ skin → given_room ≡ room → height ≡ rows → text ≡ sought
     → shown ≡ lines → front ≡ fronts → given ≡ starts → TookWith old new (AreRowsMarked dress style given_room text shown front given 0 (range_with_len top (min height (length shown - top))))
     → TookWith old new (AreRowsMarked skin style room sought lines fronts starts 0 (range_with_len top (min rows (length lines - top))))
 hits_along skin dress style given_room room height rows top text sought shown lines front fronts given starts old new a b d e f g i h =
-    let of : RowSkin → RowRoom → ℕ → List ℕ → List FmtLine → List Front → List ℕ → Type 0 = λ k n r s ls fs ts. TookWith old new (AreRowsMarked k style n s ls fs ts 0 (range_with_len top (min r (length ls - top)))) in
+    let of : RowSkin → RowRoom → ℕ → Re → List FmtLine → List Front → List ℕ → Type 0 = λ k n r s ls fs ts. TookWith old new (AreRowsMarked k style n s ls fs ts 0 (range_with_len top (min r (length ls - top)))) in
     subst (λ (k : RowSkin). of k room rows sought lines fronts starts) a
     (subst (λ (n : RowRoom). of dress n rows sought lines fronts starts) b
     (subst (λ (r : ℕ). of dress given_room r sought lines fronts starts) d
-    (subst (λ (s : List ℕ). of dress given_room height s lines fronts starts) e
+    (subst (λ (s : Re). of dress given_room height s lines fronts starts) e
     (subst (λ (ls : List FmtLine). of dress given_room height text ls fronts starts) f
     (subst (λ (fs : List Front). of dress given_room height text shown fs starts) g (subst (λ (ts : List ℕ). of dress given_room height text shown front ts) i h))))))
 

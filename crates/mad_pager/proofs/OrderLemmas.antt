@@ -246,7 +246,7 @@ recalled_order skin text back s new e h =
 
 type_order : (skin : PageSkin) (text : PageAt) (code : KeyCode) (key : KeyEvent) (s new : State) → key.code ≡ code → IsTypeStep code key s new → IsOrderly skin text s → IsOrderly skin text new
 type_order skin text Enter key s new is step h =
-    found_way skin text s.types_back (seeking (wanted s) s) new step (record { laid = h.laid; field = record { area = h.field.area; typed = h.field.typed } })
+    found_way skin text s.types_back (seeking (wanted s) step.0 s) new step.2 (record { laid = h.laid; field = record { area = h.field.area; typed = h.field.typed } })
 type_order skin text Esc key s new is e h = same_order skin text s _ new e refl (still s.page) (stays s.field h.field.typed) h
 type_order skin text (Char c) key s new is e h = subst (λ (x : State). IsOrderly skin text x) (sym e) (char_order skin text c key s is h)
 type_order skin text Backspace key s new is e h = other_order skin text Backspace key s new (λ c at. cc) is e h

@@ -1,5 +1,5 @@
 -- Hits stand in the rows of the text that are on the screen.
-use Rattle.std.proofs.Common.{◌≡◌, ℕ, zero, suc, ◌+◌, ◌-◌, ◌^◌, ◌<◌, ◌≤◌, List, ◌++◌, [], drop, map, length, min, Option, Some, None, ap, sym, ◌∙◌, subst, arith}
+use Rattle.std.proofs.Common.{◌≡◌, ℕ, zero, suc, ◌+◌, ◌-◌, ◌^◌, ◌<◌, ◌≤◌, false, List, ◌++◌, [], drop, map, length, min, Option, Some, None, ap, sym, ◌∙◌, subst, arith}
 use Rattle.std.specs.Prelude.{slice_get}
 use Rattle.std.specs.List.{AllByRecursion, range_with_len}
 use Rattle.mad_measure.proofs.AllLemmas.{all_each, all_front, all_back}
@@ -26,8 +26,9 @@ use Rattle.mad_hits.specs.Hits.{Marked}
 use Rattle.mad_hits.specs.Rooms.{in_room}
 use Rattle.mad_hits.specs.declared.rooms.RowRoom.{RowRoom}
 use Rattle.mad_hits.proofs.RowStandLemmas.{hits_change_no_character}
-use Rattle.mad_pager.specs.ScreenLaws.{ScreenHitsStand, StandOnScreen}
-use Rattle.mad_pager.specs.Screens.{KeepsTextPremises, area_of, bar_of, is_small, room_of, text_rows}
+use Rattle.regex.specs.Patterns.{Re}
+use Rattle.mad_pager.specs.ScreenLaws.{MarksStand, ScreenHitsStand, StandOnScreen}
+use Rattle.mad_pager.specs.Screens.{AreMarks, KeepsTextPremises, area_of, bar_of, is_small, room_of, text_rows}
 use Rattle.mad_pager.specs.Sessions.{State, paged_skin}
 use Rattle.mad_pager.proofs.DrawnLemmas.{not_small}
 use Rattle.mad_pager.proofs.PageFills.{drawable_on_screen, front_behind, got_behind, most_beside, room_ends, text_columns}
@@ -48,10 +49,10 @@ counted skin width HorizontalRule h = tt
 -- ---- the rows of a screen
 
 -- each row from one on, as many as are left of so many
-stand_from : (skin : PageSkin) (s : State) (y n row : ℕ) (bytes : List ℕ) → 5 ≤ s.page.columns → s.page.columns < 2 ^ 16 → row ≡ s.page.top + y → y + n ≤ (area_of s).height → KeepsTextPremises skin s
-    → (marked : AreRowsMarked (paged_skin skin) skin.hit (room_of skin s) s.sought s.laid.lines.items s.laid.fronts.items s.laid.parts.items y (range_with_len row n) bytes) → StandOnScreen skin s y (range_with_len row n) bytes marked
-stand_from skin s y zero row bytes wide short at fits keeps marked = tt
-stand_from skin s y (suc n) row bytes wide short at fits keeps marked =
+stand_from : (skin : PageSkin) (s : State) (sought : Re) (y n row : ℕ) (bytes : List ℕ) → 5 ≤ s.page.columns → s.page.columns < 2 ^ 16 → row ≡ s.page.top + y → y + n ≤ (area_of s).height → KeepsTextPremises skin s
+    → (marked : AreRowsMarked (paged_skin skin) skin.hit (room_of skin s) sought s.laid.lines.items s.laid.fronts.items s.laid.parts.items y (range_with_len row n) bytes) → StandOnScreen skin s sought y (range_with_len row n) bytes marked
+stand_from skin s sought y zero row bytes wide short at fits keeps marked = tt
+stand_from skin s sought y (suc n) row bytes wide short at fits keeps marked =
     let dress : RowSkin = paged_skin skin in
     let room : RowRoom = room_of skin s in
     let all : ℕ = columns_beside (bar_of skin s) s.page.columns in
@@ -71,13 +72,18 @@ stand_from skin s y (suc n) row bytes wide short at fits keeps marked =
     let ends = room_ends skin s wide in
     let most = most_beside (bar_of skin s) s.page.columns in
     let stand : StandInRow dress skin.hit room all front line hits =
-    hits_change_no_character dress skin.hit room all s.sought lines front s.laid.parts.items row hits line marked.3.are.is (omega (arith, ends, most, short)) keeps.faces (record { typed = drawn.typed; counts = counted inner rest line drawn.line })
+    hits_change_no_character dress skin.hit room all sought lines front s.laid.parts.items row hits line marked.3.are.is (omega (arith, ends, most, short)) keeps.faces (record { typed = drawn.typed; counts = counted inner rest line drawn.line })
     (any_shown inner rest line drawn.line) marked.3.are in (
       subst (λ (o : Option FmtLine). AllByRecursion (StandsWithin room.end (in_room dress room all (row_shown dress width (front_at (drop s.page.top s.laid.fronts.items) y) o))) placed) (sym shown_is)
           (subst (λ (f : FrontContent). AllByRecursion (StandsWithin room.end (in_room dress room all (row_shown dress width f (Some line)))) placed) (sym front_is) stand),
-      stand_from skin s (y + 1) n (row + 1) marked.1 wide short (omega (arith, at)) (omega (arith, fits)) keeps marked.4,
+      stand_from skin s sought (y + 1) n (row + 1) marked.1 wide short (omega (arith, at)) (omega (arith, fits)) keeps marked.4,
     )
 
+-- those of what is sought, if anything is
+marks_stand : (skin : PageSkin) (s : State) (bytes : List ℕ) (pattern : Option Re) → s.page.columns < 2 ^ 16 → is_small s ≡ false → KeepsTextPremises skin s → (marks : AreMarks skin s pattern bytes) → MarksStand skin s bytes pattern marks
+marks_stand skin s bytes None narrow shows keeps marks = tt
+marks_stand skin s bytes (Some sought) narrow shows keeps marks =
+    stand_from skin s sought 0 (min (area_of s).height (length s.laid.lines.items - s.page.top)) s.page.top bytes (not_small s shows) narrow (omega arith) (omega arith) keeps marks
+
 pub screen_hits_stand : ScreenHitsStand
-screen_hits_stand skin s bytes narrow short shows keeps drawn =
-    stand_from skin s 0 (min (area_of s).height (length s.laid.lines.items - s.page.top)) s.page.top bytes (not_small s shows) narrow (omega arith) (omega arith) keeps drawn
+screen_hits_stand skin s bytes narrow short shows keeps drawn = marks_stand skin s bytes drawn.reading.pattern narrow shows keeps drawn.marks

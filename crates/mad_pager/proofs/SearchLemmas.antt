@@ -13,6 +13,7 @@ use Rattle.mad_edit.specs.Editor.{Editor}
 use Rattle.mad_edit.specs.Undo.{put_in}
 use Rattle.mad_field.specs.Fields.{Field}
 use Rattle.mad_field.specs.Edits.{Outcome, is_wide}
+use Rattle.mad_patterns.specs.Readings.{Reading}
 use Rattle.mad_pager.specs.SearchLaws.{at_end, is_typable}
 use Rattle.mad_pager.specs.Sessions.{State, begun_recall, char_key, char_typed, earlier, recalled, remembered, seeking, text_typed}
 
@@ -61,7 +62,7 @@ last_is : (past : List (List ℕ)) (text : List ℕ) (b : Bool) → bytes_eq (ea
 last_is past text true e = same_text (earlier past 1) text (sym e)
 last_is past text false e = get_or_push past text [] (length (past ++ text ∷ []) - 1) (omega (arith, length-append past (text ∷ [])))
 
-pub up_brings_the_last : (text : List ℕ) (s : State) → (recalled 1 (seeking text s)).field.content ≡ at_end (filter is_typable (chars text))
-up_brings_the_last text s =
-    all_typed (chars (earlier (remembered text s.past) 1)) [] (begun_recall 1 (seeking text s)) refl
+pub up_brings_the_last : (text : List ℕ) (reading : Reading) (s : State) → (recalled 1 (seeking text reading s)).field.content ≡ at_end (filter is_typable (chars text))
+up_brings_the_last text reading s =
+    all_typed (chars (earlier (remembered text s.past) 1)) [] (begun_recall 1 (seeking text reading s)) refl
     ∙ ap (λ (l : List ℕ). at_end (filter is_typable (chars l))) (last_is s.past text (bytes_eq (earlier s.past 1) text) refl)

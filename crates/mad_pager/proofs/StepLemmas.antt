@@ -1,6 +1,5 @@
 -- What keys and events do, along what is equal.
 use Rattle.std.proofs.Common.{◌≡◌, ◌≢◌, ℕ, ◌-◌, ◌==◌, Bool, List, [], ◌∷◌, ◌++◌, length, Option, Some, None, refl, sym, subst, ap, ◌∙◌, true, false, append_assoc}
-use Rattle.std.specs.Prelude.{codes}
 use Rattle.mad_outline.specs.Sources.{PageAt}
 use Rattle.mad_md.specs.declared.alignment.Alignment.{Alignment}
 use Rattle.mad_md.specs.declared.alignment.Alignment.TheVariants.{Left}
@@ -21,9 +20,14 @@ use Rattle.mad_rows.specs.RowStyles.{line_rules}
 use Rattle.mad_page.specs.PageKeys.{after_key}
 use Rattle.mad_page.specs.declared.commands.Ask.{Ask}
 use Rattle.mad_page.specs.declared.page.Page.{Page}
-use Rattle.mad_search.specs.Searches.{IsNextRowIn, IsPreviousRowIn}
-use Rattle.mad_pager.specs.Screens.{sought_sign, sought_words}
-use Rattle.mad_pager.specs.Sessions.{State, char_key, char_typed, remembered, seeking, state_of, text_typed, HasSameText, IsAsked, IsFound, IsKeyStep, IsLaidAnew, IsLaidFor, IsMovedTo, IsResized, layout_width, paged_skin}
+use Rattle.mad_term.specs.Trace.{Trace, TookWith}
+use Rattle.mad_hits.proofs.TookLemmas.{took_nothing}
+use Rattle.mad_patterns.specs.Readings.{Reading, IsReadingOf}
+use Rattle.mad_patterns.specs.Searches.{IsNextRowIn, IsPreviousRowIn}
+use Rattle.mad_patterns.specs.declared.faults.Fault.{Fault}
+use Rattle.regex.specs.Patterns.{Re}
+use Rattle.mad_pager.specs.Screens.{AreMarks, missing_words, sought_sign, sought_words}
+use Rattle.mad_pager.specs.Sessions.{State, char_key, char_typed, remembered, seeking, state_of, text_typed, HasSameText, IsAsked, IsFound, IsKeyStep, IsLaidAnew, IsLaidFor, IsMovedTo, IsResized, IsRowAfter, IsRowBefore, layout_width, paged_skin}
 use Rattle.mad_pager.specs.declared.session.Session.{Session}
 use Rattle.mad_pager.specs.declared.sizes.ScreenSize.{ScreenSize}
 
@@ -33,11 +37,14 @@ asked_step key s page ask new same is h =
     subst (λ (a : Ask). IsAsked a (record s { page = (after_key key s.page).page }) new) is (subst (λ (p : Page). IsAsked ask (record s { page = p }) new) same h)
 
 -- what was typed is sought
-pub sought_step : (s mid new : State) (backward : Bool) (bytes word text : List ℕ) → mid ≡ record s { past = remembered word s.past } → bytes ≡ text → word ≡ bytes
-    → IsFound backward (record mid { is_typing = false; sought = bytes; is_backward = s.types_back; found = None }) new → IsFound backward (seeking text s) new
-sought_step s mid new backward bytes word text kept e same h =
-    subst (λ (b : List ℕ). IsFound backward (seeking b s) new) e
-    (subst (λ (m : State). IsFound backward (record m { is_typing = false; sought = bytes; is_backward = s.types_back; found = None }) new) (kept ∙ ap (λ (w : List ℕ). let m : State = record s { past = remembered w s.past } in m) same) h)
+pub sought_step : (s mid new : State) (backward : Bool) (bytes word spelt text : List ℕ) (reading : Reading) → mid ≡ record s { past = remembered word s.past } → bytes ≡ text → word ≡ bytes → spelt ≡ bytes → IsReadingOf spelt reading
+    → IsFound backward (record mid { is_typing = false; sought = bytes; reading = reading; is_backward = s.types_back; found = None }) new → (r : Reading) × IsReadingOf text r × IsFound backward (seeking text r s) new
+sought_step s mid new backward bytes word spelt text reading kept e same too read h = (
+  reading,
+  subst (λ (t : List ℕ). IsReadingOf t reading) (too ∙ e) read,
+  subst (λ (b : List ℕ). IsFound backward (seeking b reading s) new) e
+      (subst (λ (m : State). IsFound backward (record m { is_typing = false; sought = bytes; reading = reading; is_backward = s.types_back; found = None }) new) (kept ∙ ap (λ (w : List ℕ). let m : State = record s { past = remembered w s.past } in m) same) h),
+)
 
 -- another character is typed
 typed_more : (cs : List ℕ) (c : ℕ) (s : State) → text_typed (cs ++ c ∷ []) s ≡ char_typed c (char_key c) (text_typed cs s)
@@ -53,14 +60,14 @@ same_typed old mid new key cs c is before done same = (
 )
 
 -- the next row, along what is equal
-pub same_next : (a b : List ℕ) (l m : List FmtLine) (t u : List ℕ) (from to : ℕ) (row : Option ℕ) → a ≡ b → l ≡ m → t ≡ u → from ≡ to → IsNextRowIn a l t from row → IsNextRowIn b m u to row
+pub same_next : (a b : Re) (l m : List FmtLine) (t u : List ℕ) (from to : ℕ) (row : Option ℕ) → a ≡ b → l ≡ m → t ≡ u → from ≡ to → IsNextRowIn a l t from row → IsNextRowIn b m u to row
 same_next a b l m t u from to row e k i f h =
-    subst (λ (n : ℕ). IsNextRowIn b m u n row) f (subst (λ (y : List ℕ). IsNextRowIn b m y from row) i (subst (λ (x : List FmtLine). IsNextRowIn b x t from row) k (subst (λ (x : List ℕ). IsNextRowIn x l t from row) e h)))
+    subst (λ (n : ℕ). IsNextRowIn b m u n row) f (subst (λ (y : List ℕ). IsNextRowIn b m y from row) i (subst (λ (x : List FmtLine). IsNextRowIn b x t from row) k (subst (λ (x : Re). IsNextRowIn x l t from row) e h)))
 
 -- the previous row, along what is equal
-pub same_previous : (a b : List ℕ) (l m : List FmtLine) (t u : List ℕ) (end to : ℕ) (row : Option ℕ) → a ≡ b → l ≡ m → t ≡ u → end ≡ to → IsPreviousRowIn a l t end row → IsPreviousRowIn b m u to row
+pub same_previous : (a b : Re) (l m : List FmtLine) (t u : List ℕ) (end to : ℕ) (row : Option ℕ) → a ≡ b → l ≡ m → t ≡ u → end ≡ to → IsPreviousRowIn a l t end row → IsPreviousRowIn b m u to row
 same_previous a b l m t u end to row e k i f h =
-    subst (λ (n : ℕ). IsPreviousRowIn b m u n row) f (subst (λ (y : List ℕ). IsPreviousRowIn b m y end row) i (subst (λ (x : List FmtLine). IsPreviousRowIn b x t end row) k (subst (λ (x : List ℕ). IsPreviousRowIn x l t end row) e h)))
+    subst (λ (n : ℕ). IsPreviousRowIn b m u n row) f (subst (λ (y : List ℕ). IsPreviousRowIn b m y end row) i (subst (λ (x : List FmtLine). IsPreviousRowIn b x t end row) k (subst (λ (x : Re). IsPreviousRowIn x l t end row) e h)))
 
 -- a text laid out at the width of a screen is so for the screen
 pub laid_at : (skin : PageSkin) (page : PageAt) (columns width : ℕ) (dress : RowSkin) (ascii : Bool) (laid : PagedPage) → dress ≡ paged_skin skin → ascii ≡ has_ascii_boxes dress → width ≡ layout_width skin.room columns → IsPagedAt (line_rules dress) ascii (Some width) (page width) laid
@@ -91,7 +98,32 @@ fitted_along rules align width columns before fitted after a w same h =
     rw same (subst (λ (n : ℕ). IsCompositeFitted rules Left n before fitted) w (subst (λ (x : Alignment). IsCompositeFitted rules x width before fitted) a h))
 
 -- what is said of what is sought and wasn't found
-pub said_missing : (words sought : List ℕ) (back b : Bool) → b ≡ (length sought == 0) → b ≡ false → words ++ sought_sign back ++ sought ++ codes "  not found" ≡ words ++ sought_words back true sought
-said_missing words [] back b is h = let e : true ≡ false = sym is ∙ h in absurd (cc)
-said_missing words (c ∷ cs) back b is h =
-    ap (λ (l : List ℕ). l ++ codes "  not found") (append_assoc words (sought_sign back) (c ∷ cs)) ∙ append_assoc words (sought_sign back ++ (c ∷ cs)) (codes "  not found")
+pub said_missing : (words sought : List ℕ) (fault : Option Fault) (back b : Bool) → b ≡ (length sought == 0) → b ≡ false → words ++ sought_sign back ++ sought ++ missing_words fault ≡ words ++ sought_words back true fault sought
+said_missing words [] fault back b is h = let e : true ≡ false = sym is ∙ h in absurd (cc)
+said_missing words (c ∷ cs) fault back b is h =
+    ap (λ (l : List ℕ). l ++ missing_words fault) (append_assoc words (sought_sign back) (c ∷ cs)) ∙ append_assoc words (sought_sign back ++ (c ∷ cs)) (missing_words fault)
+
+-- ---- what is sought, if anything is
+
+-- it is, and a row comes next
+pub row_after_some : (s : State) (given pattern : Option Re) (sought : Re) (row : Option ℕ) → given ≡ pattern → given ≡ Some sought → IsRowAfter (Some sought) s row → IsRowAfter pattern s row
+row_after_some s given pattern sought row is some h = subst (λ (o : Option Re). IsRowAfter o s row) (sym some ∙ is) h
+
+-- or comes before
+pub row_before_some : (s : State) (given pattern : Option Re) (sought : Re) (row : Option ℕ) → given ≡ pattern → given ≡ Some sought → IsRowBefore (Some sought) s row → IsRowBefore pattern s row
+row_before_some s given pattern sought row is some h = subst (λ (o : Option Re). IsRowBefore o s row) (sym some ∙ is) h
+
+-- nothing is, and no row is found
+pub row_after_none : (s : State) (given pattern : Option Re) → given ≡ pattern → given ≡ None → IsRowAfter pattern s None
+row_after_none s given pattern is none = subst (λ (o : Option Re). IsRowAfter o s None) (sym none ∙ is) refl
+
+pub row_before_none : (s : State) (given pattern : Option Re) → given ≡ pattern → given ≡ None → IsRowBefore pattern s None
+row_before_none s given pattern is none = subst (λ (o : Option Re). IsRowBefore o s None) (sym none ∙ is) refl
+
+-- hits of what is sought are marked
+pub marks_some : (skin : PageSkin) (s : State) (given pattern : Option Re) (sought : Re) (old new : Trace) → given ≡ pattern → given ≡ Some sought → TookWith old new (AreMarks skin s (Some sought)) → TookWith old new (AreMarks skin s pattern)
+marks_some skin s given pattern sought old new is some h = subst (λ (o : Option Re). TookWith old new (AreMarks skin s o)) (sym some ∙ is) h
+
+-- or none are
+pub marks_none : (skin : PageSkin) (s : State) (given pattern : Option Re) (old : Trace) → given ≡ pattern → given ≡ None → TookWith old old (AreMarks skin s pattern)
+marks_none skin s given pattern old is none = subst (λ (o : Option Re). TookWith old old (AreMarks skin s o)) (sym none ∙ is) (took_nothing old (AreMarks skin s None) refl)

@@ -1,5 +1,5 @@
 -- What the screen shows of a session.
-use Rattle.std.specs.Prelude.{◌≡◌, ℕ, ◌+◌, ◌-◌, ◌<◌, ◌≤◌, ◌++◌, nat_lt, ◌||◌, Bool, true, false, List, [], ◌∷◌, length, count_by, min, drop, option_map, take, codes, decimal, Option, Some, None, IfSome, Result, if◌then◌else◌}
+use Rattle.std.specs.Prelude.{◌≡◌, ℕ, ◌+◌, ◌-◌, ◌<◌, ◌≤◌, ◌++◌, ◌==◌, nat_lt, ◌||◌, ◌&&◌, not, Bool, true, false, List, [], ◌∷◌, length, count_by, min, drop, option_map, take, codes, decimal, Option, Some, None, IfSome, Result, if◌then◌else◌}
 use Rattle.std.specs.List.{flat_map, range_with_len}
 use Rattle.std.specs.Str.{chars}
 use Rattle.mad_md.specs.Flagged.{flagged, flagged_of, unflagged}
@@ -26,7 +26,10 @@ use Rattle.mad_pages.specs.PagedPages.{sections_in}
 use Rattle.mad_rows.specs.RowStyles.{line_rules}
 use Rattle.mad_page.specs.declared.page.Page.{Page}
 use Rattle.mad_page.specs.Pages.{percent, row_number}
-use Rattle.mad_search.specs.Searches.{composite_text}
+use Rattle.mad_patterns.specs.Readings.{Reading, IsReadingOf, fault_words}
+use Rattle.mad_patterns.specs.Searches.{composite_text}
+use Rattle.mad_patterns.specs.declared.faults.Fault.{Fault}
+use Rattle.regex.specs.Patterns.{Re}
 use Rattle.mad_term.specs.Draws.{DrawsSome}
 use Rattle.mad_term.specs.Trace.{Trace, after, flushed, CutShort}
 use Rattle.mad_term.specs.declared.errors.Error.{Error}
@@ -50,7 +53,7 @@ use Rattle.mad_rows.specs.declared.row_skin.RowSkin.{RowSkin}
 use Rattle.std.specs.List.{AllByRecursion}
 use Rattle.mad_characters.specs.Columns.{char_columns}
 use Rattle.mad_pager.specs.Rooms.{room_on}
-use Rattle.mad_pager.specs.Sessions.{State, IsLaidFor, paged_skin, field_row, last_row, layout_width, prompt_cell, text_area}
+use Rattle.mad_pager.specs.Sessions.{State, IsLaidFor, paged_skin, field_row, last_row, layout_width, prompt_cell, text_area, typed_text}
 
 -- a screen that shows nothing: it has under five columns or under two rows
 abbrev pub is_small : State → Bool
@@ -102,10 +105,19 @@ field_pane s = record { area = s.field.area; row = row_pieces s.field }
 abbrev pub sought_sign : Bool → List ℕ
 sought_sign backward = if backward then codes "  ?" else codes "  /"
 
+-- why the last search found no row: none has a hit, or what is sought is no regular expression
+abbrev pub reason : Option Fault → List ℕ
+reason None = codes "not found"
+reason (Some fault) = fault_words fault
+
+-- what is said where the last search found no row
+abbrev pub missing_words : Option Fault → List ℕ
+missing_words fault = codes "  " ++ reason fault
+
 -- what is said of what is sought, backwards or not, where anything is; where the last search found no row, that too
-abbrev pub sought_words : Bool → Bool → List ℕ → List ℕ
-sought_words backward missing [] = []
-sought_words backward missing (c ∷ cs) = sought_sign backward ++ (c ∷ cs) ++ (if missing then codes "  not found" else [])
+abbrev pub sought_words : Bool → Bool → Option Fault → List ℕ → List ℕ
+sought_words backward missing fault [] = []
+sought_words backward missing fault (c ∷ cs) = sought_sign backward ++ (c ∷ cs) ++ (if missing then missing_words fault else [])
 
 -- where in the text the page is, if that is to be told: the number of the row on top, and how many rows there are
 abbrev pub place_words : Page → List ℕ
@@ -117,7 +129,7 @@ abbrev pub status_words : List ℕ → State → List ℕ
 status_words name s =
     if s.page.has_colon then codes ":"
     else if nat_lt 0 s.page.count then decimal s.page.count
-    else place_words s.page ++ decimal (percent s.page) ++ codes "%  " ++ name ++ sought_words s.is_backward s.is_missing s.sought
+    else place_words s.page ++ decimal (percent s.page) ++ codes "%  " ++ name ++ sought_words s.is_backward s.is_missing s.reading.fault s.sought
 
 -- the skin of the status: no style but this one, which its characters have
 abbrev pub status_skin : CompoundStyle → MadSkin
@@ -236,20 +248,36 @@ pub record ArePanesDrawn (skin : PageSkin) (name : List ℕ) (s : State) (bytes 
 abbrev pub rows_shown : State → List ℕ
 rows_shown s = range_with_len s.page.top (min (area_of s).height (length s.laid.lines.items - s.page.top))
 
--- these bytes mark what is sought in these rows, which are in the room that the text is drawn in, by the style of hits
-abbrev pub AreHitsDrawn : PageSkin → State → List ℕ → Type 0
-AreHitsDrawn skin s bytes = AreRowsMarked (paged_skin skin) skin.hit (room_of skin s) s.sought s.laid.lines.items s.laid.fronts.items s.laid.parts.items 0 (rows_shown s) bytes
+-- what is typed is marked: something is
+abbrev pub marks_typed : State → Bool
+marks_typed s = s.is_typing && not (length (typed_text s) == 0)
+
+-- this is marked: what is typed, as it is read, while something is, and else what is sought
+pub record IsMarked (s : State) (reading : Reading) : Type 0 where
+  pub typed : marks_typed s ≡ true → IsReadingOf (typed_text s) reading
+  pub sought : marks_typed s ≡ false → reading ≡ s.reading
+
+-- these bytes mark the hits in these rows, which are in the room that the text is drawn in, by the style of hits, if anything is sought
+abbrev pub AreMarks : PageSkin → State → Option Re → List ℕ → Type 0
+AreMarks skin s None bytes = bytes ≡ []
+AreMarks skin s (Some sought) bytes = AreRowsMarked (paged_skin skin) skin.hit (room_of skin s) sought s.laid.lines.items s.laid.fronts.items s.laid.parts.items 0 (rows_shown s) bytes
 
 -- the rows on the screen whose characters have styles of their own, if what is shown has such
 abbrev pub own_rows : PageSkin → Content → State → Option (List (List StyledChar))
 own_rows skin content s =
     option_map (λ (drawn : ℕ → List (List StyledChar)). take (area_of s).height (drop s.page.top (drawn (layout_width skin.room s.page.columns)))) (content_drawn content)
 
--- These bytes are drawn over the text: what is sought, in the style of hits. Where rows have styles of their own, they are drawn first, and the hits are
--- in that style over theirs.
-abbrev pub AreDrawnOver : PageSkin → Option (List (List StyledChar)) → State → List ℕ → Type 0
-AreDrawnOver skin None s bytes = AreHitsDrawn skin s bytes
-AreDrawnOver skin (Some rows) s bytes = AreRowsDrawn skin.hit (room_of skin s) s.sought 0 rows bytes
+-- These bytes are drawn over the text: hits of this, if anything is sought, in the style of hits. Where rows have styles of their own, they are drawn first,
+-- and the hits are in that style over theirs.
+abbrev pub AreDrawnOver : PageSkin → Option (List (List StyledChar)) → State → Option Re → List ℕ → Type 0
+AreDrawnOver skin None s sought bytes = AreMarks skin s sought bytes
+AreDrawnOver skin (Some rows) s sought bytes = AreRowsDrawn skin.hit (room_of skin s) sought 0 rows bytes
+
+-- these bytes are drawn over the text; the hits are of what is typed, or else of what is sought
+pub record AreHitsDrawn (skin : PageSkin) (rows : Option (List (List StyledChar))) (s : State) (bytes : List ℕ) : Type 0 where
+  pub reading : Reading
+  pub is : IsMarked s reading
+  pub marks : AreDrawnOver skin rows s reading.pattern bytes
 
 -- These bytes show a session: first the text and the last row, and then what is drawn over the text. Each byte of a hit is written in the cells of the hit
 -- alone.
@@ -258,7 +286,7 @@ pub record IsDrawing (skin : PageSkin) (name : List ℕ) (content : Content) (s 
   pub hits : List ℕ
   pub are : bytes ≡ panes ++ hits
   pub drawn : ArePanesDrawn skin name s panes
-  pub marked : AreDrawnOver skin (own_rows skin content s) s hits
+  pub marked : AreHitsDrawn skin (own_rows skin content s) s hits
 
 -- the picture of a session; on a screen that shows nothing it has no byte
 pub record IsPicture (skin : PageSkin) (name : List ℕ) (content : Content) (s : State) (bytes : List ℕ) : Type 0 where

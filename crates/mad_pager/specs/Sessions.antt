@@ -29,7 +29,9 @@ use Rattle.mad_page.specs.declared.page.Files.{Files}
 use Rattle.mad_page.specs.declared.page.Page.{Page}
 use Rattle.mad_search.specs.Headers.{next_header, previous_header}
 use Rattle.mad_search.specs.KeptRows.{row_in_parts}
-use Rattle.mad_search.specs.Searches.{IsNextRowIn, IsPreviousRowIn}
+use Rattle.mad_patterns.specs.Readings.{Reading, IsReadingOf, nothing_read, reading_of}
+use Rattle.mad_patterns.specs.Searches.{IsNextRowIn, IsPreviousRowIn}
+use Rattle.regex.specs.Patterns.{Re}
 use Rattle.mad_pager.specs.Rooms.{room_width}
 use Rattle.mad_pager.specs.declared.session.Session.{Session}
 use Rattle.mad_pager.specs.declared.session.End.{End}
@@ -42,7 +44,8 @@ use Rattle.mad_pager.specs.declared.sizes.ScreenSize.{ScreenSize}
 
 -- ---- what it is of
 
--- What is shown and sought: which row is on top of which page, what is being typed, if it is, and what is sought, each of them backwards or not. Then what
+-- What is shown and sought: which row is on top of which page, what is being typed, if it is, what is sought, each of them backwards or not, and what
+-- that is read as. Then what
 -- was sought so far, the first text first, and how far back in that one went while typing; which row the last search found, or that it found none, and the
 -- size that the terminal told, until the text is laid out for it.
 pub record State : Type 0 where
@@ -52,6 +55,7 @@ pub record State : Type 0 where
   pub is_typing : Bool
   pub types_back : Bool
   pub sought : List ℕ
+  pub reading : Reading
   pub is_backward : Bool
   pub past : List (List ℕ)
   pub back : ℕ
@@ -68,6 +72,7 @@ state_of s = record {
   is_typing = s.is_typing;
   types_back = s.types_back;
   sought = string_bytes s.sought;
+  reading = reading_of s.reading;
   is_backward = s.is_backward;
   past = map string_bytes s.past.items;
   back = s.back;
@@ -118,6 +123,7 @@ pub record IsStart (skin : PageSkin) (text : PageAt) (columns rows : ℕ) (files
   pub is_typing : s.is_typing ≡ false
   pub types_back : s.types_back ≡ false
   pub sought : s.sought ≡ []
+  pub reading : s.reading ≡ nothing_read
   pub is_backward : s.is_backward ≡ false
   pub past : s.past ≡ []
   pub back : s.back ≡ 0
@@ -157,12 +163,22 @@ at_header (Some row) s = record s { page = record s.page { top = row } }
 
 -- nothing is sought any more
 abbrev pub forgotten : State → State
-forgotten s = record s { sought = []; found = None; is_missing = false }
+forgotten s = record s { sought = []; reading = nothing_read; found = None; is_missing = false }
 
--- the next row that has what is sought is in sight, or, backwards, the row before
+-- the row that a search of a session finds, by what is sought, if anything is
+abbrev pub IsRowAfter : Option Re → State → Option ℕ → Type 0
+IsRowAfter None s row = row ≡ None
+IsRowAfter (Some sought) s row = IsNextRowIn sought s.laid.lines.items s.laid.parts.items (search_start s) row
+
+-- the row that one backwards finds
+abbrev pub IsRowBefore : Option Re → State → Option ℕ → Type 0
+IsRowBefore None s row = row ≡ None
+IsRowBefore (Some sought) s row = IsPreviousRowIn sought s.laid.lines.items s.laid.parts.items (search_end s) row
+
+-- the next row that has a hit is in sight, or, backwards, the row before
 abbrev pub IsFound : Bool → State → State → Type 0
-IsFound false s new = (row : Option ℕ) × IsNextRowIn s.sought s.laid.lines.items s.laid.parts.items (search_start s) row × (new ≡ at_found row s)
-IsFound true s new = (row : Option ℕ) × IsPreviousRowIn s.sought s.laid.lines.items s.laid.parts.items (search_end s) row × (new ≡ at_found row s)
+IsFound false s new = (row : Option ℕ) × IsRowAfter s.reading.pattern s row × (new ≡ at_found row s)
+IsFound true s new = (row : Option ℕ) × IsRowBefore s.reading.pattern s row × (new ≡ at_found row s)
 
 -- an empty field is there to type in what is to be sought, backwards or not
 abbrev pub begun_search : Bool → State → State
@@ -202,17 +218,21 @@ remembered text past = if bytes_eq (earlier past 1) text then past else past ++ 
 abbrev pub further_back : State → ℕ
 further_back s = min (s.back + 1) (length s.past)
 
+-- what is typed
+abbrev pub typed_text : State → List ℕ
+typed_text s = encode_utf8_all s.field.content.text
+
 -- what is to be sought: what is typed, or, where nothing is, what was sought last
 abbrev pub wanted : State → List ℕ
-wanted s = if length (encode_utf8_all s.field.content.text) == 0 then earlier s.past 1 else encode_utf8_all s.field.content.text
+wanted s = if length (typed_text s) == 0 then earlier s.past 1 else typed_text s
 
--- this is sought from now on, on the way that was asked for
-abbrev pub seeking : List ℕ → State → State
-seeking text s = record s { is_typing = false; sought = text; is_backward = s.types_back; past = remembered text s.past; found = None }
+-- this is sought from now on, and read so, on the way that was asked for
+abbrev pub seeking : List ℕ → Reading → State → State
+seeking text reading s = record s { is_typing = false; sought = text; reading = reading; is_backward = s.types_back; past = remembered text s.past; found = None }
 
--- what was typed is sought from now on, and the next row on that way that has it is in sight
+-- what was typed is read and sought from now on, and the next row on that way that has a hit is in sight
 abbrev pub IsSought : State → State → Type 0
-IsSought s new = IsFound s.types_back (seeking (wanted s) s) new
+IsSought s new = (reading : Reading) × IsReadingOf (wanted s) reading × IsFound s.types_back (seeking (wanted s) reading s) new
 
 -- a character is typed; one that takes no column is dropped
 abbrev pub char_typed : ℕ → KeyEvent → State → State
@@ -274,6 +294,7 @@ pub record IsResized (skin : PageSkin) (text : PageAt) (columns rows : ℕ) (old
   pub is_typing : new.is_typing ≡ old.is_typing
   pub types_back : new.types_back ≡ old.types_back
   pub sought : new.sought ≡ old.sought
+  pub reading : new.reading ≡ old.reading
   pub is_backward : new.is_backward ≡ old.is_backward
   pub past : new.past ≡ old.past
   pub back : new.back ≡ old.back

@@ -2,10 +2,11 @@
 
 ghost use Rattle.std.specs.Prelude.{◌≡◌, OnOk, IfOk, MatchResult, ℕ, List, Some, false};
 ghost use Rattle.mad_term.specs.Trace.{TookWith, Writes};
+ghost use Rattle.mad_patterns.specs.Readings.{reading_of};
 ghost use Rattle.mad_pager.specs.Pictures.{picture_trace};
 ghost use Rattle.mad_pager.specs.Sessions.{state_of};
 ghost use Rattle.mad_outline.specs.Sources.{content_of};
-ghost use Rattle.mad_pager.specs.Screens.{AreHitsDrawn, AreLinesShown, ArePanesDrawn, IsDrawing, IsFieldRow, IsFieldShown, IsLastRow, IsPicture, IsShown, IsUnshown, bar_of, is_small, question, room_of};
+ghost use Rattle.mad_pager.specs.Screens.{AreLinesShown, AreMarks, ArePanesDrawn, IsDrawing, IsFieldRow, IsFieldShown, IsLastRow, IsPicture, IsShown, IsUnshown, bar_of, is_small, question, room_of};
 
 use crate::picture::Picture;
 use crate::places::{field_row, prompt_cell, room_on, text_area};
@@ -13,6 +14,7 @@ use crate::session::Session;
 use crate::sizes::{height_of, paged_skin};
 use mad_draw::{Rows, ScrollBar, draw_rows};
 use mad_hits::{RowRoom, draw_page_rows, draw_row_hits, left_columns};
+use mad_patterns::Sought;
 use mad_style::StyledChar;
 use mad_term::{Error, Out, put_all};
 use std::alloc::{AllocError, Global};
@@ -87,10 +89,18 @@ impl Session<'_> {
         Ok(())
     }
 
-    // Draws what is sought once more in the style of hits, wherever it is on the screen.
-    pub(crate) fn draw_hits<O: Out>(&self, alloc: Global, out: &mut O) -> Result<(), Error>
-        ensures { OnOk result (TookWith (O.seen out.old) (O.seen out.new) (AreHitsDrawn self.now.skin.now (state_of self.now))) }
+    // Draws the hits of what was read, if anything is sought.
+    pub(crate) fn draw_marks<O: Out>(
+        &self,
+        alloc: Global,
+        out: &mut O,
+        reading: &Sought,
+    ) -> Result<(), Error>
+        ensures { OnOk result (TookWith (O.seen out.old) (O.seen out.new) (AreMarks self.now.skin.now (state_of self.now) (reading_of reading.now).pattern)) }
     {
+        let Some(pattern) = reading.pattern() else {
+            return Ok(());
+        };
         draw_row_hits(
             alloc,
             out,
@@ -102,7 +112,7 @@ impl Session<'_> {
             self.page.top,
             self.room(),
             self.page.body_rows(),
-            self.sought.as_str(),
+            pattern,
         )?;
         Ok(())
     }

@@ -1,16 +1,16 @@
 //! What is sought in a text, and its headers.
 
-ghost use Rattle.std.specs.Prelude.{◌≡◌, IfOk, OnOk, Option, string_bytes};
-ghost use Rattle.mad_search.specs.Searches.{IsNextRowIn, IsPreviousRowIn};
-ghost use Rattle.mad_pager.specs.Sessions.{at_found, at_header, forgotten, search_end, search_start, state_of, HasSameText, IsFound};
+ghost use Rattle.std.specs.Prelude.{◌≡◌, IfOk, OnOk, Option};
+ghost use Rattle.mad_pager.specs.Sessions.{at_found, at_header, forgotten, search_end, search_start, state_of, HasSameText, IsFound, IsRowAfter, IsRowBefore};
 ghost use Rattle.mad_search.specs.Headers.{next_header, previous_header};
 
 use crate::session::Session;
-use mad_search::{next_header, next_row_in, previous_header, previous_row_in};
+use mad_patterns::{Sought, next_row_in, previous_row_in};
+use mad_search::{next_header, previous_header};
 use std::alloc::{AllocError, Global};
 
 impl Session<'_> {
-    // Shows the next row that has what is sought, or, backwards, the row before.
+    // Shows the next row that has a hit, or, backwards, the row before.
     pub(crate) fn find(&mut self, alloc: Global, backward: bool) -> Result<(), AllocError>
         ensures found { OnOk result (IsFound backward (state_of self.old) (state_of self.new)) }
         ensures text { OnOk result (HasSameText self.old self.new) }
@@ -40,31 +40,37 @@ impl Session<'_> {
         }
     }
 
-    // The next row that has what is sought: after the one found last, where that is on the screen, and else from the top on.
+    // The next row that has a hit: after the one found last, where that is on the screen, and else from the top on.
     fn row_after(&self, alloc: Global) -> Result<Option<usize>, AllocError>
-        ensures { IfOk result (IsNextRowIn (string_bytes self.now.sought) self.now.laid.lines.items self.now.laid.parts.items (search_start (state_of self.now))) }
+        ensures { IfOk result (IsRowAfter (state_of self.now).reading.pattern (state_of self.now)) }
     {
         let from = self.search_start();
+        let Some(pattern) = self.reading.pattern() else {
+            return Ok(None);
+        };
         let row = next_row_in(
             alloc,
             self.laid.lines.as_slice(),
             self.laid.parts.as_slice(),
-            self.sought.as_str(),
+            pattern,
             from,
         )?;
         Ok(row)
     }
 
-    // The row before that has it: before the one found last, where that is on the screen, and else before the top.
+    // The row before that has one: before the one found last, where that is on the screen, and else before the top.
     fn row_before(&self, alloc: Global) -> Result<Option<usize>, AllocError>
-        ensures { IfOk result (IsPreviousRowIn (string_bytes self.now.sought) self.now.laid.lines.items self.now.laid.parts.items (search_end (state_of self.now))) }
+        ensures { IfOk result (IsRowBefore (state_of self.now).reading.pattern (state_of self.now)) }
     {
         let end = self.search_end();
+        let Some(pattern) = self.reading.pattern() else {
+            return Ok(None);
+        };
         let row = previous_row_in(
             alloc,
             self.laid.lines.as_slice(),
             self.laid.parts.as_slice(),
-            self.sought.as_str(),
+            pattern,
             end,
         )?;
         Ok(row)
@@ -96,6 +102,7 @@ impl Session<'_> {
         ensures text { HasSameText self.old self.new }
     {
         self.sought.clear();
+        self.reading = Sought::Nothing;
         self.found = None;
         self.is_missing = false;
     }

@@ -12,6 +12,7 @@ use mad_outline::Source;
 use mad_page::{Ask, Files, Page, is_break};
 use mad_page_skin::PageSkin;
 use mad_pages::PagedPage;
+use mad_patterns::Sought;
 use mad_term::{Event, KeyEvent};
 use std::alloc::{AllocError, Global};
 
@@ -104,6 +105,8 @@ pub struct Session<'s> {
     pub types_back: bool,
     /// What is sought; nothing, where it is empty.
     pub sought: String,
+    /// What that is read as.
+    pub reading: Sought,
     /// Whether it is sought backwards.
     pub is_backward: bool,
     /// What was sought so far, also where it was forgotten. The last search is the last of it.
@@ -161,6 +164,7 @@ impl<'s> Session<'s> {
             is_typing: false,
             types_back: false,
             sought: String::new(alloc),
+            reading: Sought::Nothing,
             is_backward: false,
             past: Vec::new(alloc),
             back: 0,

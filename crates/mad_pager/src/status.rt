@@ -1,5 +1,5 @@
 //! The last row of the screen: where the page is, if that is to be told, how much of the text was shown, its name, what is sought, and whether it wasn't
-//! found; or a colon or a number that was typed.
+//! found, or why it is no regular expression; or a colon or a number that was typed.
 
 ghost use Rattle.std.specs.Prelude.{◌≡◌, ◌++◌, ◌∷◌, [], IfOk, OnOk, None, codes, decimal, string_bytes};
 ghost use Rattle.mad_term.specs.Draws.{Draws};
@@ -9,7 +9,7 @@ ghost use Rattle.mad_layout.specs.RowSkins.{row_skin};
 ghost use Rattle.mad_layout.specs.Shown.{area_bytes};
 ghost use Rattle.mad_pager.specs.Sessions.{state_of};
 ghost use Rattle.mad_page.specs.Pages.{percent};
-ghost use Rattle.mad_pager.specs.Screens.{place_words, sought_sign, sought_words, status_skin, status_words, IsLineIn, IsStatus, IsStatusLine, WritesStatus};
+ghost use Rattle.mad_pager.specs.Screens.{missing_words, place_words, reason, sought_sign, sought_words, status_skin, status_words, IsLineIn, IsStatus, IsStatusLine, WritesStatus};
 
 use crate::places::last_row;
 use crate::session::Session;
@@ -17,6 +17,7 @@ use mad_format::{Fitter, FmtComposite, FmtLine};
 use mad_layout::{FmtText, MadSkin, draw_text};
 use mad_md::{Alignment, Compound};
 use mad_measure::{Area, Spacing};
+use mad_patterns::Fault;
 use mad_style::CompoundStyle;
 use mad_term::{Error, Out};
 use std::alloc::{AllocError, Global};
@@ -71,9 +72,9 @@ impl Session<'_> {
         Ok(words)
     }
 
-    // Puts what is sought after a text, if anything is, and that the last search didn't find it.
+    // Puts what is sought after a text, if anything is, and that the last search didn't find it, or why.
     fn push_sought(&self, words: &mut String) -> Result<(), AllocError>
-        ensures { OnOk result (string_bytes words.new ≡ string_bytes words.old ++ sought_words self.now.is_backward self.now.is_missing (string_bytes self.now.sought)) }
+        ensures { OnOk result (string_bytes words.new ≡ string_bytes words.old ++ sought_words self.now.is_backward self.now.is_missing (state_of self.now).reading.fault (string_bytes self.now.sought)) }
     {
         let sought = self.sought.as_str();
         if sought.is_empty() {
@@ -82,9 +83,29 @@ impl Session<'_> {
         words.push_str(sign_of(self.is_backward))?;
         words.push_str(sought)?;
         if self.is_missing {
-            words.push_str("  not found")?;
+            self.push_missing(words)?;
+            return Ok(());
         }
         Ok(())
+    }
+
+    // Puts after a text that a search found no row, or why, where what is sought is no regular expression.
+    fn push_missing(&self, words: &mut String) -> Result<(), AllocError>
+        ensures { OnOk result (string_bytes words.new ≡ string_bytes words.old ++ missing_words (state_of self.now).reading.fault) }
+    {
+        words.push_str("  ")?;
+        words.push_str(reason(self.reading.fault()))?;
+        Ok(())
+    }
+}
+
+// Why a search found no row: none has a hit, or what is sought is no regular expression.
+fn reason(fault: Option<Fault>) -> &'static str
+    ensures { result.now ≡ reason fault }
+{
+    match fault {
+        Some(fault) => fault.words(),
+        None => "not found",
     }
 }
 

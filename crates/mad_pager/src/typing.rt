@@ -1,12 +1,13 @@
 //! What is typed to be sought.
 
-ghost use Rattle.std.specs.Prelude.{◌≡◌, IfOk, OnOk, chars, string_bytes, encode_utf8_all};
-ghost use Rattle.mad_pager.specs.Sessions.{begun_recall, begun_search, char_key, char_typed, earlier, further_back, pasted, pasted_code, recalled, remembered, state_of, text_typed, typed, wanted, HasSameText, IsSought, IsTypeStep};
+ghost use Rattle.std.specs.Prelude.{◌≡◌, IfOk, OnOk, chars, string_bytes};
+ghost use Rattle.mad_pager.specs.Sessions.{begun_recall, begun_search, char_key, char_typed, earlier, further_back, pasted, pasted_code, recalled, remembered, state_of, text_typed, typed, typed_text, wanted, HasSameText, IsSought, IsTypeStep};
 
 use crate::places::field_row;
 use crate::session::Session;
 use mad_characters::char_columns;
 use mad_field::InputField;
+use mad_patterns::Sought;
 use mad_term::{Event, KeyCode, KeyEvent, KeyModifiers};
 use std::alloc::{AllocError, Global};
 
@@ -86,15 +87,17 @@ impl Session<'_> {
         }
     }
 
-    // Seeks what was typed, or, where nothing was, what was sought last.
+    // Reads and seeks what was typed, or, where nothing was, what was sought last.
     fn seek_typed(&mut self, alloc: Global) -> Result<(), AllocError>
         ensures step { OnOk result (IsSought (state_of self.old) (state_of self.new)) }
         ensures text { OnOk result (HasSameText self.old self.new) }
     {
         let backward = self.types_back;
         let sought = self.wanted(alloc)?;
+        let reading = Sought::read(alloc, sought.as_str())?;
         self.remember(alloc, sought.as_str())?;
         self.sought = sought;
+        self.reading = reading;
         self.is_backward = backward;
         self.found = None;
         self.is_typing = false;
@@ -176,8 +179,8 @@ impl Session<'_> {
     }
 
     // What is typed so far.
-    fn typed_text(&self) -> Result<String, AllocError>
-        ensures { IfOk result (λ s. string_bytes s ≡ encode_utf8_all self.now.field.content.text) }
+    pub(crate) fn typed_text(&self) -> Result<String, AllocError>
+        ensures { IfOk result (λ s. string_bytes s ≡ typed_text (state_of self.now)) }
     {
         self.field.get_content()
     }

@@ -31,7 +31,8 @@ use Rattle.mad_plain.specs.Laws.{FitsOrIsOne}
 use Rattle.mad_plain.specs.Rows.{columns_of}
 use Rattle.mad_plain.specs.Runs.{StyledChar, said}
 use Rattle.mad_plain_page.specs.PlainTexts.{row_line}
-use Rattle.mad_search.specs.Searches.{composite_text, line_text}
+use Rattle.mad_patterns.specs.Searches.{composite_text}
+use Rattle.mad_plain_laws.specs.Laws.{line_text}
 
 -- ---- what a composite says
 

@@ -17,13 +17,12 @@ use Rattle.mad_plain.proofs.RowLawLemmas.{rows_fit, rows_joined}
 use Rattle.mad_plain_page.specs.PlainTexts.{painted_line, painted_row, painted_rows, row_lines}
 use Rattle.mad_plain_page.proofs.RowLemmas.{drawn_chars}
 use Rattle.mad_search.specs.PagedTexts.{grouped, plain_section, row_sections}
-use Rattle.mad_search.specs.Searches.{line_text}
 use Rattle.mad_pages.specs.Fronts.{line_of}
 use Rattle.mad_pages.specs.PagedPages.{EndIn}
 use Rattle.mad_pages.specs.PageLayouts.{IsPageAt}
 use Rattle.mad_pages.specs.PageRows.{RowContent}
 use Rattle.mad_pages.proofs.PageLemmas.{lines_behind}
-use Rattle.mad_plain_laws.specs.Laws.{PagesAreTheRows, SaysText, line_starts, row_text}
+use Rattle.mad_plain_laws.specs.Laws.{PagesAreTheRows, SaysText, line_starts, line_text, row_text}
 use Rattle.mad_plain_laws.proofs.CodeLemmas.{IsRow, row_said, rows_laid}
 
 -- ---- the rows of a line

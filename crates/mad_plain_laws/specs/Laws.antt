@@ -1,19 +1,32 @@
 -- Laws of the page of a text that isn't Markdown.
-use Rattle.std.specs.Prelude.{◌≡◌, ◌≤◌, ℕ, ◌+◌, Bool, List, [], ◌∷◌, chars, encode_utf8_all, length, map, Some}
-use Rattle.std.specs.List.{AllByRecursion}
+use Rattle.std.specs.Prelude.{◌≡◌, ◌≤◌, ℕ, ◌+◌, Bool, List, [], ◌∷◌, ◌++◌, chars, encode_utf8_all, length, map, Some}
+use Rattle.std.specs.List.{AllByRecursion, flat_map}
 use Rattle.std.specs.Str.{IsUtf8}
 use Rattle.mad_style.specs.LineStyles.{margins_at}
 use Rattle.mad_style.specs.StyledChars.{char_alone}
 use Rattle.mad_style.specs.declared.kinds.CompositeKind.TheVariants.{Code}
 use Rattle.mad_style.specs.declared.styled_chars.StyledChar.{StyledChar as PaintedChar}
 use Rattle.mad_format.specs.LineRules.{LineRules}
+use Rattle.mad_format.specs.declared.composite.FmtComposite.{FmtComposite}
+use Rattle.mad_format.specs.declared.line.FmtLine.{FmtLine}
+use Rattle.mad_format.specs.declared.line.FmtLine.TheVariants.{Normal, TableRow}
 use Rattle.mad_plain.specs.Rows.{wrapped}
 use Rattle.mad_plain.specs.Runs.{StyledChar, said}
 use Rattle.mad_plain_page.specs.PlainTexts.{painted_rows}
 use Rattle.mad_search.specs.PagedTexts.{grouped, row_sections}
-use Rattle.mad_search.specs.Searches.{line_text}
+use Rattle.mad_patterns.specs.Searches.{composite_text}
 use Rattle.mad_pages.specs.PagedPages.{IsPagedAt}
 use Rattle.mad_pages.specs.declared.paged.PagedPage.{PagedPage}
+
+-- the texts of cells, each with a newline after it
+abbrev pub cells_text : List FmtComposite → List ℕ
+cells_text cells = flat_map (λ (cell : FmtComposite). composite_text cell ++ 10 ∷ []) cells
+
+-- what a line says: of a row of a table its cells, each with a newline after it; of a rule nothing
+abbrev pub line_text : FmtLine → List ℕ
+line_text (Normal l) = composite_text l
+line_text (TableRow row) = cells_text row.cells.items
+line_text _ = []
 
 -- the characters of a row that is drawn, as a text
 abbrev pub row_text : List PaintedChar → List ℕ

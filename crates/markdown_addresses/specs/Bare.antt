@@ -140,10 +140,19 @@ mail_of bytes =
 
 -- ---- where one may begin
 
--- before one of the web: nothing, a blank, the end of a line, or one of * _ ~ (
-abbrev pub may_precede_web : Option ℕ → Bool
-may_precede_web None = true
-may_precede_web (Some b) = (b == 32) || (b == 9) || (b == 10) || (b == 42) || (b == 95) || (b == 126) || (b == 40)
+-- before www.: nothing, a blank, the end of a line, or one of * _ ~ (
+abbrev pub may_precede_www : Option ℕ → Bool
+may_precede_www None = true
+may_precede_www (Some b) = (b == 32) || (b == 9) || (b == 10) || (b == 42) || (b == 95) || (b == 126) || (b == 40)
+
+-- before a scheme: no letter
+abbrev pub may_precede_scheme : Option ℕ → Bool
+may_precede_scheme None = true
+may_precede_scheme (Some b) = not (is_ascii_alphabetic b)
+
+-- before one of the web, which begins with www. or with a scheme
+abbrev pub may_precede_web : Option ℕ → List ℕ → Bool
+may_precede_web before bytes = if is_in_front (codes "www.") bytes then may_precede_www before else may_precede_scheme before
 
 -- before one of mail: nothing that could be of it
 abbrev pub may_precede_mail : Option ℕ → Bool
@@ -157,7 +166,7 @@ or_bare (Some bare) otherwise = Some bare
 
 -- the bare address that a rest begins with, behind this byte
 abbrev pub bare_after : Option ℕ → List ℕ → Option Bare
-bare_after before bytes = or_bare (if may_precede_web before then web_of bytes else None) (if may_precede_mail before then mail_of bytes else None)
+bare_after before bytes = or_bare (if may_precede_web before bytes then web_of bytes else None) (if may_precede_mail before then mail_of bytes else None)
 
 -- ---- where none begins
 

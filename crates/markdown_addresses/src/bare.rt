@@ -7,7 +7,7 @@
 ghost use Rattle.std.specs.Prelude.{◌≡◌, ◌+◌, ◌<◌, ◌≤◌, ◌==◌, if◌then◌else◌, true, false, length, IfSome, None};
 ghost use Rattle.std.specs.List.{prefix_len, list_any};
 ghost use Rattle.std.specs.Char.{is_ascii_alphanumeric};
-ghost use Rattle.markdown_addresses.specs.Bare.{is_domain_byte, goes_on, domain_len, is_period, is_low, web_domain, is_path_byte, count_of, is_trailing, ends_name, trim_step, trimmed, address_end, web_from, is_in_front, web_of, is_mail_byte, mail_domain, mail_of, may_precede_web, may_precede_mail, bare_after, may_begin_web, HasNoAt};
+ghost use Rattle.markdown_addresses.specs.Bare.{is_domain_byte, goes_on, domain_len, is_period, is_low, web_domain, is_path_byte, count_of, is_trailing, ends_name, trim_step, trimmed, address_end, web_from, is_in_front, web_of, is_mail_byte, mail_domain, mail_of, may_precede_www, may_precede_scheme, may_precede_web, may_precede_mail, bare_after, may_begin_web, HasNoAt};
 
 use crate::addresses::Scheme;
 use markdown_html::names::same_letters;
@@ -346,12 +346,33 @@ fn mail_of(bytes: &[u8]) -> Option<Bare>
 
 // ---- where one may begin
 
-fn may_precede_web(before: Option<u8>) -> bool
-    ensures { result ≡ may_precede_web before }
+// Whether an address may begin with `www.` behind this byte.
+fn may_precede_www(before: Option<u8>) -> bool
+    ensures { result ≡ may_precede_www before }
 {
     match before {
         None => true,
         Some(b) => matches!(b, b' ' | b'\t' | b'\n' | b'*' | b'_' | b'~' | b'('),
+    }
+}
+
+// Whether one may begin with a scheme behind this byte.
+fn may_precede_scheme(before: Option<u8>) -> bool
+    ensures { result ≡ may_precede_scheme before }
+{
+    match before {
+        None => true,
+        Some(b) => !b.is_ascii_alphabetic(),
+    }
+}
+
+fn may_precede_web(before: Option<u8>, bytes: &[u8]) -> bool
+    ensures { result ≡ may_precede_web before bytes.now }
+{
+    if is_in_front(b"www.", bytes) {
+        may_precede_www(before)
+    } else {
+        may_precede_scheme(before)
     }
 }
 
@@ -368,7 +389,7 @@ fn may_precede_mail(before: Option<u8>) -> bool
 pub fn bare_after(before: Option<u8>, bytes: &[u8]) -> Option<Bare>
     ensures { result ≡ bare_after before bytes.now }
 {
-    if may_precede_web(before) {
+    if may_precede_web(before, bytes) {
         if let Some(bare) = web_of(bytes) {
             return Some(bare);
         }
@@ -389,12 +410,12 @@ fn may_begin_web(b: u8) -> bool
 }
 
 fn web_at(before: Option<u8>, bytes: &[u8]) -> Option<Bare>
-    ensures { result ≡ if may_precede_web before then web_of bytes.now else None }
+    ensures { result ≡ if may_precede_web before bytes.now then web_of bytes.now else None }
 {
-    if !may_precede_web(before) {
+    if !may_begin_web(first(bytes)) {
         return None;
     }
-    if !may_begin_web(first(bytes)) {
+    if !may_precede_web(before, bytes) {
         return None;
     }
     web_of(bytes)

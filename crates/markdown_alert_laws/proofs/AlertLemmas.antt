@@ -1,6 +1,6 @@
 -- The first row behind the bar of an alert is its word: no gutter of which nothing is shown yet is an alert's bar, and the section that makes one says its word.
 use Rattle.std.proofs.Common.{◌≡◌, ℕ, zero, suc, ◌+◌, ◌-◌, ◌<◌, ◌≤◌, nat_lt, min, Bool, true, false, ◌==◌, List, [], ◌∷◌, ◌++◌, length, take, drop, Option, Some, None, refl, sym, ap, subst, ◌∙◌, arith, lit<, length-append, if◌then◌else◌}
-use Rattle.std.specs.List.{AllByRecursion}
+use Rattle.std.specs.List.{AllByRecursion, flat_map}
 use Rattle.std.specs.Prelude.{encode_utf8_all}
 use Rattle.std.specs.Str.{IsAscii}
 use Rattle.std.proofs.lemmas.Str.{chars-IsAscii}
@@ -26,9 +26,10 @@ use Rattle.mad_sections.specs.declared.gutters.Alert.{Alert}
 use Rattle.mad_sections.specs.declared.gutters.Alert.TheVariants.{Note, Tip, Important, Warning, Caution}
 use Rattle.mad_sections.specs.declared.gutters.Gutter.{Gutter}
 use Rattle.mad_sections.specs.declared.gutters.Gutter.TheVariants.{Bar, AlertBar, Bullet, Number, Task, Code, Signs, Below}
+use Rattle.markdown_html_text.specs.HtmlLeaves.{html_level}
 use Rattle.markdown_lines.specs.Code.{code_lines}
 use Rattle.markdown_lines.specs.Leaf.{html_lines}
-use Rattle.markdown_lines.specs.Links.{Defined}
+use Rattle.markdown_lines.specs.Links.{html_addresses, Defined}
 use Rattle.markdown_lines.specs.Restyled.{restyled, empty_line}
 use Rattle.markdown_lines.specs.Steady.{steady_line, steady_lines}
 use Rattle.markdown_lines.specs.Tables.{table_lines}
@@ -40,7 +41,7 @@ use Rattle.markdown_gutters.specs.Signs.{after_box, box_of, after_line, alert_of
 use Rattle.markdown_gutters.specs.declared.forms.Form.{Form}
 use Rattle.markdown_gutters.specs.declared.forms.Form.TheVariants.{Words, Large, Listed, Boxed}
 use Rattle.markdown_tones.specs.Fences.{fence_marks}
-use Rattle.markdown_reader.specs.Mapping.{Mapping, nothing_shown, new_gutter, with_last, is_spaced, spaced, blank_row, section_of, added, put, passed, list_ended, begun, nothing_since, with_section, item_ended, ended_by, closed, words, addresses_in, task_by, alert_line, alert_by, bold, paragraph_by, heading_style, table_addresses, leaf_shown, shown_part, shown_parts, with_marks, code_shown}
+use Rattle.markdown_reader.specs.Mapping.{html_text, html_by, leaves_in, Mapping, nothing_shown, new_gutter, with_last, is_spaced, spaced, blank_row, section_of, added, put, passed, list_ended, begun, nothing_since, with_section, item_ended, ended_by, closed, words, addresses_in, task_by, alert_line, alert_by, bold, paragraph_by, heading_style, table_addresses, leaf_shown, shown_part, shown_parts, with_marks, code_shown}
 use Rattle.markdown_reader.specs.Markdown.{printable_sections, steady_sections}
 use Rattle.markdown_alert_laws.specs.Alerts.{AlertsSayTheirWord, BeginsWithWord, SaysItsAlert}
 
@@ -255,9 +256,13 @@ code_knows marks lines m h =
     let k = put_knows Boxed (code_lines 0 lines) [] (with_marks marks m) marked in
     record { said = k.said; none = k.none }
 
+html_knows : (plain : Bool) (level : ℕ) (text : List ℕ) (m : Mapping) → Knows m → Knows (html_by plain level text m)
+html_knows true level text m h = put_knows Words (html_lines text) (html_addresses text) m h
+html_knows false level text m h = put_knows Large (restyled (heading_style level) (heading_style level) (html_lines text)) (html_addresses text) m h
+
 leaf_knows : (defined : Defined) (kind : Kind) (lines : List Remaining) (m : Mapping) → Knows m → Knows (leaf_shown defined kind lines m)
 leaf_knows defined ParagraphKind lines m h = paragraph_knows (new_gutter m) defined (joined [] lines) m h
-leaf_knows defined Html lines m h = put_knows Words (html_lines (joined [] lines)) [] m h
+leaf_knows defined Html lines m h = html_knows (html_level (joined [] lines) == 0) (html_level (joined [] lines)) (html_text (joined [] lines)) m h
 leaf_knows defined (Heading level) lines m h =
     put_knows Large (restyled (heading_style level) (heading_style level) (words defined (joined [] lines))) (addresses_in defined (joined [] lines)) m h
 leaf_knows defined Indented lines m h = code_knows [] lines m h
@@ -319,7 +324,7 @@ all_steady (s ∷ sections) h = ((λ outer alert e f. first_steady alert s.lines
 
 printable_said : (source : List ℕ) → AllByRecursion SaysItsAlert (printable_sections source)
 unfolding printable_sections
-printable_said source = (parts_know (definitions_of (parts_of source)) (parts_of source) nothing_shown (record { said = tt; none = tt })).said
+printable_said source = (parts_know (definitions_of (parts_of source)) (flat_map leaves_in (parts_of source)) nothing_shown (record { said = tt; none = tt })).said
 
 -- THE LAW
 pub alerts_said : AlertsSayTheirWord

@@ -15,7 +15,7 @@ use Rattle.markdown_inlines.specs.Inlines.{target_by}
 use Rattle.markdown_inlines.specs.Left.{piece_marks}
 use Rattle.markdown_inlines.specs.Parts.{sign_char, part}
 use Rattle.markdown_inlines.specs.declared.inlines.LinkTarget.{LinkTarget}
-use Rattle.markdown_inlines.specs.declared.inlines.LinkTarget.TheVariants.{Definition, Inline, Address as AddressTarget}
+use Rattle.markdown_inlines.specs.declared.inlines.LinkTarget.TheVariants.{Definition, Inline, Address as AddressTarget, Attribute}
 use Rattle.markdown_destinations.specs.Destinations.{Leads, link_leads, scheme_text}
 use Rattle.markdown_as_html.specs.Defined.{Defined}
 use Rattle.markdown_as_html.specs.Escaped.{escaped, addressed, tag, end_tag, within, attribute}
@@ -43,6 +43,7 @@ abbrev pub leads_to : List Leads → List ℕ → LinkTarget → Leads
 leads_to defined text (Definition index) = slice_index_or defined index nowhere
 leads_to defined text (Inline at len) = or_nowhere (link_leads text (Inline at len))
 leads_to defined text (AddressTarget scheme at len) = or_nowhere (link_leads text (AddressTarget scheme at len))
+leads_to defined text (Attribute at value) = or_nowhere (link_leads text (Attribute at value))
 
 -- a closing bracket at a place of the text, which is the piece of this index
 abbrev pub spans_at : List Leads → List ℕ → (at index : ℕ) → Kind → List Span

@@ -2,7 +2,7 @@
 
 ghost use Rattle.std.specs.Prelude.{◌≡◌, IfOk, option_map, string_bytes};
 ghost use Rattle.markdown_inlines.specs.Parts.{part};
-ghost use Rattle.markdown_destinations.specs.Destinations.{scheme_text, inline_leads, defined_leads, address_leads, link_leads};
+ghost use Rattle.markdown_destinations.specs.Destinations.{scheme_text, inline_leads, defined_leads, address_leads, attribute_leads, link_leads};
 ghost use Rattle.markdown_destinations.specs.LeadsOf.{leads_of};
 
 use markdown_addresses::addresses::Scheme;
@@ -11,6 +11,7 @@ use markdown_link_parts::parts::{
     defined_destination, defined_title, inline_destination, inline_title,
 };
 use markdown_link_parts::texts::text_of;
+use markdown_spans::attributes::{Value, value_text};
 use markdown_spans::words::{bytes_from, bytes_up_to};
 use std::alloc::{AllocError, Global};
 
@@ -68,6 +69,18 @@ fn address_leads(alloc: Global, scheme: Scheme, address: &[u8]) -> Result<Destin
     })
 }
 
+// Where a tag leads, by the value of its attribute.
+fn attribute_leads(alloc: Global, tag: &[u8], value: Value) -> Result<Destination, AllocError>
+    ensures { IfOk result (λ found. leads_of found ≡ attribute_leads tag.now value) }
+{
+    let text = value_text(alloc, tag, value)?;
+    let destination = String::from_utf8_lossy(alloc, &text)?;
+    Ok(Destination {
+        destination,
+        title: String::new(alloc),
+    })
+}
+
 fn part(text: &[u8], at: usize, len: usize) -> &[u8]
     ensures { result.now ≡ part text.now at len }
 {
@@ -94,6 +107,10 @@ pub fn link_leads(
         }
         LinkTarget::Address(scheme, at, len) => {
             let found = address_leads(alloc, scheme, part(text.as_bytes(), at, len))?;
+            Ok(Some(found))
+        }
+        LinkTarget::Attribute(at, value) => {
+            let found = attribute_leads(alloc, bytes_from(text.as_bytes(), at), value)?;
             Ok(Some(found))
         }
     }

@@ -56,7 +56,7 @@ e238 : IsPrinted (codes "![\\(<div>\n---\n```rs\n*") (codes "<h2>![(<div></h2>\n
 unfolding reading
 e238 = refl
 
-e239 : IsPrinted (codes "# 概http://x[a]: /u\n- ") (codes "<h1>概http://x[a]: /u</h1>\n<ul>\n<li></li>\n</ul>\n")
+e239 : IsPrinted (codes "# 概http://x[a]: /u\n- ") (codes "<h1>概<a href=\"http://x%5Ba%5D\">http://x[a]</a>: /u</h1>\n<ul>\n<li></li>\n</ul>\n")
 unfolding reading
 e239 = refl
 

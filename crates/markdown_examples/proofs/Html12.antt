@@ -92,7 +92,7 @@ e297 : IsPrinted (codes "\n---\n<http://a>\n---\n`|-|[ ] ") (codes "<hr />\n<h2>
 unfolding reading
 e297 = refl
 
-e298 : IsPrinted (codes "1. <a>概<http://a><http://x![") (codes "<ol>\n<li><a>概<a href=\"http://a\">http://a</a>&lt;http://x![</li>\n</ol>\n")
+e298 : IsPrinted (codes "1. <a>概<http://a><http://x![") (codes "<ol>\n<li><a>概<a href=\"http://a\">http://a</a>&lt;<a href=\"http://x!%5B\">http://x![</a></li>\n</ol>\n")
 unfolding reading
 e298 = refl
 

@@ -28,7 +28,7 @@ e306 : IsPrinted (codes "[a]: /u\n~## [a]: /u\n  <div>~~~") (codes "<p>~## <a hr
 unfolding reading
 e306 = refl
 
-e307 : IsPrinted (codes "## <http://a>http://x2) \n``````") (codes "<h2><a href=\"http://a\">http://a</a>http://x2)</h2>\n<pre><code></code></pre>\n")
+e307 : IsPrinted (codes "## <http://a>http://x2) \n``````") (codes "<h2><a href=\"http://a\">http://a</a><a href=\"http://x2\">http://x2</a>)</h2>\n<pre><code></code></pre>\n")
 unfolding reading
 e307 = refl
 

@@ -100,7 +100,7 @@ e224 : IsPrinted (codes "\n|-|-|\n<div>```<div>") (codes "<p>|-|-|</p>\n<div>```
 unfolding reading
 e224 = refl
 
-e225 : IsPrinted (codes "# <http://a>http://x") (codes "<h1><a href=\"http://a\">http://a</a>http://x</h1>\n")
+e225 : IsPrinted (codes "# <http://a>http://x") (codes "<h1><a href=\"http://a\">http://a</a><a href=\"http://x\">http://x</a></h1>\n")
 unfolding reading
 e225 = refl
 

@@ -52,7 +52,7 @@ e11 : printable_sections (codes "2) > ") ≡ behind (Number 2 ∷ []) 1 (row Par
 unfolding sections
 e11 = refl
 
-e12 : printable_sections (codes "<b>``") ≡ behind [] 0 (row Paragraph (plain (codes "``") ∷ []) ∷ []) ∷ []
+e12 : printable_sections (codes "<b>``") ≡ behind [] 0 (row Paragraph (flagged true false false false false (codes "``") ∷ []) ∷ []) ∷ []
 unfolding sections
 e12 = refl
 

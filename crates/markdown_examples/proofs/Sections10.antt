@@ -66,9 +66,13 @@ e238 : printable_sections (codes "![\\(<div>\n---\n```rs\n*") ≡ behind [] 0 (r
 unfolding sections
 e238 = refl
 
-e239 : printable_sections (35 ∷ 32 ∷ 230 ∷ 166 ∷ 130 ∷ 104 ∷ 116 ∷ 116 ∷ 112 ∷ 58 ∷ 47 ∷ 47 ∷ 120 ∷ 91 ∷ 97 ∷ 93 ∷ 58 ∷ 32 ∷ 47 ∷ 117 ∷ 10 ∷ 45 ∷ 32 ∷ []) ≡ behind [] 0 (row (Header 1) (plain (230 ∷ 166 ∷ 130 ∷ 104 ∷ 116 ∷ 116 ∷ 112 ∷ 58 ∷ 47 ∷ 47 ∷ 120 ∷ 91 ∷ 97 ∷ 93 ∷ 58 ∷ 32 ∷ 47 ∷ 117 ∷ []) ∷ []) ∷ []) ∷ blank [] ∷ behind (Bullet ∷ []) 1 (row Paragraph ([]) ∷ []) ∷ []
+e239 : printable_sections (35 ∷ 32 ∷ 230 ∷ 166 ∷ 130 ∷ 104 ∷ 116 ∷ 116 ∷ 112 ∷ 58 ∷ 47 ∷ 47 ∷ 120 ∷ 91 ∷ 97 ∷ 93 ∷ 58 ∷ 32 ∷ 47 ∷ 117 ∷ 10 ∷ 45 ∷ 32 ∷ []) ≡ behind [] 0 (row (Header 1) (plain (230 ∷ 166 ∷ 130 ∷ []) ∷ flagged false false false false true (codes "http://x[a]") ∷ plain (codes ": /u") ∷ []) ∷ []) ∷ blank [] ∷ behind (Bullet ∷ []) 1 (row Paragraph ([]) ∷ []) ∷ []
 unfolding sections
 e239 = refl
+
+l239 : unmarked_links (35 ∷ 32 ∷ 230 ∷ 166 ∷ 130 ∷ 104 ∷ 116 ∷ 116 ∷ 112 ∷ 58 ∷ 47 ∷ 47 ∷ 120 ∷ 91 ∷ 97 ∷ 93 ∷ 58 ∷ 32 ∷ 47 ∷ 117 ∷ 10 ∷ 45 ∷ 32 ∷ []) ≡ link_at 0 (codes "http://x[a]") ∷ []
+unfolding sections
+l239 = refl
 
 e240 : printable_sections (codes "&#35;!<http://a><div>") ≡ behind [] 0 (row Paragraph (plain (codes "#!") ∷ flagged false false false false true (codes "http://a") ∷ []) ∷ []) ∷ []
 unfolding sections
@@ -127,4 +131,4 @@ unfolding sections
 l250 = refl
 
 pub sections10 : AreSections10
-sections10 = record { e226 = e226; e227 = e227; e228 = e228; e229 = e229; e230 = e230; e231 = e231; e232 = e232; e233 = e233; e234 = e234; e235 = e235; e236 = e236; l236 = l236; e237 = e237; e238 = e238; e239 = e239; e240 = e240; l240 = l240; e241 = e241; e242 = e242; e243 = e243; e244 = e244; e245 = e245; e246 = e246; e247 = e247; e248 = e248; e249 = e249; l249 = l249; e250 = e250; l250 = l250 }
+sections10 = record { e226 = e226; e227 = e227; e228 = e228; e229 = e229; e230 = e230; e231 = e231; e232 = e232; e233 = e233; e234 = e234; e235 = e235; e236 = e236; l236 = l236; e237 = e237; e238 = e238; e239 = e239; l239 = l239; e240 = e240; l240 = l240; e241 = e241; e242 = e242; e243 = e243; e244 = e244; e245 = e245; e246 = e246; e247 = e247; e248 = e248; e249 = e249; l249 = l249; e250 = e250; l250 = l250 }

@@ -114,7 +114,7 @@ l294 : unmarked_links (codes "===[<http://a>```<a>\"\n---\n") ≡ link_at 0 (cod
 unfolding sections
 l294 = refl
 
-e295 : printable_sections (codes "<b    >  >\n|-|-|\n<http://a>") ≡ behind [] 0 (row Paragraph (plain (codes "> |-|-| ") ∷ flagged false false false false true (codes "http://a") ∷ []) ∷ []) ∷ []
+e295 : printable_sections (codes "<b    >  >\n|-|-|\n<http://a>") ≡ behind [] 0 (row Paragraph (flagged true false false false false (codes "> |-|-| ") ∷ flagged true false false false true (codes "http://a") ∷ []) ∷ []) ∷ []
 unfolding sections
 e295 = refl
 
@@ -134,11 +134,11 @@ l297 : unmarked_links (codes "\n---\n<http://a>\n---\n`|-|[ ] ") ≡ link_at 2 (
 unfolding sections
 l297 = refl
 
-e298 : printable_sections (49 ∷ 46 ∷ 32 ∷ 60 ∷ 97 ∷ 62 ∷ 230 ∷ 166 ∷ 130 ∷ 60 ∷ 104 ∷ 116 ∷ 116 ∷ 112 ∷ 58 ∷ 47 ∷ 47 ∷ 97 ∷ 62 ∷ 60 ∷ 104 ∷ 116 ∷ 116 ∷ 112 ∷ 58 ∷ 47 ∷ 47 ∷ 120 ∷ 33 ∷ 91 ∷ []) ≡ behind (Number 1 ∷ []) 1 (row Paragraph (plain (230 ∷ 166 ∷ 130 ∷ []) ∷ flagged false false false false true (codes "http://a") ∷ plain (codes "<http://x![") ∷ []) ∷ []) ∷ []
+e298 : printable_sections (49 ∷ 46 ∷ 32 ∷ 60 ∷ 97 ∷ 62 ∷ 230 ∷ 166 ∷ 130 ∷ 60 ∷ 104 ∷ 116 ∷ 116 ∷ 112 ∷ 58 ∷ 47 ∷ 47 ∷ 97 ∷ 62 ∷ 60 ∷ 104 ∷ 116 ∷ 116 ∷ 112 ∷ 58 ∷ 47 ∷ 47 ∷ 120 ∷ 33 ∷ 91 ∷ []) ≡ behind (Number 1 ∷ []) 1 (row Paragraph (plain (230 ∷ 166 ∷ 130 ∷ []) ∷ flagged false false false false true (codes "http://a") ∷ plain (codes "<") ∷ flagged false false false false true (codes "http://x![") ∷ []) ∷ []) ∷ []
 unfolding sections
 e298 = refl
 
-l298 : unmarked_links (49 ∷ 46 ∷ 32 ∷ 60 ∷ 97 ∷ 62 ∷ 230 ∷ 166 ∷ 130 ∷ 60 ∷ 104 ∷ 116 ∷ 116 ∷ 112 ∷ 58 ∷ 47 ∷ 47 ∷ 97 ∷ 62 ∷ 60 ∷ 104 ∷ 116 ∷ 116 ∷ 112 ∷ 58 ∷ 47 ∷ 47 ∷ 120 ∷ 33 ∷ 91 ∷ []) ≡ link_at 0 (codes "http://a") ∷ []
+l298 : unmarked_links (49 ∷ 46 ∷ 32 ∷ 60 ∷ 97 ∷ 62 ∷ 230 ∷ 166 ∷ 130 ∷ 60 ∷ 104 ∷ 116 ∷ 116 ∷ 112 ∷ 58 ∷ 47 ∷ 47 ∷ 97 ∷ 62 ∷ 60 ∷ 104 ∷ 116 ∷ 116 ∷ 112 ∷ 58 ∷ 47 ∷ 47 ∷ 120 ∷ 33 ∷ 91 ∷ []) ≡ link_at 0 (codes "http://a") ∷ link_at 0 (codes "http://x![") ∷ []
 unfolding sections
 l298 = refl
 

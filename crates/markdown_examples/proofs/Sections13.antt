@@ -50,11 +50,11 @@ l306 : unmarked_links (codes "[a]: /u\n~## [a]: /u\n  <div>~~~") ≡ link_at 0 (
 unfolding sections
 l306 = refl
 
-e307 : printable_sections (codes "## <http://a>http://x2) \n``````") ≡ behind [] 0 (row (Header 2) (flagged false false false false true (codes "http://a") ∷ plain (codes "http://x2)") ∷ []) ∷ []) ∷ []
+e307 : printable_sections (codes "## <http://a>http://x2) \n``````") ≡ behind [] 0 (row (Header 2) (flagged false false false false true (codes "http://a") ∷ flagged false false false false true (codes "http://x2") ∷ plain (codes ")") ∷ []) ∷ []) ∷ []
 unfolding sections
 e307 = refl
 
-l307 : unmarked_links (codes "## <http://a>http://x2) \n``````") ≡ link_at 0 (codes "http://a") ∷ []
+l307 : unmarked_links (codes "## <http://a>http://x2) \n``````") ≡ link_at 0 (codes "http://a") ∷ link_at 0 (codes "http://x2") ∷ []
 unfolding sections
 l307 = refl
 

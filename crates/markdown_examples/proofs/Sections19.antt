@@ -104,7 +104,7 @@ e468 : printable_sections (42 ∷ 194 ∷ 160 ∷ 97 ∷ 42 ∷ []) ≡ behind [
 unfolding sections
 e468 = refl
 
-e469 : printable_sections (codes "[a](<b\nc>)") ≡ behind [] 0 (row Paragraph (plain (codes "[a]()") ∷ []) ∷ []) ∷ []
+e469 : printable_sections (codes "[a](<b\nc>)") ≡ behind [] 0 (row Paragraph (plain (codes "[a](") ∷ flagged true false false false false (codes ")") ∷ []) ∷ []) ∷ []
 unfolding sections
 e469 = refl
 

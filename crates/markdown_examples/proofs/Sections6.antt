@@ -96,7 +96,7 @@ e147 : printable_sections (codes "<a>## <a><a>~!!") ≡ behind [] 0 (row Paragra
 unfolding sections
 e147 = refl
 
-e148 : printable_sections (codes "<b> foo|*``</a>") ≡ behind [] 0 (row Paragraph (plain (codes "foo|*``") ∷ []) ∷ []) ∷ []
+e148 : printable_sections (codes "<b> foo|*``</a>") ≡ behind [] 0 (row Paragraph (flagged true false false false false (codes "foo|*``") ∷ []) ∷ []) ∷ []
 unfolding sections
 e148 = refl
 

@@ -118,11 +118,11 @@ e224 : printable_sections (codes "\n|-|-|\n<div>```<div>") ≡ behind [] 0 (row 
 unfolding sections
 e224 = refl
 
-e225 : printable_sections (codes "# <http://a>http://x") ≡ behind [] 0 (row (Header 1) (flagged false false false false true (codes "http://a") ∷ plain (codes "http://x") ∷ []) ∷ []) ∷ []
+e225 : printable_sections (codes "# <http://a>http://x") ≡ behind [] 0 (row (Header 1) (flagged false false false false true (codes "http://a") ∷ flagged false false false false true (codes "http://x") ∷ []) ∷ []) ∷ []
 unfolding sections
 e225 = refl
 
-l225 : unmarked_links (codes "# <http://a>http://x") ≡ link_at 0 (codes "http://a") ∷ []
+l225 : unmarked_links (codes "# <http://a>http://x") ≡ link_at 0 (codes "http://a") ∷ link_at 0 (codes "http://x") ∷ []
 unfolding sections
 l225 = refl
 

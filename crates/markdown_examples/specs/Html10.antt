@@ -16,7 +16,7 @@ pub record ArePrinted10 : Type 0 where
   pub e236 : IsPrinted (codes "a[a]<a>é](<http://a>") (codes "<p>a[a]<a>é](<a href=\"http://a\">http://a</a></p>\n")
   pub e237 : IsPrinted (codes "é\n===\n## 1. [a]: /u\n") (codes "<h1>é</h1>\n<h2>1. [a]: /u</h2>\n")
   pub e238 : IsPrinted (codes "![\\(<div>\n---\n```rs\n*") (codes "<h2>![(<div></h2>\n<pre><code class=\"language-rs\">*\n</code></pre>\n")
-  pub e239 : IsPrinted (codes "# 概http://x[a]: /u\n- ") (codes "<h1>概http://x[a]: /u</h1>\n<ul>\n<li></li>\n</ul>\n")
+  pub e239 : IsPrinted (codes "# 概http://x[a]: /u\n- ") (codes "<h1>概<a href=\"http://x%5Ba%5D\">http://x[a]</a>: /u</h1>\n<ul>\n<li></li>\n</ul>\n")
   pub e240 : IsPrinted (codes "&#35;!<http://a><div>") (codes "<p>#!<a href=\"http://a\">http://a</a><div></p>\n")
   pub e241 : IsPrinted (codes "* \n|-|-|\n\n<a>\n---\n===") (codes "<ul>\n<li></li>\n</ul>\n<p>|-|-|</p>\n<a>\n---\n===\n")
   pub e242 : IsPrinted (codes "* ![<b\n---\n<!--(&amp;") (codes "<ul>\n<li>![&lt;b</li>\n</ul>\n<hr />\n<!--(&amp;\n")

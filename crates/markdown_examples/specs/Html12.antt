@@ -25,6 +25,6 @@ pub record ArePrinted12 : Type 0 where
   pub e295 : IsPrinted (codes "<b    >  >\n|-|-|\n<http://a>") (codes "<p><b    >  &gt;\n|-|-|\n<a href=\"http://a\">http://a</a></p>\n")
   pub e296 : IsPrinted (codes "\n\n|-|-|\n**[a]: /u\n\n|-|-|\n+ “") (codes "<p>|-|-|\n**[a]: /u</p>\n<p>|-|-|</p>\n<ul>\n<li>“</li>\n</ul>\n")
   pub e297 : IsPrinted (codes "\n---\n<http://a>\n---\n`|-|[ ] ") (codes "<hr />\n<h2><a href=\"http://a\">http://a</a></h2>\n<p>`|-|[ ]</p>\n")
-  pub e298 : IsPrinted (codes "1. <a>概<http://a><http://x![") (codes "<ol>\n<li><a>概<a href=\"http://a\">http://a</a>&lt;http://x![</li>\n</ol>\n")
+  pub e298 : IsPrinted (codes "1. <a>概<http://a><http://x![") (codes "<ol>\n<li><a>概<a href=\"http://a\">http://a</a>&lt;<a href=\"http://x!%5B\">http://x![</a></li>\n</ol>\n")
   pub e299 : IsPrinted (codes "<!--===```* \n===\n\t<http://a>") (codes "<!--===```* \n===\n\t<http://a>\n")
   pub e300 : IsPrinted (codes "===\n|-|-|\n+ :> <http://a>~~~") (codes "<p>===\n|-|-|</p>\n<ul>\n<li>:&gt; <a href=\"http://a\">http://a</a>~~~</li>\n</ul>\n")

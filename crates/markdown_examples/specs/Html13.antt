@@ -9,7 +9,7 @@ pub record ArePrinted13 : Type 0 where
   pub e304 : IsPrinted (codes "| a | b |\n|-|-|\n| c | d |\n> 概") (codes "<table>\n<thead>\n<tr>\n<th>a</th>\n<th>b</th>\n</tr>\n</thead>\n<tbody>\n<tr>\n<td>c</td>\n<td>d</td>\n</tr>\n</tbody>\n</table>\n<blockquote>\n<p>概</p>\n</blockquote>\n")
   pub e305 : IsPrinted (codes "<div><http://a>\\[a]|![http://x") (codes "<div><http://a>\\[a]|![http://x\n")
   pub e306 : IsPrinted (codes "[a]: /u\n~## [a]: /u\n  <div>~~~") (codes "<p>~## <a href=\"/u\">a</a>: /u</p>\n  <div>~~~\n")
-  pub e307 : IsPrinted (codes "## <http://a>http://x2) \n``````") (codes "<h2><a href=\"http://a\">http://a</a>http://x2)</h2>\n<pre><code></code></pre>\n")
+  pub e307 : IsPrinted (codes "## <http://a>http://x2) \n``````") (codes "<h2><a href=\"http://a\">http://a</a><a href=\"http://x2\">http://x2</a>)</h2>\n<pre><code></code></pre>\n")
   pub e308 : IsPrinted (codes "http://x\n---\n[a]<div><div>## - ") (codes "<h2><a href=\"http://x\">http://x</a></h2>\n<p>[a]<div><div>## -</p>\n")
   pub e309 : IsPrinted (codes "| a | b |\n|-|-|\n| c | d |\n# b !") (codes "<table>\n<thead>\n<tr>\n<th>a</th>\n<th>b</th>\n</tr>\n</thead>\n<tbody>\n<tr>\n<td>c</td>\n<td>d</td>\n</tr>\n</tbody>\n</table>\n<h1>b !</h1>\n")
   pub e310 : IsPrinted (codes "</a>\n| a | b |\n|-|-|\n| c | d |\n“") (codes "</a>\n| a | b |\n|-|-|\n| c | d |\n“\n")

@@ -27,4 +27,4 @@ pub record ArePrinted9 : Type 0 where
   pub e222 : IsPrinted (codes "__<a>~~>\n===\n<div>\n") (codes "<h1>__<a>~~&gt;</h1>\n<div>\n")
   pub e223 : IsPrinted (codes "\n---\n</a>\t__http://x") (codes "<hr />\n<p></a>\t__<a href=\"http://x\">http://x</a></p>\n")
   pub e224 : IsPrinted (codes "\n|-|-|\n<div>```<div>") (codes "<p>|-|-|</p>\n<div>```<div>\n")
-  pub e225 : IsPrinted (codes "# <http://a>http://x") (codes "<h1><a href=\"http://a\">http://a</a>http://x</h1>\n")
+  pub e225 : IsPrinted (codes "# <http://a>http://x") (codes "<h1><a href=\"http://a\">http://a</a><a href=\"http://x\">http://x</a></h1>\n")

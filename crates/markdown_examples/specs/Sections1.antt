@@ -18,7 +18,7 @@ pub record AreSections1 : Type 0 where
   pub e9 : printable_sections (codes "- \n\n'") ≡ behind (Bullet ∷ []) 1 (row Paragraph ([]) ∷ []) ∷ blank [] ∷ behind [] 0 (row Paragraph (plain (codes "'") ∷ []) ∷ []) ∷ []
   pub e10 : printable_sections (codes "- ~~~") ≡ behind (Bullet ∷ []) 1 (row Paragraph ([]) ∷ []) ∷ []
   pub e11 : printable_sections (codes "2) > ") ≡ behind (Number 2 ∷ []) 1 (row Paragraph ([]) ∷ []) ∷ []
-  pub e12 : printable_sections (codes "<b>``") ≡ behind [] 0 (row Paragraph (plain (codes "``") ∷ []) ∷ []) ∷ []
+  pub e12 : printable_sections (codes "<b>``") ≡ behind [] 0 (row Paragraph (flagged true false false false false (codes "``") ∷ []) ∷ []) ∷ []
   pub e13 : printable_sections (codes "> ---") ≡ behind (Bar ∷ []) 1 (horizontal_rule ∷ []) ∷ []
   pub e14 : printable_sections (codes "> ```") ≡ []
   pub e15 : printable_sections (codes ">1. \n") ≡ behind (Bar ∷ Number 1 ∷ []) 2 (row Paragraph ([]) ∷ []) ∷ []

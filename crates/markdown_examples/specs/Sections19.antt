@@ -31,7 +31,7 @@ pub record AreSections19 : Type 0 where
   pub e466 : printable_sections (codes "```\na\n    ```\n```\nb") ≡ behind (Code ∷ []) 1 (code_row (plain (codes "a") ∷ []) ∷ code_row (plain (codes "    ```") ∷ []) ∷ []) ∷ blank [] ∷ behind [] 0 (row Paragraph (plain (codes "b") ∷ []) ∷ []) ∷ []
   pub e467 : printable_sections (codes "~~~ a`b\nc\n~~~") ≡ behind (Code ∷ []) 1 (code_row (plain (codes "c") ∷ []) ∷ []) ∷ []
   pub e468 : printable_sections (42 ∷ 194 ∷ 160 ∷ 97 ∷ 42 ∷ []) ≡ behind [] 0 (row Paragraph (plain (42 ∷ 194 ∷ 160 ∷ 97 ∷ 42 ∷ []) ∷ []) ∷ []) ∷ []
-  pub e469 : printable_sections (codes "[a](<b\nc>)") ≡ behind [] 0 (row Paragraph (plain (codes "[a]()") ∷ []) ∷ []) ∷ []
+  pub e469 : printable_sections (codes "[a](<b\nc>)") ≡ behind [] 0 (row Paragraph (plain (codes "[a](") ∷ flagged true false false false false (codes ")") ∷ []) ∷ []) ∷ []
   pub e470 : printable_sections (codes "<a@bbbbbbbbbbbbbbbbbbbbbbbbbbbbbbbbbbbbbbbbbbbbbbbbbbbbbbbbbbbbbbbb.c> <a@bbbbbbbbbbbbbbbbbbbbbbbbbbbbbbbbbbbbbbbbbbbbbbbbbbbbbbbbbbbbbbb.c>") ≡ behind [] 0 (row Paragraph (plain (codes "<") ∷ flagged false false false false true (codes "a@bbbbbbbbbbbbbbbbbbbbbbbbbbbbbbbbbbbbbbbbbbbbbbbbbbbbbbbbbbbbbbbb.c") ∷ plain (codes "> ") ∷ flagged false false false false true (codes "a@bbbbbbbbbbbbbbbbbbbbbbbbbbbbbbbbbbbbbbbbbbbbbbbbbbbbbbbbbbbbbbb.c") ∷ []) ∷ []) ∷ []
   pub l470 : unmarked_links (codes "<a@bbbbbbbbbbbbbbbbbbbbbbbbbbbbbbbbbbbbbbbbbbbbbbbbbbbbbbbbbbbbbbbb.c> <a@bbbbbbbbbbbbbbbbbbbbbbbbbbbbbbbbbbbbbbbbbbbbbbbbbbbbbbbbbbbbbbb.c>") ≡ link_at 0 (codes "mailto:a@bbbbbbbbbbbbbbbbbbbbbbbbbbbbbbbbbbbbbbbbbbbbbbbbbbbbbbbbbbbbbbbb.c") ∷ link_at 0 (codes "mailto:a@bbbbbbbbbbbbbbbbbbbbbbbbbbbbbbbbbbbbbbbbbbbbbbbbbbbbbbbbbbbbbbb.c") ∷ []
   pub e471 : printable_sections (codes "&#00000065; &#0000065; &#x0000041; &#x000041;") ≡ behind [] 0 (row Paragraph (plain (codes "&#00000065; A &#x0000041; A") ∷ []) ∷ []) ∷ []

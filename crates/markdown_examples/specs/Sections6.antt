@@ -29,6 +29,6 @@ pub record AreSections6 : Type 0 where
   pub e145 : printable_sections (codes "<!--<div>a<div>") ≡ []
   pub e146 : printable_sections (codes "</a>\n---\n:\"\\*``") ≡ behind [] 0 (row Paragraph (plain (codes "--- :\"\\*``") ∷ []) ∷ []) ∷ []
   pub e147 : printable_sections (codes "<a>## <a><a>~!!") ≡ behind [] 0 (row Paragraph (plain (codes "## ~!!") ∷ []) ∷ []) ∷ []
-  pub e148 : printable_sections (codes "<b> foo|*``</a>") ≡ behind [] 0 (row Paragraph (plain (codes "foo|*``") ∷ []) ∷ []) ∷ []
+  pub e148 : printable_sections (codes "<b> foo|*``</a>") ≡ behind [] 0 (row Paragraph (flagged true false false false false (codes "foo|*``") ∷ []) ∷ []) ∷ []
   pub e149 : printable_sections (codes "<div>## _[ ] \n\n") ≡ behind [] 0 (row Paragraph (plain (codes "## _[ ]") ∷ []) ∷ []) ∷ []
   pub e150 : printable_sections (codes "> **~~~\n---\n**!") ≡ behind (Bar ∷ []) 1 (row Paragraph (plain (codes "**~~~") ∷ []) ∷ []) ∷ blank [] ∷ behind [] 0 (horizontal_rule ∷ []) ∷ blank [] ∷ behind [] 0 (row Paragraph (plain (codes "**!") ∷ []) ∷ []) ∷ []

@@ -36,5 +36,5 @@ pub record AreSections9 : Type 0 where
   pub e223 : printable_sections (codes "\n---\n</a>\t__http://x") ≡ behind [] 0 (horizontal_rule ∷ []) ∷ blank [] ∷ behind [] 0 (row Paragraph (plain (codes "__") ∷ flagged false false false false true (codes "http://x") ∷ []) ∷ []) ∷ []
   pub l223 : unmarked_links (codes "\n---\n</a>\t__http://x") ≡ link_at 2 (codes "http://x") ∷ []
   pub e224 : printable_sections (codes "\n|-|-|\n<div>```<div>") ≡ behind [] 0 (row Paragraph (plain (codes "|-|-|") ∷ []) ∷ []) ∷ behind [] 0 (row Paragraph (plain (codes "```") ∷ []) ∷ []) ∷ []
-  pub e225 : printable_sections (codes "# <http://a>http://x") ≡ behind [] 0 (row (Header 1) (flagged false false false false true (codes "http://a") ∷ plain (codes "http://x") ∷ []) ∷ []) ∷ []
-  pub l225 : unmarked_links (codes "# <http://a>http://x") ≡ link_at 0 (codes "http://a") ∷ []
+  pub e225 : printable_sections (codes "# <http://a>http://x") ≡ behind [] 0 (row (Header 1) (flagged false false false false true (codes "http://a") ∷ flagged false false false false true (codes "http://x") ∷ []) ∷ []) ∷ []
+  pub l225 : unmarked_links (codes "# <http://a>http://x") ≡ link_at 0 (codes "http://a") ∷ link_at 0 (codes "http://x") ∷ []

@@ -13,6 +13,10 @@ title_said title = record { level = title.level; section = title.section; text =
 abbrev pub heading_said : Heading → HeadingSaid
 heading_said heading = record { level = heading.level; section = heading.section; text = string_bytes heading.text; name = string_bytes heading.name }
 
+-- the section of a heading
+abbrev pub section_of : Heading → ℕ
+section_of heading = heading.section
+
 -- the name of a heading
 abbrev pub name_said : Heading → List ℕ
 name_said heading = string_bytes heading.name

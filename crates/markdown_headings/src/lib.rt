@@ -12,4 +12,4 @@ mod targets;
 mod titles;
 
 pub use naming::{Heading, headings};
-pub use targets::find_target;
+pub use targets::{find_section, find_target};

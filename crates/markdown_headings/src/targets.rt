@@ -3,10 +3,12 @@
 ghost use Rattle.std.specs.Prelude.{◌≡◌, IfOk, map, position, string_bytes};
 ghost use Rattle.std.specs.Str.{bytes_eq};
 ghost use Rattle.std.specs.StrCase.Lower.{str_to_lowercase};
-ghost use Rattle.markdown_headings.specs.HeadingsSaid.{name_said};
-ghost use Rattle.markdown_headings.specs.Targets.{first_named, target_among};
+ghost use Rattle.markdown_headings.specs.HeadingsSaid.{name_said, section_of};
+ghost use Rattle.markdown_reader.specs.Anchors.{anchor_said};
+ghost use Rattle.markdown_headings.specs.Targets.{anchor_among, first_named, section_among, section_at, target_among};
 
 use crate::naming::Heading;
+use markdown_reader::Anchor;
 use std::alloc::{AllocError, Global};
 
 /// The index of the heading to which `#target` goes: the first that has this name, else the first that has it in small letters.
@@ -53,4 +55,52 @@ fn find_heading(headings: &[Heading], name: &str) -> Option<usize>
     headings
         .iter()
         .position(|heading| heading.name.as_str() == name)
+}
+
+/// The index of the section to which `#target` goes: that of the first name of a tag that is this one, or else of the heading that [`find_target`] finds.
+///
+/// # Errors
+///
+/// Out of memory is the only error.
+pub fn find_section(
+    alloc: Global,
+    anchors: &[Anchor],
+    headings: &[Heading],
+    target: &str,
+) -> Result<Option<usize>, AllocError>
+    ensures { IfOk result (λ found. found ≡ section_among (map anchor_said anchors.now) (map name_said headings.now) (map section_of headings.now) target.now) }
+{
+    match find_anchor(anchors, target) {
+        Some(section) => Ok(Some(section)),
+        None => find_heading_section(alloc, headings, target),
+    }
+}
+
+// The section of the first name of a tag that is this one.
+#[tactic(auto, unfolding(crate::specs::Targets::anchor_among))]
+fn find_anchor(anchors: &[Anchor], target: &str) -> Option<usize>
+    ensures { result ≡ anchor_among (map anchor_said anchors.now) target.now }
+{
+    let mut rest = anchors;
+    while let [anchor, next @ ..] = rest {
+        if anchor.name.as_str() == target {
+            return Some(anchor.section);
+        }
+        rest = next;
+    }
+    None
+}
+
+// The section of the heading to which `#target` goes.
+fn find_heading_section(
+    alloc: Global,
+    headings: &[Heading],
+    target: &str,
+) -> Result<Option<usize>, AllocError>
+    ensures { IfOk result (λ found. found ≡ section_at (map section_of headings.now) (target_among (map name_said headings.now) target.now)) }
+{
+    match find_target(alloc, headings, target)? {
+        Some(index) if index < headings.len() => Ok(Some(headings[index].section)),
+        _ => Ok(None),
+    }
 }

@@ -1,1 +1,3 @@
-mod RowLemmas
+pub mod EndLemmas
+pub mod LeafLemmas
+pub mod PieceLemmas

@@ -1,3 +1,3 @@
+pub mod HtmlLeaves
+pub mod HtmlPieces
 pub mod Markup
-pub mod Rows
-pub mod RowsOf

@@ -13,9 +13,9 @@ use Rattle.markdown_spans.specs.Attributes.{is_name_byte, is_tag_named, html_sho
 use Rattle.markdown_spans.specs.Code.{spaced}
 use Rattle.markdown_spans.specs.Needles.{after_first}
 use Rattle.markdown_spans.specs.declared.attributes.Html.{Html}
-use Rattle.markdown_spans.specs.declared.attributes.Html.TheVariants.{Nothing as NothingShown, Break, Alternative}
+use Rattle.markdown_spans.specs.declared.attributes.Html.TheVariants.{Nothing, Break}
 use Rattle.markdown_html_text.specs.declared.markup.Effect.{Effect}
-use Rattle.markdown_html_text.specs.declared.markup.Effect.TheVariants.{Nothing, Gap, Cut, Image}
+use Rattle.markdown_html_text.specs.declared.markup.Effect.TheVariants.{Gap, Cut, Say}
 use Rattle.markdown_html_text.specs.declared.markup.Markup.{Markup}
 
 -- ---- what isn't a tag
@@ -97,13 +97,12 @@ is_cell bytes = is_tag_named (codes "td") bytes || is_tag_named (codes "th") byt
 abbrev pub is_cutting : List ℕ → Bool
 is_cutting bytes = is_among block_names (tag_name bytes) || is_tag_named (codes "pre") bytes
 
--- what raw html does: nothing, a cut, or an image's alternative text
+-- br cuts the text, and other raw html shows and says what it does in a line
 abbrev pub effect_by : Html → Effect
-effect_by NothingShown = Nothing
 effect_by Break = Cut
-effect_by (Alternative value) = Image value
+effect_by html = Say html
 
--- of a tag, without its sign <: the cells of a row are apart, br cuts too, and an image says its alternative text
+-- of a tag, without its sign <: the cells of a row are apart
 abbrev pub effect_of : List ℕ → Effect
 effect_of tag = if is_cell (without_slash tag) then Gap else if is_cutting (without_slash tag) then Cut else effect_by (html_shown tag)
 
@@ -120,7 +119,7 @@ tag_by bytes after = markup_up_to bytes after (effect_of (take (length bytes - l
 -- the markup that isn't a tag, if it is found
 abbrev pub other_by : List ℕ → Option (List ℕ) → Option Markup
 other_by bytes None = None
-other_by bytes (Some after) = Some (markup_up_to bytes after Nothing)
+other_by bytes (Some after) = Some (markup_up_to bytes after (Say Nothing))
 
 -- the markup that begins with a sign <, after which these bytes are
 unfoldable pub markup_of : List ℕ → Option Markup

@@ -9,7 +9,7 @@ use markdown_html::starts::{begins, is_declaration, without_slash};
 use markdown_marks::bytes::{first, tail};
 use markdown_marks::definitions::is_space_byte;
 use markdown_marks::tags::{Place, next_place};
-use markdown_spans::attributes::{Html, Value, html_shown, is_tag_named, name_len};
+use markdown_spans::attributes::{Html, html_shown, is_tag_named, name_len};
 use markdown_spans::code::spaced;
 use markdown_spans::needles::after_first;
 use markdown_spans::words::bytes_up_to;
@@ -17,13 +17,12 @@ use markdown_spans::words::bytes_up_to;
 /// What markup does to the text that is shown.
 #[derive(Debug, Clone, Copy)]
 pub enum Effect {
-    Nothing,
     /// What is before it and after it are apart.
     Gap,
     /// A row ends.
     Cut,
-    /// An image says its alternative text.
-    Image(Value),
+    /// What raw html shows in a line, or says of the text behind it.
+    Say(Html),
 }
 
 /// Markup behind a sign `<`.
@@ -86,7 +85,7 @@ fn ends_name(b: u8) -> bool
 }
 
 // Whether the name of a tag is in front, and an end of it.
-fn is_tag(bytes: &[u8]) -> bool
+pub(crate) fn is_tag(bytes: &[u8]) -> bool
     ensures { result ≡ is_tag bytes.now }
 {
     first(bytes).is_ascii_alphabetic() && ends_name(first(after_name(bytes)))
@@ -181,9 +180,14 @@ fn effect_by(html: Html) -> Effect
     ensures { result ≡ effect_by html }
 {
     match html {
-        Html::Nothing => Effect::Nothing,
         Html::Break => Effect::Cut,
-        Html::Alternative(value) => Effect::Image(value),
+        Html::Nothing
+        | Html::Alternative(_)
+        | Html::Source(_)
+        | Html::On(_)
+        | Html::Off(_)
+        | Html::Link(_)
+        | Html::LinkEnd => Effect::Say(html),
     }
 }
 
@@ -228,6 +232,6 @@ pub fn markup_of(bytes: &[u8]) -> Option<Markup>
     }
     match other_end(bytes) {
         None => None,
-        Some(after) => Some(markup_up_to(bytes, after, Effect::Nothing)),
+        Some(after) => Some(markup_up_to(bytes, after, Effect::Say(Html::Nothing))),
     }
 }

@@ -11,7 +11,7 @@ use Rattle.markdown_pieces.specs.Places.{IsInside, AreCut}
 use Rattle.markdown_inlines.specs.declared.links.Over.{Over}
 use Rattle.markdown_inlines.specs.Inlines.{left_of}
 use Rattle.markdown_inlines.specs.Left.{left_at}
-use Rattle.markdown_inlines.specs.Links.{overs_of}
+use Rattle.markdown_inlines.specs.Links.{overs_of, untagged}
 use Rattle.markdown_inline_events.specs.declared.spans.Span.{Span}
 use Rattle.markdown_inline_events.specs.Contents.{EventContent}
 use Rattle.markdown_inline_events.specs.Reading.{cut_events, events_from, piece_events}
@@ -24,7 +24,7 @@ no_piece = record { kind = Plain; more = 0 }
 
 -- what an index reads of links where there is nothing
 abbrev pub no_over : Over
-no_over = record { link = None; picture = None; opens = false; silent = false }
+no_over = record { link = None; picture = None; opens = false; silent = false; tags = untagged }
 
 -- the next piece, and those behind it
 pub cut_next : (text : List ℕ) (at i : ℕ) (ps : List Piece) (d : Piece) → i < length ps → AreCut text at (drop i ps)

@@ -11,7 +11,7 @@ use Rattle.markdown_emphasis.specs.declared.flags.Flags.{Flags}
 use Rattle.markdown_brackets.specs.declared.brackets.Link.{Link}
 use Rattle.markdown_spans.specs.Code.{unpadded}
 use Rattle.markdown_spans.specs.declared.attributes.Html.{Html}
-use Rattle.markdown_spans.specs.declared.attributes.Html.TheVariants.{Nothing, Break, Alternative}
+use Rattle.markdown_spans.specs.declared.attributes.Html.TheVariants.{Nothing, Break, Alternative, Source, On, Off, Link as LinkTag, LinkEnd}
 use Rattle.markdown_pieces.specs.declared.pieces.Kind.{Kind}
 use Rattle.markdown_pieces.specs.declared.pieces.Kind.TheVariants.{Plain, Shown as ShownKind, Code as CodeKind, Address, Bare, Html as HtmlKind, Soft, Hard, Run as RunKind, Opening, Closing}
 use Rattle.markdown_pieces.specs.declared.pieces.Piece.{Piece}
@@ -19,7 +19,7 @@ use Rattle.markdown_inlines.specs.declared.looks.Look.{Look}
 use Rattle.markdown_inlines.specs.declared.links.Over.{Over}
 use Rattle.mad_characters.specs.Pictures.{is_printable_char, picture}
 use Rattle.markdown_inlines.specs.Printable.{is_printable, shown_char, is_shown}
-use Rattle.markdown_inlines.specs.Parts.{sign_char, part, alternative_text, html_shown, opening_shown, closing_shown, kind_characters, target_name, name_shown, piece_shown}
+use Rattle.markdown_inlines.specs.Parts.{sign_char, part, alternative_text, source_name, html_shown, opening_shown, closing_shown, kind_characters, target_name, name_shown, piece_shown}
 use Rattle.markdown_inlines.specs.Styled.{Shown, shown_with}
 use Rattle.markdown_inlines.specs.Inlines.{look_at, shown_piece, shown_from, char_of, are_shown}
 
@@ -69,6 +69,11 @@ html_is : (html : Html) (text : List ℕ) (at : ℕ) → list_all is_shown (html
 html_is Nothing text at = refl
 html_is Break text at = refl
 html_is (Alternative value) text at = text_shown (chars (alternative_text (drop (at + 1) text) value))
+html_is (Source value) text at = text_shown (chars (source_name (drop (at + 1) text) value))
+html_is (On flag) text at = refl
+html_is (Off flag) text at = refl
+html_is (LinkTag value) text at = refl
+html_is LinkEnd text at = refl
 
 opening_is : (image opens : Bool) → list_all is_shown (opening_shown image opens) ≡ true
 opening_is true true = refl

@@ -13,9 +13,9 @@ use Rattle.markdown_inlines.specs.declared.inlines.LinkTarget.{LinkTarget}
 use Rattle.markdown_inlines.specs.declared.looks.Look.{Look}
 use Rattle.markdown_inlines.specs.Styled.{Shown, shown_with}
 use Rattle.markdown_pieces.specs.Cut.{CutText}
-use Rattle.markdown_inlines.specs.Links.{overs_of}
+use Rattle.markdown_inlines.specs.Links.{untagged}
 use Rattle.markdown_inlines.specs.Left.{left_at}
-use Rattle.markdown_inlines.specs.Inlines.{shown_piece, shown_from, left_of, shown_cut, link_target, with_link, links_from}
+use Rattle.markdown_inlines.specs.Inlines.{shown_piece, shown_from, left_of, all_over, shown_cut, link_target, with_link, links_from}
 
 shown_cons : (text : List ℕ) (at : ℕ) (p : Piece) (f : Flags) (n : ℕ) (o : Over) (ps : List Piece) (fs : List Flags) (ns : List ℕ) (os : List Over)
     → shown_from text at (p ∷ ps) (f ∷ fs) (n ∷ ns) (o ∷ os) ≡ shown_piece text at p f n o ++ shown_from text (at + (p.more + 1)) ps fs ns os
@@ -69,10 +69,10 @@ no_flags = record { bold = false; italic = false; strikeout = false }
 
 -- what an index reads of links where there is nothing
 abbrev pub no_over : Over
-no_over = record { link = None; picture = None; opens = false; silent = false }
+no_over = record { link = None; picture = None; opens = false; silent = false; tags = untagged }
 
 -- the lists that go with the pieces of a cut
-pub shown_all : (text : List ℕ) (cut : CutText) (ps : List Piece) (fs : List Flags) (ns : List ℕ) (os : List Over) → ps ≡ cut.pieces → fs ≡ flags_of (length cut.pieces) cut.pairs → ns ≡ left_of cut.pairs cut.pieces → os ≡ overs_of cut.pieces
+pub shown_all : (text : List ℕ) (cut : CutText) (ps : List Piece) (fs : List Flags) (ns : List ℕ) (os : List Over) → ps ≡ cut.pieces → fs ≡ flags_of (length cut.pieces) cut.pairs → ns ≡ left_of cut.pairs cut.pieces → os ≡ all_over cut.pieces
     → shown_from text 0 ps fs ns os ≡ shown_cut cut text
 shown_all text cut ps fs ns os p f n o =
     ap (λ (l : List Piece). shown_from text 0 l fs ns os) p

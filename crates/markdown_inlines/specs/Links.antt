@@ -1,17 +1,26 @@
 -- Over which pieces links and pictures are. Each goes from its opening bracket to its closing one.
 use Rattle.std.specs.Prelude.{ℕ, ◌+◌, ◌==◌, ◌&&◌, ◌||◌, not, Bool, true, false, if◌then◌else◌, List, [], ◌∷◌, drop, Option, Some, None, is_some}
 use Rattle.markdown_brackets.specs.declared.brackets.Link.{Link}
+use Rattle.markdown_spans.specs.declared.attributes.Html.{Html}
+use Rattle.markdown_spans.specs.declared.attributes.Html.TheVariants.{Link as LinkTag}
 use Rattle.markdown_pieces.specs.declared.pieces.Kind.{Kind}
-use Rattle.markdown_pieces.specs.declared.pieces.Kind.TheVariants.{Address, Bare, Opening, Closing}
+use Rattle.markdown_pieces.specs.declared.pieces.Kind.TheVariants.{Address, Bare, Html as HtmlKind, Opening, Closing}
 use Rattle.markdown_pieces.specs.declared.pieces.Piece.{Piece}
 use Rattle.markdown_inlines.specs.declared.links.Over.{Over}
 use Rattle.markdown_inlines.specs.declared.links.Ahead.{Ahead}
+use Rattle.markdown_inlines.specs.declared.tags.TagFlags.{TagFlags}
 
--- a link ends with a piece of this kind
+-- a tag begins a link
+abbrev pub is_link_tag : Html → Bool
+is_link_tag (LinkTag value) = true
+is_link_tag _ = false
+
+-- a link is made by a piece of this kind: it ends with it, or is it, or begins with that tag
 abbrev pub is_link : Kind → Bool
 is_link (Closing (Some link)) = not link.image
 is_link (Address len scheme) = true
 is_link (Bare scheme) = true
+is_link (HtmlKind html) = is_link_tag html
 is_link _ = false
 
 -- one, if it is a link
@@ -72,6 +81,10 @@ abbrev pub is_silent : ℕ → Kind → Bool
 is_silent index (Closing (Some link)) = link.image && (link.opener + 1 == index)
 is_silent index _ = false
 
+-- no tag gives a flag
+abbrev pub untagged : TagFlags
+untagged = record { bold = false; italic = false; strikeout = false; code = false }
+
 -- the link and the picture that are over a piece, whether a link or an image begins at it, and whether an image with nothing between its brackets ends
 abbrev pub over_of : ℕ → ℕ → Kind → List Ahead → Over
 over_of index number kind ahead =
@@ -80,6 +93,7 @@ over_of index number kind ahead =
       picture = or_number (nearest_picture ahead) (own_picture kind);
       opens = is_opening kind && opens_at index ahead;
       silent = is_silent index kind;
+      tags = untagged;
     }
 
 -- an image is no link, and in one there is none: what it holds is of the link around it

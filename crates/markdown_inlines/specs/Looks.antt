@@ -1,7 +1,8 @@
 -- How a text looks.
-use Rattle.std.specs.Prelude.{ℕ, ◌==◌, ◌&&◌, not, Bool, true, false, if◌then◌else◌, Option, Some, None, is_some}
+use Rattle.std.specs.Prelude.{ℕ, ◌==◌, ◌&&◌, ◌||◌, not, Bool, true, false, if◌then◌else◌, Option, Some, None, is_some}
 use Rattle.markdown_emphasis.specs.declared.flags.Flags.{Flags}
 use Rattle.markdown_inlines.specs.declared.looks.Look.{Look}
+use Rattle.markdown_inlines.specs.declared.tags.TagFlags.{TagFlags}
 
 -- both hold, or neither does
 abbrev pub is_same : Bool → Bool → Bool
@@ -19,8 +20,16 @@ is_same_look a b =
     is_same a.bold b.bold && is_same a.italic b.italic && is_same a.strikeout b.strikeout && is_same a.code b.code && is_same_number a.link b.link
     && is_same_number a.picture b.picture
 
--- How a text looks that has these flags, is code or isn't, belongs to this link, and is said by this picture. What a picture says is of its link alone.
-abbrev pub look_of : Flags → Bool → (link picture : Option ℕ) → Look
-look_of flags code link picture =
+-- How a text looks that has these flags by marks and by tags, is code or isn't, belongs to this link, and is said by this picture. What a picture says is of
+-- its link alone.
+abbrev pub look_of : Flags → TagFlags → Bool → (link picture : Option ℕ) → Look
+look_of flags tags code link picture =
     let own = not (is_some picture) in
-    record { bold = flags.bold && own; italic = flags.italic && own; strikeout = flags.strikeout && own; code = code && own; link = link; picture = picture }
+    record {
+      bold = (flags.bold || tags.bold) && own;
+      italic = (flags.italic || tags.italic) && own;
+      strikeout = (flags.strikeout || tags.strikeout) && own;
+      code = (code || tags.code) && own;
+      link = link;
+      picture = picture;
+    }

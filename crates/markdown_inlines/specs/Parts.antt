@@ -6,14 +6,14 @@ use Rattle.markdown_brackets.specs.declared.brackets.Link.{Link}
 use Rattle.markdown_brackets.specs.declared.targets.Target.{Target}
 use Rattle.std.specs.Str.Lossy.{utf8_lossy}
 use Rattle.markdown_spans.specs.Code.{unpadded}
-use Rattle.markdown_spans.specs.Attributes.{alternative}
+use Rattle.markdown_spans.specs.Attributes.{value_text}
 use Rattle.markdown_spans.specs.declared.attributes.Value.{Value}
 use Rattle.markdown_spans.specs.declared.attributes.Html.{Html}
-use Rattle.markdown_spans.specs.declared.attributes.Html.TheVariants.{Nothing, Break, Alternative}
+use Rattle.markdown_spans.specs.declared.attributes.Html.TheVariants.{Break, Alternative, Source}
 use Rattle.markdown_pieces.specs.declared.pieces.Kind.{Kind}
 use Rattle.markdown_pieces.specs.declared.pieces.Kind.TheVariants.{Plain, Shown, Code as CodeKind, Address, Bare, Html as HtmlKind, Soft, Hard, Run as RunKind, Opening, Closing}
 use Rattle.markdown_pieces.specs.declared.pieces.Piece.{Piece}
-use Rattle.markdown_link_parts.specs.Texts.{file_name}
+use Rattle.markdown_link_parts.specs.Texts.{file_name, file_part}
 use Rattle.markdown_inlines.specs.declared.links.Over.{Over}
 use Rattle.markdown_inlines.specs.Printable.{shown_char}
 
@@ -38,13 +38,18 @@ part text at len = take len (drop at text)
 
 -- the alternative text of an image, of whose tag these are the bytes after the sign <
 abbrev pub alternative_text : List ℕ → Value → List ℕ
-alternative_text tag value = utf8_lossy (alternative tag value)
+alternative_text tag value = utf8_lossy (value_text tag value)
+
+-- the name of the file to which an image's address leads
+abbrev pub source_name : List ℕ → Value → List ℕ
+source_name tag value = utf8_lossy (file_part (value_text tag value))
 
 -- of raw html at a place
 abbrev pub html_shown : Html → List ℕ → ℕ → List ℕ
-html_shown Nothing text at = []
 html_shown Break text at = 10 ∷ []
 html_shown (Alternative value) text at = shown_text (alternative_text (drop (at + 1) text) value)
+html_shown (Source value) text at = shown_text (source_name (drop (at + 1) text) value)
+html_shown _ text at = []
 
 -- an opening bracket is shown where no link or image begins there
 abbrev pub opening_shown : (image opens : Bool) → List ℕ

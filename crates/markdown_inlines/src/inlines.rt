@@ -1,10 +1,12 @@
 //! The inlines of a leaf's text.
 
 ghost use Rattle.std.specs.Prelude.{◌≡◌, ◌<◌, ◌^◌, ◌++◌, List, true, IfOk, OnOk, length};
+ghost use Rattle.std.specs.List.{All};
+ghost use Rattle.markdown_emphasis.specs.Pairs.{IsWithin};
 ghost use Rattle.markdown_pieces.specs.Places.{AreCut};
 ghost use Rattle.markdown_inlines.specs.declared.inlines.LinkTarget.{LinkTarget};
 ghost use Rattle.markdown_inlines.specs.Looks.{look_of};
-ghost use Rattle.markdown_inlines.specs.Inlines.{is_code, target_by, link_target, with_link, links_from, shown_from, leaf_text, are_shown, leaf_links};
+ghost use Rattle.markdown_inlines.specs.Inlines.{is_code, target_by, html_target, link_target, with_link, links_from, all_over, shown_from, shown_cut, leaf_text, are_shown, leaf_links};
 ghost use Rattle.markdown_inlines.specs.Styled.{spelled_of, IsStyled};
 
 use crate::left::left_of;
@@ -12,12 +14,14 @@ use crate::links::{Over, overs_of};
 use crate::looks::{Look, look_of};
 use crate::parts::push_piece;
 use crate::styled::Styled;
+use crate::tags::tagged;
 use markdown_addresses::addresses::Scheme;
 use markdown_brackets::labels::Labels;
 use markdown_brackets::targets::Target;
-use markdown_emphasis::{Flags, flag_pieces};
+use markdown_emphasis::{Flags, Pair, flag_pieces};
 use markdown_pieces::cut::cut_text;
 use markdown_pieces::pieces::{Kind, Piece};
+use markdown_spans::attributes::{Html, Value};
 use std::alloc::{AllocError, Global};
 
 /// Where a link leads. Places are bytes of the leaf's text.
@@ -29,13 +33,15 @@ pub enum LinkTarget {
     Inline(usize, usize),
     /// To an address at a place, of so many bytes, behind this scheme.
     Address(Scheme, usize, usize),
+    /// To the value of an attribute of a tag, whose name stands at a place.
+    Attribute(usize, Value),
 }
 
 /// What is shown of a leaf.
 #[derive(Drop)]
 pub struct LeafText {
     pub styled: Styled,
-    /// The links, in the order in which they end. The runs say their numbers.
+    /// The links, in the order of their closing brackets, their addresses and their tags `a`. The runs say their numbers.
     pub links: Vec<LinkTarget>,
 }
 
@@ -45,6 +51,16 @@ fn target_by(target: Target, after: usize) -> LinkTarget
     match target.definition {
         Some(index) => LinkTarget::Definition(index),
         None => LinkTarget::Inline(after, target.len),
+    }
+}
+
+// The link that a tag begins, which stands behind its sign `<` from a place on.
+fn html_target(html: Html, after: usize) -> Option<LinkTarget>
+    ensures { result ≡ html_target html after }
+{
+    match html {
+        Html::Link(value) => Some(LinkTarget::Attribute(after, value)),
+        _ => None,
     }
 }
 
@@ -63,22 +79,24 @@ fn link_target(kind: &Kind, at: usize, more: usize) -> Option<LinkTarget>
         }
         Kind::Address(len, scheme) => Some(LinkTarget::Address(*scheme, at + 1, *len)),
         Kind::Bare(scheme) => Some(LinkTarget::Address(*scheme, at, more + 1)),
+        Kind::Html(html) => html_target(*html, at + 1),
         _ => None,
     }
 }
 
 fn look_at(flags: &Flags, kind: &Kind, over: &Over) -> Look
-    ensures { result ≡ look_of flags.now (is_code kind.now) over.now.link over.now.picture }
+    ensures { result ≡ look_of flags.now over.now.tags (is_code kind.now) over.now.link over.now.picture }
 {
     look_of(
         flags,
+        over.tags,
         matches!(kind, Kind::Code(_)),
         over.link,
         over.picture,
     )
 }
 
-// Writes down the link that a piece closes.
+// Writes down the link that a piece makes.
 fn add_link(
     links: &mut Vec<LinkTarget>,
     kind: &Kind,
@@ -134,6 +152,42 @@ fn shown_pieces(
     Ok(LeafText { styled, links })
 }
 
+// What links, pictures and tags have to do with each piece.
+fn all_over(alloc: Global, pieces: &[Piece]) -> Result<Vec<Over>, AllocError>
+    ensures over { IfOk result (λ overs. overs.items ≡ all_over pieces.now) }
+    ensures size { IfOk result (λ overs. length overs.items ≡ length pieces.now) }
+{
+    let overs = overs_of(alloc, pieces)?;
+    let all = tagged(alloc, pieces, &overs)?;
+    Ok(all)
+}
+
+/// What is shown of a text that was cut into these pieces, of which these match. It has no control character but the newlines that break its lines,
+/// and none that turns the direction of writing.
+///
+/// # Errors
+///
+/// Out of memory is the only error.
+pub fn cut_shown(
+    alloc: Global,
+    text: &str,
+    pieces: &[Piece],
+    pairs: &[Pair],
+) -> Result<LeafText, AllocError>
+    requires cut { AreCut text.now 0 pieces.now }
+    requires pairs { All (IsWithin (length pieces.now)) pairs.now }
+    ensures shown { IfOk result (λ leaf. spelled_of leaf.styled ≡ shown_cut (record { pieces = pieces.now; pairs = pairs.now }) text.now) }
+    ensures printable { IfOk result (λ leaf. are_shown (spelled_of leaf.styled) ≡ true) }
+    ensures styled { IfOk result (λ leaf. IsStyled leaf.styled) }
+    ensures links { IfOk result (λ leaf. leaf.links.items ≡ links_from 0 pieces.now) }
+{
+    let flags = flag_pieces(alloc, pairs, pieces.len())?;
+    let left = left_of(alloc, pieces, pairs)?;
+    let overs = all_over(alloc, pieces)?;
+    let leaf = shown_pieces(alloc, text, pieces, &flags, &left, &overs)?;
+    Ok(leaf)
+}
+
 /// What is shown of a leaf's text, with links to these definitions. It has no control character but the newlines that break its lines,
 /// and none that turns the direction of writing.
 ///
@@ -147,9 +201,6 @@ pub fn leaf_text(alloc: Global, labels: &Labels, text: &str) -> Result<LeafText,
     ensures links { IfOk result (λ leaf. leaf.links.items ≡ leaf_links labels.now text.now) }
 {
     let cut = cut_text(alloc, labels, text)?;
-    let flags = flag_pieces(alloc, &cut.pairs, cut.pieces.len())?;
-    let left = left_of(alloc, &cut.pieces, &cut.pairs)?;
-    let overs = overs_of(alloc, &cut.pieces)?;
-    let leaf = shown_pieces(alloc, text, &cut.pieces, &flags, &left, &overs)?;
+    let leaf = cut_shown(alloc, text, &cut.pieces, &cut.pairs)?;
     Ok(leaf)
 }

@@ -1,13 +1,15 @@
 //! Over which pieces links and pictures are.
 
 ghost use Rattle.std.specs.Prelude.{◌≡◌, ◌≤◌, IfOk, OnOk, reverse};
-ghost use Rattle.markdown_inlines.specs.Links.{is_link, links_in, link_count, nearest, nearest_picture, opens_at, own_link, picture_by, own_picture, or_number, link_over, is_silent, over_of, number_by, ahead_by, stepped_back, overs_of};
+ghost use Rattle.markdown_inlines.specs.Links.{is_link_tag, is_link, links_in, link_count, nearest, nearest_picture, opens_at, own_link, picture_by, own_picture, or_number, link_over, is_silent, over_of, number_by, ahead_by, stepped_back, overs_of};
 
+use crate::tags::TagFlags;
 use markdown_brackets::brackets::Link;
 use markdown_pieces::pieces::{Kind, Piece};
+use markdown_spans::attributes::Html;
 use std::alloc::{AllocError, Global};
 
-/// What links and pictures have to do with a piece.
+/// What links, pictures and tags have to do with a piece.
 #[derive(Debug, Clone, Copy)]
 pub struct Over {
     /// The number of the link over the piece. In a picture it is the one that is around the picture.
@@ -18,6 +20,8 @@ pub struct Over {
     pub opens: bool,
     /// Whether it is the closing bracket of an image that has nothing between its brackets.
     pub silent: bool,
+    /// The flags that tags give.
+    pub tags: TagFlags,
 }
 
 /// A link or an image whose closing bracket is ahead.
@@ -31,18 +35,26 @@ pub struct Ahead {
     pub opener: usize,
 }
 
+// Whether a tag begins a link.
+fn is_link_tag(html: Html) -> bool
+    ensures { result ≡ is_link_tag html }
+{
+    matches!(html, Html::Link(_))
+}
+
 fn is_link(kind: &Kind) -> bool
     ensures { result ≡ is_link kind.now }
 {
     match kind {
         Kind::Closing(Some(link)) => !link.image,
         Kind::Address(_, _) | Kind::Bare(_) => true,
+        Kind::Html(html) => is_link_tag(*html),
         _ => false,
     }
 }
 
 // One, if it is a link.
-fn links_in(kind: &Kind) -> usize
+pub(crate) fn links_in(kind: &Kind) -> usize
     ensures value { result ≡ links_in kind.now }
     ensures few { result ≤ 1 }
 {
@@ -118,7 +130,7 @@ fn own_picture(kind: &Kind) -> Option<usize>
     }
 }
 
-fn or_number(first: Option<usize>, otherwise: Option<usize>) -> Option<usize>
+pub(crate) fn or_number(first: Option<usize>, otherwise: Option<usize>) -> Option<usize>
     ensures { result ≡ or_number first otherwise }
 {
     match first {
@@ -157,6 +169,12 @@ fn over_of(ahead: &[Ahead], index: usize, number: usize, kind: &Kind) -> Over
         picture: or_number(nearest_picture(ahead), own_picture(kind)),
         opens: matches!(kind, Kind::Opening(_)) && opens_at(ahead, index),
         silent: is_silent(index, kind),
+        tags: TagFlags {
+            bold: false,
+            italic: false,
+            strikeout: false,
+            code: false,
+        },
     }
 }
 
@@ -206,7 +224,7 @@ fn step_back(
     }
 }
 
-/// What links and pictures have to do with each piece.
+/// What the links and pictures of brackets and addresses have to do with each piece.
 ///
 /// # Errors
 ///

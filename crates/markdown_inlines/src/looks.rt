@@ -3,6 +3,7 @@
 ghost use Rattle.std.specs.Prelude.{◌≡◌};
 ghost use Rattle.markdown_inlines.specs.Looks.{is_same, is_same_number, is_same_look, look_of};
 
+use crate::tags::TagFlags;
 use markdown_emphasis::Flags;
 
 /// How a text looks.
@@ -48,16 +49,23 @@ pub fn is_same_look(a: &Look, b: &Look) -> bool
         && is_same_number(a.picture, b.picture)
 }
 
-/// The look of a text with these flags, which belongs to this link, and which this picture says. What a picture says is of its link alone.
-pub fn look_of(flags: &Flags, code: bool, link: Option<usize>, picture: Option<usize>) -> Look
-    ensures { result ≡ look_of flags.now code link picture }
+/// The look of a text with these flags by marks and by tags, which belongs to this link, and which this picture says. What a picture says is of its
+/// link alone.
+pub fn look_of(
+    flags: &Flags,
+    tags: TagFlags,
+    code: bool,
+    link: Option<usize>,
+    picture: Option<usize>,
+) -> Look
+    ensures { result ≡ look_of flags.now tags code link picture }
 {
     let said = picture.is_some();
     Look {
-        bold: flags.bold && !said,
-        italic: flags.italic && !said,
-        strikeout: flags.strikeout && !said,
-        code: code && !said,
+        bold: (flags.bold || tags.bold) && !said,
+        italic: (flags.italic || tags.italic) && !said,
+        strikeout: (flags.strikeout || tags.strikeout) && !said,
+        code: (code || tags.code) && !said,
         link,
         picture,
     }

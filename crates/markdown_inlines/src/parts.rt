@@ -4,7 +4,7 @@ ghost use Rattle.std.specs.Prelude.{◌≡◌, ◌+◌, ◌<◌, ◌++◌, IfOk,
 ghost use Rattle.std.specs.Str.{IsCharBoundary};
 ghost use Rattle.markdown_spans.specs.Code.{unpadded};
 ghost use Rattle.markdown_pieces.specs.Places.{IsInside};
-ghost use Rattle.markdown_inlines.specs.Parts.{sign_char, shown_text, character_shown, part, alternative_text, html_shown, opening_shown, closing_shown, characters, target_name, name_shown, piece_shown};
+ghost use Rattle.markdown_inlines.specs.Parts.{sign_char, shown_text, character_shown, part, alternative_text, source_name, html_shown, opening_shown, closing_shown, characters, target_name, name_shown, piece_shown};
 ghost use Rattle.markdown_inlines.specs.Styled.{shown_with, spelled_of, IsStyled};
 
 use crate::links::Over;
@@ -14,9 +14,9 @@ use crate::styled::Styled;
 use markdown_brackets::brackets::Link;
 use markdown_brackets::targets::Target;
 use markdown_emphasis::Sign;
-use markdown_link_parts::texts::file_name;
+use markdown_link_parts::texts::{file_name, file_part};
 use markdown_pieces::pieces::{Kind, Piece};
-use markdown_spans::attributes::{Html, Value, alternative};
+use markdown_spans::attributes::{Html, Value, value_text};
 use markdown_spans::code::{Code, is_padded};
 use markdown_spans::words::{bytes_from, bytes_up_to};
 use std::alloc::{AllocError, Global};
@@ -128,7 +128,7 @@ fn push_character(
 fn alternative_text(alloc: Global, tag: &[u8], value: Value) -> Result<String, AllocError>
     ensures { IfOk result (λ shown. string_bytes shown ≡ alternative_text tag.now value) }
 {
-    let text = alternative(alloc, tag, value)?;
+    let text = value_text(alloc, tag, value)?;
     let shown = String::from_utf8_lossy(alloc, &text)?;
     Ok(shown)
 }
@@ -149,7 +149,32 @@ fn push_alternative(
     Ok(())
 }
 
-// Raw html at a place: nothing, the end of a line, or what an image says.
+// The name of an image's file.
+fn source_name(alloc: Global, tag: &[u8], value: Value) -> Result<String, AllocError>
+    ensures { IfOk result (λ name. string_bytes name ≡ source_name tag.now value) }
+{
+    let address = value_text(alloc, tag, value)?;
+    let name = String::from_utf8_lossy(alloc, file_part(&address))?;
+    Ok(name)
+}
+
+fn push_source(
+    alloc: Global,
+    styled: &mut Styled,
+    tag: &[u8],
+    value: Value,
+    look: &Look,
+) -> Result<(), AllocError>
+    requires styled { IsStyled styled.old }
+    ensures pushed { OnOk result (spelled_of styled.new ≡ spelled_of styled.old ++ map (shown_with look.now) (shown_text (source_name tag.now value))) }
+    ensures styled { OnOk result (IsStyled styled.new) }
+{
+    let name = source_name(alloc, tag, value)?;
+    styled.push_text(name.as_str(), look)?;
+    Ok(())
+}
+
+// Raw html at a place: nothing, the end of a line, what an image says, or the name of its file.
 fn push_html(
     alloc: Global,
     styled: &mut Styled,
@@ -164,7 +189,7 @@ fn push_html(
     ensures styled { OnOk result (IsStyled styled.new) }
 {
     match html {
-        Html::Nothing => Ok(()),
+        Html::Nothing | Html::On(_) | Html::Off(_) | Html::Link(_) | Html::LinkEnd => Ok(()),
         Html::Break => {
             styled.push('\n', look)?;
             Ok(())
@@ -172,6 +197,11 @@ fn push_html(
         Html::Alternative(value) => {
             let tag = bytes_from(text.as_bytes(), at + 1);
             push_alternative(alloc, styled, tag, value, look)?;
+            Ok(())
+        }
+        Html::Source(value) => {
+            let tag = bytes_from(text.as_bytes(), at + 1);
+            push_source(alloc, styled, tag, value, look)?;
             Ok(())
         }
     }

@@ -5,9 +5,7 @@ use Rattle.std.specs.Char.{encode_utf8}
 use Rattle.std.specs.Str.{IsUtf8}
 use Rattle.std.proofs.lemmas.Str.{chars_past_char, encodes-append, chars-nil}
 use Rattle.std.proofs.lemmas.List.{nil_from_length, drop_more, drop_all}
-use Rattle.mad_md.specs.Lines.{LineContent}
 use Rattle.markdown_inlines.specs.Printable.{shown_char}
-use Rattle.markdown_lines.specs.Leaf.{html_row}
 
 -- a character more
 pub shown_more : (done shown rest more all : List ℕ) (c : ℕ) → IsUtf8 rest → rest ≡ encode_utf8 c ++ more → shown ≡ done ++ encode_utf8 (shown_char c)
@@ -27,19 +25,3 @@ none_left rest none = ap chars (nil_from_length rest none) ∙ chars-nil
 -- where no byte is left, all characters are shown
 pub shown_all : (shown rest all : List ℕ) → length rest ≡ 0 → shown ++ encode_utf8_all (map shown_char (chars rest)) ≡ all → shown ≡ all
 shown_all shown rest all none h = sym (append-nil shown) ∙ sym (ap (λ (cs : List ℕ). shown ++ encode_utf8_all (map shown_char cs)) (none_left rest none)) ∙ h
-
--- ---- rows of html
-
--- one more row of html is put, and those behind it are to come
-pub html_next : {S : Type 0} (bytes : S → List ℕ) (done now : List LineContent) (items : List S) (index : ℕ) (item : S) (text : List ℕ) → index < length items → item ≡ get_or items index item → text ≡ bytes item
-    → now ≡ done ++ html_row text ∷ [] → now ++ map html_row (map bytes (drop (index + 1) items)) ≡ done ++ map html_row (map bytes (drop index items))
-html_next bytes done now items index item text within item_is text_is now_is =
-    let rest : List LineContent = map html_row (map bytes (drop (index + 1) items)) in
-    ap (λ (ls : List LineContent). ls ++ rest) now_is
-    ∙ append_assoc done (html_row text ∷ []) rest
-    ∙ ap (λ (t : List ℕ). done ++ html_row t ∷ rest) (text_is ∙ ap bytes item_is)
-    ∙ ap (λ l. done ++ map html_row (map bytes l)) (sym (drop_more items index item within))
-
--- where no row is to come, all are put
-pub html_done : {S : Type 0} (bytes : S → List ℕ) (now : List LineContent) (items : List S) (index : ℕ) → length items ≤ index → now ++ map html_row (map bytes (drop index items)) ≡ now
-html_done bytes now items index past = ap (λ l. now ++ map html_row (map bytes l)) (drop_all index items past) ∙ append-nil now

@@ -3,7 +3,8 @@ use Rattle.std.specs.Prelude.{ℕ, ◌-◌, Bool, false, not, ◌||◌, ◌&&◌
 use Rattle.std.specs.List.{suffix_len}
 use Rattle.markdown_inlines.specs.Looks.{is_same, is_same_number}
 use Rattle.markdown_inlines.specs.Styled.{Shown}
-use Rattle.markdown_inlines.specs.Inlines.{leaf_text}
+use Rattle.markdown_inlines.specs.Inlines.{leaf_text, shown_cut}
+use Rattle.markdown_html_text.specs.HtmlPieces.{html_cut}
 use Rattle.mad_md.specs.Flagged.{Run}
 use Rattle.markdown_lines.specs.Runs.{flags_said}
 use Rattle.markdown_lines.specs.declared.glyphs.Glyph.{Glyph}
@@ -23,6 +24,10 @@ glyph_of bold s =
 -- the characters that are shown of a leaf with this text, with links to definitions with these labels
 abbrev pub leaf_glyphs : List (List ℕ) → Bool → List ℕ → List Glyph
 leaf_glyphs labels bold text = map (glyph_of bold) (leaf_text labels text)
+
+-- the characters that are shown of a leaf of html with this text
+abbrev pub html_glyphs : List ℕ → List Glyph
+html_glyphs text = map (glyph_of false) (shown_cut (html_cut text) text)
 
 -- a break, and a space but in code: it isn't shown at the ends of a row
 abbrev pub is_edge : Glyph → Bool

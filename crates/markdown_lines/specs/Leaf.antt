@@ -1,20 +1,15 @@
 -- What is shown of a leaf's text.
 use Rattle.std.specs.Prelude.{ℕ, Bool, false, ◌==◌, List, [], ◌∷◌, ◌++◌, map, length, chars, encode_utf8_all, if◌then◌else◌}
 use Rattle.markdown_inlines.specs.Printable.{shown_char}
-use Rattle.markdown_html_text.specs.Rows.{html_rows}
-use Rattle.mad_md.specs.Flagged.{Run, unflagged}
+use Rattle.mad_md.specs.Flagged.{Run}
 use Rattle.mad_md.specs.Lines.{LineContent, normal}
 use Rattle.mad_md.specs.declared.composite.CompositeStyle.TheVariants.{Paragraph}
-use Rattle.markdown_lines.specs.Glyphs.{leaf_glyphs, trimmed, spaced_from, runs_of}
+use Rattle.markdown_lines.specs.Glyphs.{leaf_glyphs, html_glyphs, trimmed, spaced_from, runs_of}
 use Rattle.markdown_lines.specs.declared.glyphs.Glyph.{Glyph}
 
 -- a text, each character as it is shown
 unfoldable pub shown_text : List ℕ → List ℕ
 shown_text text = encode_utf8_all (map shown_char (chars text))
-
--- a row of one run without flags
-abbrev pub plain_row : List ℕ → LineContent
-plain_row text = normal (record { style = Paragraph; runs = record { flags = unflagged; text = text } ∷ [] })
 
 -- a row of these characters
 abbrev pub row_of : List Glyph → LineContent
@@ -37,10 +32,6 @@ leaf_rows labels text = rows_of (trimmed (leaf_glyphs labels false text))
 unfoldable pub cell_runs : List (List ℕ) → Bool → List ℕ → List Run
 cell_runs labels bold text = runs_of (spaced_from bold [] [] (trimmed (leaf_glyphs labels bold text)))
 
--- a row of html
-abbrev pub html_row : List ℕ → LineContent
-html_row text = plain_row (shown_text text)
-
--- the rows of a block of html with this text
+-- the rows of a leaf of html with this text
 unfoldable pub html_lines : List ℕ → List LineContent
-html_lines text = map html_row (html_rows text)
+html_lines text = rows_of (trimmed (html_glyphs text))

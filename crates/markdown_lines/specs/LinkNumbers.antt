@@ -1,7 +1,7 @@
 -- Which links the runs of a leaf belong to: for each run that is of a link its number, in the order of the text. The links of a leaf are numbered from 0, in
--- the order in which they end.
+-- the order of the pieces that make them.
 use Rattle.std.specs.Prelude.{ℕ, ◌+◌, Bool, false, ◌==◌, List, [], ◌∷◌, ◌++◌, length, map, Option, Some, None, if◌then◌else◌}
-use Rattle.markdown_lines.specs.Glyphs.{leaf_glyphs, trimmed, spaced_from, is_same_run}
+use Rattle.markdown_lines.specs.Glyphs.{leaf_glyphs, html_glyphs, trimmed, spaced_from, is_same_run}
 use Rattle.markdown_lines.specs.declared.glyphs.Glyph.{Glyph}
 
 -- the number of a link, if there is one
@@ -35,6 +35,10 @@ rows_numbers gs = if length gs == 0 then [] else rows_numbers_from [] gs
 -- of the rows of a leaf with this text, with links to definitions with these labels
 unfoldable pub leaf_numbers : List (List ℕ) → List ℕ → List ℕ
 leaf_numbers labels text = rows_numbers (trimmed (leaf_glyphs labels false text))
+
+-- of the rows of a leaf of html with this text
+unfoldable pub html_numbers : List ℕ → List ℕ
+html_numbers text = rows_numbers (trimmed (html_glyphs text))
 
 -- of a cell with this text, in bold or as it is
 unfoldable pub cell_numbers : List (List ℕ) → Bool → List ℕ → List ℕ

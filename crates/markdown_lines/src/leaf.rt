@@ -5,9 +5,9 @@ ghost use Rattle.std.specs.List.{list_any};
 ghost use Rattle.markdown_inlines.specs.Styled.{spelled_of, IsStyled};
 ghost use Rattle.markdown_lines.specs.Glyphs.{glyph_of, trimmed};
 ghost use Rattle.markdown_lines.specs.CutRows.{is_blank, is_pictured, AreUnpictured, IsAlone, IsNeat, whole_row, cut_rows, cut_numbers};
-ghost use Rattle.markdown_lines.specs.Leaf.{shown_text, plain_row, row_of, rows_of, leaf_rows, cell_runs, html_row, html_lines};
-ghost use Rattle.markdown_lines.specs.LinkNumbers.{after_links, cell_numbers, leaf_numbers, row_numbers, rows_numbers};
-ghost use Rattle.markdown_lines.specs.Links.{leaf_addresses};
+ghost use Rattle.markdown_lines.specs.Leaf.{shown_text, row_of, rows_of, leaf_rows, cell_runs, html_lines};
+ghost use Rattle.markdown_lines.specs.LinkNumbers.{after_links, cell_numbers, html_numbers, leaf_numbers, row_numbers, rows_numbers};
+ghost use Rattle.markdown_lines.specs.Links.{html_addresses, leaf_addresses};
 ghost use Rattle.markdown_lines.specs.LinksOf.{defined_of};
 ghost use Rattle.markdown_lines.specs.Said.{said};
 ghost use Rattle.markdown_lines.specs.Shown.{shown};
@@ -17,9 +17,8 @@ use crate::lines::Lines;
 use crate::links::{Definitions, push_addresses};
 use crate::numbers::{push_numbers, sum};
 use crate::runs::Runs;
-use mad_md::CompositeStyle;
-use markdown_html_text::rows::html_rows;
-use markdown_inlines::inlines::leaf_text;
+use markdown_html_text::pieces::html_pieces;
+use markdown_inlines::inlines::{cut_shown, leaf_text};
 use markdown_inlines::printable::shown_char;
 use markdown_inlines::styled::{Styled, TextRun};
 use memchr::memchr;
@@ -82,7 +81,7 @@ fn rows_of(alloc: Global, numbers: &mut Vec<usize>, glyphs: &[Glyph]) -> Result<
 #[derive(Drop)]
 pub struct Leaf {
     pub rows: Lines,
-    /// In the order in which the links end.
+    /// In the order of the links.
     pub addresses: Vec<String>,
     /// For each run that belongs to a link, the number of this link, in the order of the text.
     pub numbers: Vec<usize>,
@@ -225,28 +224,26 @@ pub fn read_cell(
     Ok(runs)
 }
 
-// Adds a row of html.
-fn push_html(alloc: Global, rows: &mut Lines, text: &str) -> Result<(), AllocError>
-    ensures { OnOk result (shown rows.new ≡ shown rows.old ++ html_row text.now ∷ []) }
-{
-    let shown = shown_text(alloc, text)?;
-    rows.push_text(CompositeStyle::Paragraph, shown.as_str())
-}
-
-/// The rows of a block of html with this text.
+/// The rows of a leaf of html with this text, where its links lead, and which runs belong to them.
 ///
 /// # Errors
 ///
 /// Out of memory is the only error.
-pub fn html_lines(alloc: Global, text: &[u8]) -> Result<Lines, AllocError>
-    ensures { IfOk result (λ rows. shown rows ≡ html_lines text.now) }
+#[tactic(auto, unfolding(crate::specs::Leaf::html_lines, crate::specs::LinkNumbers::html_numbers))]
+pub fn read_html(alloc: Global, text: &str) -> Result<Leaf, AllocError>
+    ensures rows { IfOk result (λ leaf. shown leaf.rows ≡ html_lines text.now) }
+    ensures addresses { IfOk result (λ leaf. map string_bytes leaf.addresses.items ≡ html_addresses text.now) }
+    ensures numbers { IfOk result (λ leaf. leaf.numbers.items ≡ html_numbers text.now) }
 {
-    let texts = html_rows(alloc, text)?;
-    let mut rows = Lines::new(alloc);
-    let mut index = 0;
-    while index < texts.as_slice().len() {
-        push_html(alloc, &mut rows, texts[index].as_str())?;
-        index += 1;
-    }
-    Ok(rows)
+    let pieces = html_pieces(alloc, text)?;
+    let leaf = cut_shown(alloc, text, &pieces, &[])?;
+    let mut numbers = Vec::new(alloc);
+    let rows = styled_rows(alloc, &mut numbers, &leaf.styled)?;
+    let mut addresses = Vec::new(alloc);
+    push_addresses(alloc, &mut addresses, &[], text, &leaf.links)?;
+    Ok(Leaf {
+        rows,
+        addresses,
+        numbers,
+    })
 }

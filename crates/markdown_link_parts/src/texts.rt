@@ -59,8 +59,8 @@ fn name_start(path: &[u8]) -> usize
     len
 }
 
-// The last part of an address's path.
-fn file_part(address: &[u8]) -> &[u8]
+/// The name of the file to which an address leads: the last part of its path. It may be empty.
+pub fn file_part(address: &[u8]) -> &[u8]
     ensures { result.now ≡ file_part address.now }
 {
     let path = bytes_up_to(address, path_len(address));

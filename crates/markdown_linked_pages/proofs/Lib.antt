@@ -1,8 +1,14 @@
+pub mod CellLawLemmas
+pub mod CellLemmas
+pub mod ColumnLemmas
 pub mod CutLemmas
 pub mod LinkMarkLemmas
 pub mod LinkedEnds
 pub mod LinkedLemmas
 pub mod OpenLemmas
+pub mod OwnRowLemmas
 pub mod PageLinkLemmas
 pub mod RowMarkLemmas
+pub mod TableColumnLemmas
+pub mod TakenLemmas
 pub mod WrittenLemmas

@@ -15,6 +15,7 @@ use Rattle.mad_draw.proofs.PieceLemmas.{known_both}
 use Rattle.mad_format.specs.declared.composite.FmtComposite.{FmtComposite}
 use Rattle.mad_format.specs.declared.line.FmtLine.{FmtLine}
 use Rattle.mad_format.specs.declared.line.FmtLine.TheVariants.{Normal, TableRow, TableRule, HorizontalRule}
+use Rattle.mad_format.specs.declared.table.FmtTableRow.{FmtTableRow}
 use Rattle.mad_rows.specs.Rows.{line_pieces, margins_of}
 use Rattle.mad_rows.specs.declared.row_skin.RowSkin.{RowSkin}
 use Rattle.mad_rows.specs.declared.rows.RowPlace.{RowPlace}
@@ -28,7 +29,8 @@ use Rattle.mad_links.proofs.LinkRowLemmas.{links_are_in_their_cells, rows_are_wo
 use Rattle.mad_links.proofs.PlainLemmas.{shows_the_same}
 use Rattle.mad_mark_runs.specs.declared.mark_runs.MarkRun.{MarkRun}
 use Rattle.mad_marks.specs.LineMarks.{has_mark}
-use Rattle.mad_marked_rows.specs.LinkedRows.{linked_composite}
+use Rattle.mad_marks.specs.RowNumbers.{cells_of, firsts_of}
+use Rattle.mad_marked_rows.specs.LinkedRows.{linked_composite, linked_table_row}
 use Rattle.mad_marked_rows.specs.LinkedTexts.{pieces_on}
 use Rattle.mad_marked_rows.specs.MarkedRows.{marked_line}
 use Rattle.mad_marked_rows.specs.Paints.{paint_by}
@@ -62,22 +64,37 @@ nothing_on a old new ps is =
     ap (pieces_on a (old, None)) (sym (append-nil (map in_no_link ps))) ∙ plain_on a old ps [] ∙ ap (λ (l : List ℕ). let x : List ℕ × Option ℕ = (l, None) in x) (sym is)
 
 -- any other line
-pub line_on : (runs : List MarkRun) (n : ℕ) (skin : RowSkin) (outer : Option ℕ) (filled : Bool) (line : FmtLine) (a : List (Option (List ℕ))) (old new : List ℕ) → ((l : FmtComposite) → line ≡ Normal l → ⊥)
+pub line_on : (runs : List MarkRun) (n : ℕ) (skin : RowSkin) (outer : Option ℕ) (filled : Bool) (line : FmtLine) (a : List (Option (List ℕ))) (old new : List ℕ) → ((l : FmtComposite) → line ≡ Normal l → ⊥) → ((table : FmtTableRow) → line ≡ TableRow table → ⊥)
     → new ≡ old ++ pieces_bytes (line_pieces skin outer filled line) → pieces_on a (old, None) (linked_pieces runs n skin outer filled line) ≡ (new, None)
-line_on runs n skin outer filled (Normal l) a old new h is = absurd (h l refl)
-line_on runs n skin outer filled (TableRow row) a old new h is = nothing_on a old new (line_pieces skin outer filled (TableRow row)) is
-line_on runs n skin outer filled (TableRule rule) a old new h is = nothing_on a old new (line_pieces skin outer filled (TableRule rule)) is
-line_on runs n skin outer filled HorizontalRule a old new h is = nothing_on a old new (line_pieces skin outer filled HorizontalRule) is
+line_on runs n skin outer filled (Normal l) a old new h k is = absurd (h l refl)
+line_on runs n skin outer filled (TableRow row) a old new h k is = absurd (k row refl)
+line_on runs n skin outer filled (TableRule rule) a old new h k is = nothing_on a old new (line_pieces skin outer filled (TableRule rule)) is
+line_on runs n skin outer filled HorizontalRule a old new h k is = nothing_on a old new (line_pieces skin outer filled HorizontalRule) is
 
--- so it is by what the code found
-pub other_line : (skin : RowSkin) (outer : Option ℕ) (filled : Bool) (row : RowContent) (ascii : Bool) (inner : RowSkin) (columns : Option ℕ) (full : Bool) (a : List (Option (List ℕ))) (old new : List ℕ) → ascii ≡ has_ascii_boxes skin → inner ≡ line_skin skin (front_of row)
-    → columns ≡ columns_behind ascii outer row.gutters → full ≡ (filled || in_box skin row.gutters) → ((l : FmtComposite) → row.line ≡ Normal l → ⊥) → new ≡ old ++ pieces_bytes (line_pieces inner columns full row.line) → pieces_on a (old, None) (linked_behind skin outer filled row) ≡ (new, None)
-other_line skin outer filled row ascii inner columns full a old new ascii_is inner_is columns_is full_is other is =
+-- a row's line, by what the code found
+behind_by : (skin : RowSkin) (outer : Option ℕ) (filled : Bool) (row : RowContent) (ascii : Bool) (inner : RowSkin) (columns : Option ℕ) (full : Bool) → ascii ≡ has_ascii_boxes skin → inner ≡ line_skin skin (front_of row)
+    → columns ≡ columns_behind ascii outer row.gutters → full ≡ (filled || in_box skin row.gutters) → linked_behind skin outer filled row ≡ linked_pieces row.marks row.number inner columns full row.line
+behind_by skin outer filled row ascii inner columns full ascii_is inner_is columns_is full_is =
     let columns_so : columns ≡ columns_behind (has_ascii_boxes skin) outer row.gutters = columns_is ∙ ap (λ (t : Bool). columns_behind t outer row.gutters) ascii_is in
-    ap (λ (s : RowSkin). pieces_on a (old, None) (linked_pieces row.marks row.number s (columns_behind (has_ascii_boxes skin) outer row.gutters) (filled || in_box skin row.gutters) row.line)) (sym inner_is)
-    ∙ ap (λ (o : Option ℕ). pieces_on a (old, None) (linked_pieces row.marks row.number inner o (filled || in_box skin row.gutters) row.line)) (sym columns_so)
-    ∙ ap (λ (t : Bool). pieces_on a (old, None) (linked_pieces row.marks row.number inner columns t row.line)) (sym full_is)
-    ∙ line_on row.marks row.number inner columns full row.line a old new other is
+    ap (λ (s : RowSkin). linked_pieces row.marks row.number s (columns_behind (has_ascii_boxes skin) outer row.gutters) (filled || in_box skin row.gutters) row.line) (sym inner_is)
+    ∙ ap (λ (o : Option ℕ). linked_pieces row.marks row.number inner o (filled || in_box skin row.gutters) row.line) (sym columns_so)
+    ∙ ap (λ (t : Bool). linked_pieces row.marks row.number inner columns t row.line) (sym full_is)
+
+-- a row of a table
+pub table_line : (skin : RowSkin) (outer : Option ℕ) (filled : Bool) (row : RowContent) (ascii : Bool) (inner : RowSkin) (columns : Option ℕ) (full : Bool) (a : List (Option (List ℕ))) (old new : List ℕ) (table : FmtTableRow) → ascii ≡ has_ascii_boxes skin
+    → inner ≡ line_skin skin (front_of row) → columns ≡ columns_behind ascii outer row.gutters → full ≡ (filled || in_box skin row.gutters) → row.line ≡ TableRow table
+    → pieces_on a (old, None) (linked_table_row (paint_by []) has_mark row.marks inner columns full (firsts_of has_mark row.number table.cells.items) table.cells.items) ≡ (new, None) → pieces_on a (old, None) (linked_behind skin outer filled row) ≡ (new, None)
+table_line skin outer filled row ascii inner columns full a old new table ascii_is inner_is columns_is full_is is done =
+    ap (pieces_on a (old, None)) (behind_by skin outer filled row ascii inner columns full ascii_is inner_is columns_is full_is)
+    ∙ ap (λ (x : FmtLine). pieces_on a (old, None) (linked_pieces row.marks row.number inner columns full x)) is ∙ done
+
+-- any other line
+pub other_line : (skin : RowSkin) (outer : Option ℕ) (filled : Bool) (row : RowContent) (ascii : Bool) (inner : RowSkin) (columns : Option ℕ) (full : Bool) (a : List (Option (List ℕ))) (old new : List ℕ) → ascii ≡ has_ascii_boxes skin → inner ≡ line_skin skin (front_of row)
+    → columns ≡ columns_behind ascii outer row.gutters → full ≡ (filled || in_box skin row.gutters) → ((l : FmtComposite) → row.line ≡ Normal l → ⊥) → ((table : FmtTableRow) → row.line ≡ TableRow table → ⊥)
+    → new ≡ old ++ pieces_bytes (line_pieces inner columns full row.line) → pieces_on a (old, None) (linked_behind skin outer filled row) ≡ (new, None)
+other_line skin outer filled row ascii inner columns full a old new ascii_is inner_is columns_is full_is other no_row is =
+    ap (pieces_on a (old, None)) (behind_by skin outer filled row ascii inner columns full ascii_is inner_is columns_is full_is)
+    ∙ line_on row.marks row.number inner columns full row.line a old new other no_row is
 
 -- no side of a box
 pub no_side : (a : List (Option (List ℕ))) (row : List ℕ × Option ℕ) (style : CompoundStyle) (n : ℕ) (sides : List RowPiece) → spaces style n ≡ sides → n ≡ 0 → pieces_on a row (map in_no_link sides) ≡ row
@@ -139,21 +156,17 @@ paints_nothing zero style = refl
 paints_nothing (suc v) style = refl
 
 pieces_shown : (runs : List MarkRun) (n : ℕ) (skin : RowSkin) (outer : Option ℕ) (filled : Bool) (line : FmtLine) → AreShownPieces (line_pieces skin outer filled line) → AreShownPieces (without_links (linked_pieces runs n skin outer filled line))
-pieces_shown runs n skin outer filled (Normal l) h =
-    subst AreShownPieces (sym (line_without (paint_by []) has_mark runs skin outer filled (n ∷ []) (Normal l))) (line_shown (paint_by []) has_mark runs skin outer filled (n ∷ []) (Normal l) h)
-pieces_shown runs n skin outer filled (TableRow row) h = subst AreShownPieces (sym (plain_without (line_pieces skin outer filled (TableRow row)))) h
-pieces_shown runs n skin outer filled (TableRule rule) h = subst AreShownPieces (sym (plain_without (line_pieces skin outer filled (TableRule rule)))) h
-pieces_shown runs n skin outer filled HorizontalRule h = subst AreShownPieces (sym (plain_without (line_pieces skin outer filled HorizontalRule))) h
+pieces_shown runs n skin outer filled line h =
+    let ns = firsts_of has_mark n (cells_of line) in
+    subst AreShownPieces (sym (line_without (paint_by []) has_mark runs skin outer filled ns line)) (line_shown (paint_by []) has_mark runs skin outer filled ns line h)
 
 keeps_known : KeepsKnown (paint_by [])
 keeps_known v style h = subst IsStyle (sym (paints_nothing v style)) h
 
 pieces_known : (runs : List MarkRun) (n : ℕ) (skin : RowSkin) (outer : Option ℕ) (filled : Bool) (line : FmtLine) → AreKnown (line_pieces skin outer filled line) → AreKnown (without_links (linked_pieces runs n skin outer filled line))
-pieces_known runs n skin outer filled (Normal l) h =
-    subst AreKnown (sym (line_without (paint_by []) has_mark runs skin outer filled (n ∷ []) (Normal l))) (line_known (paint_by []) has_mark runs skin outer filled (n ∷ []) (Normal l) keeps_known h)
-pieces_known runs n skin outer filled (TableRow row) h = subst AreKnown (sym (plain_without (line_pieces skin outer filled (TableRow row)))) h
-pieces_known runs n skin outer filled (TableRule rule) h = subst AreKnown (sym (plain_without (line_pieces skin outer filled (TableRule rule)))) h
-pieces_known runs n skin outer filled HorizontalRule h = subst AreKnown (sym (plain_without (line_pieces skin outer filled HorizontalRule))) h
+pieces_known runs n skin outer filled line h =
+    let ns = firsts_of has_mark n (cells_of line) in
+    subst AreKnown (sym (line_without (paint_by []) has_mark runs skin outer filled ns line)) (line_known (paint_by []) has_mark runs skin outer filled ns line keeps_known h)
 
 shown_both : (ps qs : List RowPiece) → AreShownPieces ps → AreShownPieces qs → AreShownPieces (ps ++ qs)
 shown_both [] qs a b = b
@@ -227,12 +240,9 @@ tells_all v style = ap look_of_style (paints_nothing v style)
 
 line_told : (runs : List MarkRun) (n : ℕ) (skin : RowSkin) (outer : Option ℕ) (filled : Bool) (line : FmtLine) → AreTexts line
     → told_chars all_told (without_links (linked_pieces runs n skin outer filled line)) ≡ told_chars all_told (line_pieces skin outer filled line)
-line_told runs n skin outer filled (Normal l) h =
-    ap (told_chars all_told) (line_without (paint_by []) has_mark runs skin outer filled (n ∷ []) (Normal l))
-    ∙ chars_told all_told (paint_by []) has_mark runs skin outer filled (n ∷ []) (Normal l) tells_all h
-line_told runs n skin outer filled (TableRow row) h = ap (told_chars all_told) (plain_without (line_pieces skin outer filled (TableRow row)))
-line_told runs n skin outer filled (TableRule rule) h = ap (told_chars all_told) (plain_without (line_pieces skin outer filled (TableRule rule)))
-line_told runs n skin outer filled HorizontalRule h = ap (told_chars all_told) (plain_without (line_pieces skin outer filled HorizontalRule))
+line_told runs n skin outer filled line h =
+    let ns = firsts_of has_mark n (cells_of line) in
+    ap (told_chars all_told) (line_without (paint_by []) has_mark runs skin outer filled ns line) ∙ chars_told all_told (paint_by []) has_mark runs skin outer filled ns line tells_all h
 
 -- THE LAW: a row shows the same characters with the same pens
 pub row_unchanged : LinksChangeNothing

@@ -1,21 +1,21 @@
 -- The rows of a page, section by section.
-use Rattle.std.proofs.Common.{◌≡◌, ℕ, ◌<◌, List, [], ◌∷◌, ◌++◌, length, Option, Some, None, Result, Ok, Err, OnOk, slice_get, drop, refl, subst, ap, sym, ◌∙◌, append_assoc, append-nil, arith}
+use Rattle.std.proofs.Common.{◌≡◌, ℕ, ◌<◌, Bool, List, [], ◌∷◌, ◌++◌, length, Option, Some, None, Result, Ok, Err, OnOk, slice_get, drop, refl, subst, ap, sym, ◌∙◌, append_assoc, append-nil, arith}
 use Rattle.std.specs.List.{flat_map}
 use Rattle.mad_rows.specs.RowStyles.{line_rules}
 use Rattle.mad_rows.specs.declared.row_skin.RowSkin.{RowSkin}
 use Rattle.mad_sections.specs.Sections.{SectionContent}
-use Rattle.mad_pages.specs.PageLayouts.{BecomesAt, IsPageAt}
+use Rattle.mad_pages.specs.PageLayouts.{BecomesAt}
 use Rattle.mad_pages.specs.PageRows.{RowContent}
+use Rattle.mad_format.specs.LineRules.{LineRules}
+use Rattle.markdown_linked_pages.specs.CellMarks.{column_marks, with_cell_marks}
 use Rattle.mad_format.proofs.ListLemmas.{both_become}
 use Rattle.mad_mark_runs.specs.declared.mark_runs.MarkRun.{MarkRun}
 use Rattle.mad_page_skin.specs.PageSkins.{page_row_skin}
 use Rattle.mad_page_skin.specs.declared.page_skin.PageSkin.{PageSkin}
 use Rattle.markdown_reader.specs.Mapping.{LinkSaid}
-use Rattle.markdown_layout.specs.WrittenPages.{IsDressedAt}
-use Rattle.markdown_linked_pages.specs.LinkedPages.{addresses_of, linked_page, linked_rows_bytes, linked_text_bytes}
+use Rattle.markdown_linked_pages.specs.LinkedPages.{addresses_of, linked_page, linked_rows_bytes, linked_text_bytes, IsLinkedAt, IsLinkedPageAt, IsLinkedTextAt}
 use Rattle.mad_dressing.specs.Dressed.{dressed, dressed_page}
 use Rattle.mad_dressing.specs.declared.page_marks.PageMarks.{PageMarks}
-use Rattle.mad_pages.proofs.PageLemmas.{LaidSoFar, laid_none, laid_on, laid_whole}
 use Rattle.mad_page_rows.specs.Faces.{has_ascii_boxes}
 
 -- what is written of some rows and others is that of these, and then that of the others
@@ -26,61 +26,62 @@ rows_join written (row ∷ rows) others = ap (λ (b : List ℕ). written row ++ 
 -- so far the rows of the front sections are put after those that were there, each as it is written
 pub record WrittenSoFar (written : RowContent → List ℕ) (skin : RowSkin) (width : Option ℕ) (all left : List SectionContent) (start now : List ℕ) : Type 0 where
   pub own : List RowContent
-  pub laid : LaidSoFar (line_rules skin) (has_ascii_boxes skin) width all left own
+  pub front : List SectionContent
+  pub joins : all ≡ front ++ left
+  pub layout : IsLinkedPageAt (line_rules skin) (has_ascii_boxes skin) width front own
   pub bytes : now ≡ start ++ flat_map written own
 
 -- before the first section no row is put
 pub written_none : (written : RowContent → List ℕ) (skin : RowSkin) (width : Option ℕ) (all : List SectionContent) (start : List ℕ) → WrittenSoFar written skin width all all start start
-written_none written skin width all start = record { own = []; laid = laid_none (line_rules skin) (has_ascii_boxes skin) width all; bytes = sym (append-nil start) }
+written_none written skin width all start = record { own = []; front = []; joins = refl; layout = refl; bytes = sym (append-nil start) }
 
 bytes_on : (written : RowContent → List ℕ) (start before now : List ℕ) (own more : List RowContent) → before ≡ start ++ flat_map written own → now ≡ before ++ flat_map written more → now ≡ start ++ flat_map written (own ++ more)
 bytes_on written start before now own more first next =
     next ∙ ap (λ (b : List ℕ). b ++ flat_map written more) first ∙ append_assoc start (flat_map written own) (flat_map written more) ∙ ap (λ (b : List ℕ). start ++ b) (sym (rows_join written own more))
 
--- the rows of one more section are put behind the others
-pub written_on : (written : RowContent → List ℕ) (skin : RowSkin) (width : Option ℕ) (all left after : List SectionContent) (s : SectionContent) (start before now : List ℕ) (own : List RowContent)
-    → WrittenSoFar written skin width all left start before → left ≡ s ∷ after → BecomesAt (line_rules skin) (has_ascii_boxes skin) width s own → now ≡ before ++ flat_map written own → WrittenSoFar written skin width all after start now
-written_on written skin width all left after s start before now own h joins becomes bytes =
-    record {
-      own = h.own ++ own;
-      laid = laid_on (line_rules skin) (has_ascii_boxes skin) width all left after h.own (h.own ++ own) h.laid (record { first = s; joins = joins; own = own; added = refl; layout = becomes });
-      bytes = bytes_on written start before now h.own own h.bytes bytes;
-    }
+-- the rows that become of a section are put, each of a table with the marks of its cells
+pub section_written : {T E : Type 0} (r : Result T E) (written : RowContent → List ℕ) (rules : LineRules) (ascii : Bool) (width : Option ℕ) (section : SectionContent) (found : List (List ℕ)) (rows : List RowContent) (before now : List ℕ) → found ≡ column_marks section
+    → (own : List RowContent) × (rows ≡ own) × BecomesAt rules ascii width section own → OnOk r (now ≡ before ++ flat_map written (with_cell_marks found rows))
+    → OnOk r ((own : List RowContent) × IsLinkedAt rules ascii width section own × (now ≡ before ++ flat_map written own))
+section_written {T} {E} (Ok x) written rules ascii width section found rows before now found_is (own, rows_are, becomes) is = (
+  with_cell_marks (column_marks section) own,
+  (own, becomes, refl),
+  is ∙ ap (λ (c : List (List ℕ)). before ++ flat_map written (with_cell_marks c rows)) found_is ∙ ap (λ (rs : List RowContent). before ++ flat_map written (with_cell_marks (column_marks section) rs)) rows_are,
+)
+section_written {T} {E} (Err x) written rules ascii width section found rows before now found_is pushed is = tt
 
 -- ---- what stands beside headings
 
 -- a section that is shown alone in its place
-pub one_shown : (skin : RowSkin) (width : Option ℕ) (shown : List SectionContent) (s : SectionContent) (own : List RowContent) → s ∷ [] ≡ shown → BecomesAt (line_rules skin) (has_ascii_boxes skin) width s own → IsPageAt (line_rules skin) (has_ascii_boxes skin) width shown own
+pub one_shown : (skin : RowSkin) (width : Option ℕ) (shown : List SectionContent) (s : SectionContent) (own : List RowContent) → s ∷ [] ≡ shown → IsLinkedAt (line_rules skin) (has_ascii_boxes skin) width s own → IsLinkedPageAt (line_rules skin) (has_ascii_boxes skin) width shown own
 one_shown skin width shown s own is h =
-    subst (λ (ss : List SectionContent). IsPageAt (line_rules skin) (has_ascii_boxes skin) width ss own) is (own, [], sym (append-nil own), h, refl)
+    subst (λ (ss : List SectionContent). IsLinkedPageAt (line_rules skin) (has_ascii_boxes skin) width ss own) is (own, [], sym (append-nil own), h, refl)
 
 -- a section that is shown with a rule below it
-two_shown : (skin : RowSkin) (width : Option ℕ) (shown : List SectionContent) (s rule : SectionContent) (own below : List RowContent) → s ∷ rule ∷ [] ≡ shown → BecomesAt (line_rules skin) (has_ascii_boxes skin) width s own
-    → BecomesAt (line_rules skin) (has_ascii_boxes skin) width rule below → IsPageAt (line_rules skin) (has_ascii_boxes skin) width shown (own ++ below)
+two_shown : (skin : RowSkin) (width : Option ℕ) (shown : List SectionContent) (s rule : SectionContent) (own below : List RowContent) → s ∷ rule ∷ [] ≡ shown → IsLinkedAt (line_rules skin) (has_ascii_boxes skin) width s own
+    → IsLinkedAt (line_rules skin) (has_ascii_boxes skin) width rule below → IsLinkedPageAt (line_rules skin) (has_ascii_boxes skin) width shown (own ++ below)
 two_shown skin width shown s rule own below is h k =
-    subst (λ (ss : List SectionContent). IsPageAt (line_rules skin) (has_ascii_boxes skin) width ss (own ++ below)) is (own, below, refl, h, (below, [], sym (append-nil below), k, refl))
+    subst (λ (ss : List SectionContent). IsLinkedPageAt (line_rules skin) (has_ascii_boxes skin) width ss (own ++ below)) is (own, below, refl, h, (below, [], sym (append-nil below), k, refl))
 
 -- so it is with a section, and then with its rule
 pub rule_laid : {T E : Type 0} (r : Result T E) (written : RowContent → List ℕ) (skin : RowSkin) (width : Option ℕ) (shown : List SectionContent) (s rule : SectionContent) (before mid now : List ℕ) → s ∷ rule ∷ [] ≡ shown
-    → (own : List RowContent) × BecomesAt (line_rules skin) (has_ascii_boxes skin) width s own × (mid ≡ before ++ flat_map written own)
-    → OnOk r ((own : List RowContent) × BecomesAt (line_rules skin) (has_ascii_boxes skin) width rule own × (now ≡ mid ++ flat_map written own))
-    → OnOk r ((own : List RowContent) × IsPageAt (line_rules skin) (has_ascii_boxes skin) width shown own × (now ≡ before ++ flat_map written own))
+    → (own : List RowContent) × IsLinkedAt (line_rules skin) (has_ascii_boxes skin) width s own × (mid ≡ before ++ flat_map written own)
+    → OnOk r ((own : List RowContent) × IsLinkedAt (line_rules skin) (has_ascii_boxes skin) width rule own × (now ≡ mid ++ flat_map written own))
+    → OnOk r ((own : List RowContent) × IsLinkedPageAt (line_rules skin) (has_ascii_boxes skin) width shown own × (now ≡ before ++ flat_map written own))
 rule_laid {T} {E} (Ok x) written skin width shown s rule before mid now is (own, laid, first) (below, ruled, next) =
     (own ++ below, two_shown skin width shown s rule own below is laid ruled, bytes_on written before mid now own below first next)
 rule_laid {T} {E} (Err x) written skin width shown s rule before mid now is h k = tt
 
 -- the rows of what is shown of one more section of a text are put behind the others
 pub dressed_on : (written : RowContent → List ℕ) (skin : RowSkin) (marks : PageMarks) (width : Option ℕ) (all left after : List SectionContent) (s : SectionContent) (start before now : List ℕ) (own : List RowContent)
-    → WrittenSoFar written skin width (dressed_page marks all) (dressed_page marks left) start before → left ≡ s ∷ after → IsPageAt (line_rules skin) (has_ascii_boxes skin) width (dressed marks s) own → now ≡ before ++ flat_map written own
+    → WrittenSoFar written skin width (dressed_page marks all) (dressed_page marks left) start before → left ≡ s ∷ after → IsLinkedPageAt (line_rules skin) (has_ascii_boxes skin) width (dressed marks s) own → now ≡ before ++ flat_map written own
     → WrittenSoFar written skin width (dressed_page marks all) (dressed_page marks after) start now
 dressed_on written skin marks width all left after s start before now own h joins page bytes =
     record {
       own = h.own ++ own;
-      laid = record {
-        front = h.laid.front ++ dressed marks s;
-        joins = h.laid.joins ∙ ap (λ (ss : List SectionContent). h.laid.front ++ dressed_page marks ss) joins ∙ sym (append_assoc h.laid.front (dressed marks s) (dressed_page marks after));
-        layout = both_become (BecomesAt (line_rules skin) (has_ascii_boxes skin) width) h.laid.front (dressed marks s) h.own own h.laid.layout page;
-      };
+      front = h.front ++ dressed marks s;
+      joins = h.joins ∙ ap (λ (ss : List SectionContent). h.front ++ dressed_page marks ss) joins ∙ sym (append_assoc h.front (dressed marks s) (dressed_page marks after));
+      layout = both_become (IsLinkedAt (line_rules skin) (has_ascii_boxes skin) width) h.front (dressed marks s) h.own own h.layout page;
       bytes = bytes_on written start before now h.own own h.bytes bytes;
     }
 
@@ -88,8 +89,10 @@ dressed_on written skin marks width all left after s start before now own h join
 
 -- where no section is left, the rows of the page are put
 pub written_whole : (written : RowContent → List ℕ) (skin : RowSkin) (width : Option ℕ) (all left : List SectionContent) (start now : List ℕ) → WrittenSoFar written skin width all left start now → left ≡ []
-    → (own : List RowContent) × IsPageAt (line_rules skin) (has_ascii_boxes skin) width all own × (now ≡ start ++ flat_map written own)
-written_whole written skin width all left start now h none = (h.own, laid_whole (line_rules skin) (has_ascii_boxes skin) width all left h.own h.own h.laid none refl, h.bytes)
+    → (own : List RowContent) × IsLinkedPageAt (line_rules skin) (has_ascii_boxes skin) width all own × (now ≡ start ++ flat_map written own)
+written_whole written skin width all left start now h none =
+    let whole : h.front ≡ all = sym (append-nil h.front) ∙ ap (λ (ss : List SectionContent). h.front ++ ss) (sym none) ∙ sym h.joins in
+    (h.own, subst (λ (ss : List SectionContent). IsLinkedPageAt (line_rules skin) (has_ascii_boxes skin) width ss h.own) whole h.layout, h.bytes)
 
 -- the first of some sections, and those after it
 pub first_left : (left after : List SectionContent) (s : SectionContent) → Some s ≡ slice_get left 0 → after ≡ drop 1 left → left ≡ s ∷ after
@@ -118,11 +121,11 @@ shorter_left left after s e = omega (arith, ap length e)
 
 -- the rows of a text that was read are those of its source
 pub text_written : (skin : PageSkin) (width : Option ℕ) (links all_links : List LinkSaid) (marks all_marks : List (List MarkRun)) (page all_page : List SectionContent) (addresses : List (Option (List ℕ))) (before now : List ℕ) → links ≡ all_links → marks ≡ all_marks → page ≡ all_page
-    → addresses ≡ addresses_of links → before ≡ [] → (own : List RowContent) × IsDressedAt skin width (linked_page links marks page) own × (now ≡ before ++ linked_rows_bytes addresses (page_row_skin skin) width own)
-    → (own : List RowContent) × IsDressedAt skin width (linked_page all_links all_marks all_page) own × (now ≡ linked_text_bytes all_links skin width own)
+    → addresses ≡ addresses_of links → before ≡ [] → (own : List RowContent) × IsLinkedTextAt skin width (linked_page links marks page) own × (now ≡ before ++ linked_rows_bytes addresses (page_row_skin skin) width own)
+    → (own : List RowContent) × IsLinkedTextAt skin width (linked_page all_links all_marks all_page) own × (now ≡ linked_text_bytes all_links skin width own)
 text_written skin width links all_links marks all_marks page all_page addresses before now links_are marks_are page_is addresses_are none (own, dressed, bytes) = (
   own,
-  subst (λ (ls : List LinkSaid). IsDressedAt skin width (linked_page ls all_marks all_page) own) links_are
-      (subst (λ (ms : List (List MarkRun)). IsDressedAt skin width (linked_page links ms all_page) own) marks_are (subst (λ (ps : List SectionContent). IsDressedAt skin width (linked_page links marks ps) own) page_is dressed)),
+  subst (λ (ls : List LinkSaid). IsLinkedTextAt skin width (linked_page ls all_marks all_page) own) links_are
+      (subst (λ (ms : List (List MarkRun)). IsLinkedTextAt skin width (linked_page links ms all_page) own) marks_are (subst (λ (ps : List SectionContent). IsLinkedTextAt skin width (linked_page links marks ps) own) page_is dressed)),
   bytes ∙ ap (λ (b : List ℕ). b ++ linked_rows_bytes addresses (page_row_skin skin) width own) none ∙ ap (λ as_written. linked_rows_bytes as_written (page_row_skin skin) width own) (addresses_are ∙ ap addresses_of links_are),
 )

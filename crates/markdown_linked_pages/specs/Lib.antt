@@ -1,3 +1,6 @@
+pub mod CellLaws
+pub mod CellMarks
+pub mod ColumnsKept
 pub mod LinkedPageLaws
 pub mod LinkedPageRows
 pub mod LinkedPages

@@ -1,10 +1,9 @@
 -- Rows of a page with links.
 use Rattle.std.specs.Prelude.{ℕ, nat_lt, ◌||◌, Bool, false, List, [], ◌∷◌, ◌++◌, map, Option}
 use Rattle.mad_format.specs.declared.line.FmtLine.{FmtLine}
-use Rattle.mad_format.specs.declared.line.FmtLine.TheVariants.{Normal}
 use Rattle.mad_mark_runs.specs.declared.mark_runs.MarkRun.{MarkRun}
 use Rattle.mad_marks.specs.LineMarks.{has_mark}
-use Rattle.mad_rows.specs.Rows.{line_pieces}
+use Rattle.mad_marks.specs.RowNumbers.{cells_of, firsts_of}
 use Rattle.mad_rows.specs.declared.row_skin.RowSkin.{RowSkin}
 use Rattle.mad_links.specs.LinkRows.{LinkedPiece}
 use Rattle.mad_links.specs.LinkedAreas.{in_no_link}
@@ -19,11 +18,10 @@ abbrev pub lead : List MarkRun → Bool
 lead [] = false
 lead (run ∷ runs) = nat_lt 8 run.value
 
--- A line with its links: a composite's text is cut where its link changes, and each part is in its link. A line of a table is in none. So many
--- counted characters stand before the line. Links change no style.
+-- A line with its links: a composite's text, or that of a cell, is cut where its link changes, and each part is in its link. So many counted characters stand
+-- before the line, and before each cell those of the cells before it too. Links change no style.
 abbrev pub linked_pieces : List MarkRun → ℕ → RowSkin → Option ℕ → Bool → FmtLine → List LinkedPiece
-linked_pieces runs n skin outer filled (Normal l) = linked_line (paint_by []) has_mark runs skin outer filled (n ∷ []) (Normal l)
-linked_pieces runs n skin outer filled line = map in_no_link (line_pieces skin outer filled line)
+linked_pieces runs n skin outer filled line = linked_line (paint_by []) has_mark runs skin outer filled (firsts_of has_mark n (cells_of line)) line
 
 -- the pieces of a row's line, in the columns that its gutters leave; in a box it fills them
 abbrev pub linked_behind : RowSkin → Option ℕ → Bool → RowContent → List LinkedPiece

@@ -1,21 +1,28 @@
 -- Pages written with links.
-use Rattle.std.specs.Prelude.{ℕ, ◌+◌, nat_lt, if◌then◌else◌, Result, List, [], ◌∷◌, ◌++◌, map, slice_index_or, Option, None, false}
+use Rattle.std.specs.Prelude.{◌≡◌, ℕ, ◌+◌, Bool, nat_lt, if◌then◌else◌, Result, List, [], ◌∷◌, ◌++◌, map, slice_index_or, Option, None, false}
 use Rattle.std.specs.List.{flat_map}
 use Rattle.mad_mark_runs.specs.declared.mark_runs.MarkRun.{MarkRun}
 use Rattle.mad_rows.specs.declared.row_skin.RowSkin.{RowSkin}
 use Rattle.mad_sections.specs.Sections.{SectionContent}
+use Rattle.mad_pages.specs.PageLayouts.{BecomesAt}
 use Rattle.mad_pages.specs.PageRows.{RowContent}
+use Rattle.mad_dressing.specs.Dressed.{dressed_page}
+use Rattle.mad_format.specs.LineRules.{LineRules}
+use Rattle.mad_format.specs.Lists.{EachBecomes}
+use Rattle.mad_page_rows.specs.Faces.{has_ascii_boxes}
+use Rattle.mad_rows.specs.RowStyles.{line_rules}
+use Rattle.markdown_linked_pages.specs.CellMarks.{column_marks, with_cell_marks}
 use Rattle.mad_links.specs.Addresses.{link_address}
 use Rattle.mad_links.specs.LinkRows.{LinkedPiece, begun_bytes, change_bytes}
 use Rattle.markdown_linked_pages.specs.LinkedPageRows.{lead, linked_row_pieces}
-use Rattle.mad_page_skin.specs.PageSkins.{page_row_skin}
+use Rattle.mad_page_skin.specs.PageSkins.{page_marks, page_row_skin}
 use Rattle.mad_page_skin.specs.declared.page_skin.PageSkin.{PageSkin}
 use Rattle.mad_term.specs.Draws.{DrawsSome}
 use Rattle.mad_term.specs.Trace.{Trace}
 use Rattle.mad_term.specs.declared.errors.Error.{Error}
 use Rattle.markdown_reader.specs.Mapping.{LinkSaid}
 use Rattle.markdown_layout.specs.RowEnds.{without_end}
-use Rattle.markdown_layout.specs.WrittenPages.{IsDressedAt, row_bytes}
+use Rattle.markdown_layout.specs.WrittenPages.{row_bytes}
 
 -- ---- rows
 
@@ -75,7 +82,19 @@ linked_page links marks page = linked_from links marks 0 page
 abbrev pub linked_text_bytes : List LinkSaid → PageSkin → Option ℕ → List RowContent → List ℕ
 linked_text_bytes links skin width rows = linked_rows_bytes (addresses_of links) (page_row_skin skin) width rows
 
+-- The rows are those of a section with links at a width, if there is one: those that become of it, and of these each of a table has the marks of its own cells.
+abbrev pub IsLinkedAt : LineRules → Bool → Option ℕ → SectionContent → List RowContent → Type 0
+IsLinkedAt rules ascii width section rows = (own : List RowContent) × BecomesAt rules ascii width section own × (rows ≡ with_cell_marks (column_marks section) own)
+
+-- they are those of a page with links: those of its sections, in order
+abbrev pub IsLinkedPageAt : LineRules → Bool → Option ℕ → List SectionContent → List RowContent → Type 0
+IsLinkedPageAt rules ascii width page rows = EachBecomes (IsLinkedAt rules ascii width) page rows
+
+-- they are those of a page of a text in its skin: of these sections, with what stands in such a page and isn't their own
+abbrev pub IsLinkedTextAt : PageSkin → Option ℕ → List SectionContent → List RowContent → Type 0
+IsLinkedTextAt skin width page rows = IsLinkedPageAt (line_rules (page_row_skin skin)) (has_ascii_boxes (page_row_skin skin)) width (dressed_page (page_marks skin) page) rows
+
 -- What a call does that writes a text which says these sections, with these links, and marks of them for each section. It draws the rows of a page of its
 -- sections, with the rules and signs of headings, each in its links; or memory for the rows was refused, and nothing went out.
 abbrev pub WritesLinked : {T : Type 0} → PageSkin → Option ℕ → List SectionContent → List LinkSaid → List (List MarkRun) → Trace → Result T Error → Trace → Type 0
-WritesLinked skin width page links marks old r new = DrawsSome (IsDressedAt skin width (linked_page links marks page)) (linked_text_bytes links skin width) old r new
+WritesLinked skin width page links marks old r new = DrawsSome (IsLinkedTextAt skin width (linked_page links marks page)) (linked_text_bytes links skin width) old r new

@@ -1,5 +1,6 @@
 //! Laws, each the contract of a small function: what is shown of rows with links, and where they lead.
 
+ghost use Rattle.markdown_linked_pages.specs.CellLaws.{CellsHaveTheirMarks, TablesHaveTheirMarks};
 ghost use Rattle.markdown_linked_pages.specs.LinkedPageLaws.{PagesAreWritten, RowsAreWritten};
 ghost use Rattle.markdown_linked_pages.specs.LinkedRowLaws.{LinksAreInTheirCells, LinksChangeNothing, NoAddressNoByte, RowsAreTheSame, RowsAreWoven};
 ghost use Rattle.markdown_linked_pages.specs.MarkLaws.{RowsHaveTheirMarks};
@@ -47,4 +48,16 @@ pub fn pages_are_written()
 #[tactic(auto, using(crate::proofs::RowMarkLemmas::rows_have_marks))]
 pub fn rows_have_their_marks()
     ensures { RowsHaveTheirMarks }
+{}
+
+/// Down each column of a table the k-th character that belongs to links has the k-th of the column's marks, over all rows that are drawn of the table.
+#[tactic(auto, using(crate::proofs::CellLawLemmas::cells_have_marks))]
+pub fn cells_have_their_marks()
+    ensures { CellsHaveTheirMarks }
+{}
+
+/// Where a section with links is shown as a whole table, each column has the characters of links that the text says, in order, each with the mark that it has in the
+/// section.
+pub fn tables_have_their_marks()
+    ensures { TablesHaveTheirMarks }
 {}

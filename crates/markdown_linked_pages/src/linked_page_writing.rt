@@ -3,17 +3,21 @@
 ghost use Rattle.std.specs.Prelude.{◌≡◌, ◌++◌, false, List, OnOk, map, string_bytes};
 ghost use Rattle.mad_rows.specs.RowStyles.{line_rules};
 ghost use Rattle.mad_sections.specs.Sections.{section_content};
-ghost use Rattle.mad_pages.specs.PageLayouts.{BecomesAt, IsPageAt};
 ghost use Rattle.mad_pages.specs.PageRows.{RowContent, row_content};
 ghost use Rattle.mad_dressing.specs.Dressed.{dressed};
 ghost use Rattle.mad_page_rows.specs.Faces.{has_ascii_boxes};
 ghost use Rattle.markdown_linked_pages.specs.LinkedPageRows.{linked_row_pieces};
-ghost use Rattle.markdown_linked_pages.specs.LinkedPages.{ended_pieces, linked_row_bytes, linked_rows_bytes, with_link_marks};
+ghost use Rattle.markdown_linked_pages.specs.CellMarks.{left_by, own_row, with_cell_marks};
+ghost use Rattle.markdown_linked_pages.specs.ColumnsKept.{column_values, values_left};
+ghost use Rattle.markdown_linked_pages.specs.LinkedPages.{ended_pieces, linked_row_bytes, linked_rows_bytes, with_link_marks, IsLinkedAt, IsLinkedPageAt};
 
+use crate::cell_marks::{take_cells, whole_columns};
+use crate::column_marks::column_marks;
 use crate::link_marks::with_link_marks;
 use crate::linked_rows::{LinkedSkin, append_linked_row, lead};
 use crate::row_ends::take_ends;
 use mad_dressing::{PageMarks, dress, dressing_of};
+use mad_format::FmtLine;
 use mad_links::push_end;
 use mad_mark_runs::MarkRun;
 use mad_page_rows::has_ascii_boxes;
@@ -42,7 +46,8 @@ fn append_leading_row(
 }
 
 /// Puts a row of a page, with its links, and a newline after the rows that are there, at a width in columns, if there is one. It ends in no blank that no
-/// style shows, and with no link open. A row without links is written as [`append_page_row`] does.
+/// style shows, and with no link open. A row without links is written as [`append_page_row`] does. One of a table has the marks of its own cells, as
+/// [`append_linked_section`] gives it.
 ///
 /// [`append_page_row`]: markdown_layout::append_page_row
 ///
@@ -65,29 +70,63 @@ pub fn append_linked_page_row(
     }
 }
 
-// Rows of a page, each with a newline.
-fn append_linked_page_rows(
+// A row of a section with links, and a newline. One of a table takes the marks of its cells of what is left of the columns.
+#[tactic(auto, using(crate::proofs::OwnRowLemmas::own_table, crate::proofs::OwnRowLemmas::own_other, crate::proofs::OwnRowLemmas::left_table, crate::proofs::OwnRowLemmas::left_other))]
+fn append_own_row(
+    alloc: Global,
     rows: &mut String,
-    page_rows: &[PageRow],
+    row: PageRow<'_>,
+    left: &mut [&[usize]],
     width: Option<usize>,
     skin: LinkedSkin<'_>,
     commands: &mut StyleCommands,
 ) -> Result<(), AllocError>
-    ensures { OnOk result (string_bytes rows.new ≡ string_bytes rows.old ++ linked_rows_bytes skin.entry.addresses.now skin.entry.skin.now width (map row_content page_rows.now)) }
+    ensures bytes { OnOk result (string_bytes rows.new ≡ string_bytes rows.old ++ linked_row_bytes skin.entry.addresses.now skin.entry.skin.now width (own_row (map values_left left.old) (row_content row.entry) row.entry.line)) }
+    ensures left { OnOk result (map values_left left.new ≡ left_by (map values_left left.old) row.entry.line) }
 {
-    let mut rest = page_rows;
-    while let [row, next @ ..] = rest {
-        append_linked_page_row(rows, row, width, skin, commands)?;
-        rest = next;
+    let mut marks = Vec::new(alloc);
+    match &row.line {
+        FmtLine::TableRow(table) => take_cells(&mut marks, left, &table.cells)?,
+        _ => return append_linked_page_row(rows, &row, width, skin, commands),
+    }
+    let own = PageRow {
+        gutters: row.gutters,
+        fresh: row.fresh,
+        marks: marks.as_slice(),
+        number: 0,
+        head: row.head,
+        line: row.line,
+    };
+    append_linked_page_row(rows, &own, width, skin, commands)
+}
+
+// Rows of a section with links, each with a newline; those of its tables take their marks of these columns.
+#[tactic(auto, using(crate::proofs::OwnRowLemmas::row_put))]
+fn append_own_rows(
+    alloc: Global,
+    rows: &mut String,
+    page_rows: Vec<PageRow<'_>>,
+    columns: &[Vec<usize>],
+    width: Option<usize>,
+    skin: LinkedSkin<'_>,
+    commands: &mut StyleCommands,
+) -> Result<(), AllocError>
+    ensures { OnOk result (string_bytes rows.new ≡ string_bytes rows.old ++ linked_rows_bytes skin.entry.addresses.now skin.entry.skin.now width (with_cell_marks (map column_values columns.now) (map row_content page_rows.entry.items))) }
+{
+    let mut left = whole_columns(alloc, columns)?;
+    for row in page_rows {
+        append_own_row(alloc, rows, row, &mut left, width, skin, commands)?;
     }
     Ok(())
 }
 
-/// Puts the rows of a section, each with its links and a newline, after the rows that are there, at a width in columns, if there is one.
+/// Puts the rows of a section, each with its links and a newline, after the rows that are there, at a width in columns, if there is one. A row of a table has the
+/// links of its cells; where the table is shown as a list, it has none.
 ///
 /// # Errors
 ///
 /// Out of memory. What the rows then end with is open.
+#[tactic(auto, using(crate::proofs::WrittenLemmas::section_written))]
 pub fn append_linked_section(
     alloc: Global,
     rows: &mut String,
@@ -96,8 +135,9 @@ pub fn append_linked_section(
     skin: LinkedSkin<'_>,
     commands: &mut StyleCommands,
 ) -> Result<(), AllocError>
-    ensures { OnOk result ((own : List RowContent) × BecomesAt (line_rules skin.entry.skin.now) (has_ascii_boxes skin.entry.skin.now) width (section_content section.entry) own × (string_bytes rows.new ≡ string_bytes rows.old ++ linked_rows_bytes skin.entry.addresses.now skin.entry.skin.now width own)) }
+    ensures { OnOk result ((own : List RowContent) × IsLinkedAt (line_rules skin.entry.skin.now) (has_ascii_boxes skin.entry.skin.now) width (section_content section.entry) own × (string_bytes rows.new ≡ string_bytes rows.old ++ linked_rows_bytes skin.entry.addresses.now skin.entry.skin.now width own)) }
 {
+    let columns = column_marks(alloc, &section)?;
     let mut page_rows = Vec::new(alloc);
     push_section(
         alloc,
@@ -107,7 +147,15 @@ pub fn append_linked_section(
         has_ascii_boxes(skin.skin),
         skin.skin,
     )?;
-    append_linked_page_rows(rows, page_rows.as_slice(), width, skin, commands)
+    append_own_rows(
+        alloc,
+        rows,
+        page_rows,
+        columns.as_slice(),
+        width,
+        skin,
+        commands,
+    )
 }
 
 /// How a text with links is written.
@@ -129,7 +177,7 @@ fn append_linked_dressed(
     text: LinkedText<'_>,
     commands: &mut StyleCommands,
 ) -> Result<(), AllocError>
-    ensures { OnOk result ((own : List RowContent) × IsPageAt (line_rules text.entry.skin.skin.now) (has_ascii_boxes text.entry.skin.skin.now) text.entry.width (dressed text.entry.marks (section_content section.entry)) own × (string_bytes rows.new ≡ string_bytes rows.old ++ linked_rows_bytes text.entry.skin.addresses.now text.entry.skin.skin.now text.entry.width own)) }
+    ensures { OnOk result ((own : List RowContent) × IsLinkedPageAt (line_rules text.entry.skin.skin.now) (has_ascii_boxes text.entry.skin.skin.now) text.entry.width (dressed text.entry.marks (section_content section.entry)) own × (string_bytes rows.new ≡ string_bytes rows.old ++ linked_rows_bytes text.entry.skin.addresses.now text.entry.skin.skin.now text.entry.width own)) }
 {
     let dressing = dressing_of(alloc, &section, text.marks)?;
     let dressed = dress(alloc, section, &dressing)?;
@@ -156,7 +204,7 @@ pub(crate) fn append_marked_section(
     text: LinkedText<'_>,
     commands: &mut StyleCommands,
 ) -> Result<(), AllocError>
-    ensures { OnOk result ((own : List RowContent) × IsPageAt (line_rules text.entry.skin.skin.now) (has_ascii_boxes text.entry.skin.skin.now) text.entry.width (dressed text.entry.marks (with_link_marks marks.now (section_content section.entry))) own × (string_bytes rows.new ≡ string_bytes rows.old ++ linked_rows_bytes text.entry.skin.addresses.now text.entry.skin.skin.now text.entry.width own)) }
+    ensures { OnOk result ((own : List RowContent) × IsLinkedPageAt (line_rules text.entry.skin.skin.now) (has_ascii_boxes text.entry.skin.skin.now) text.entry.width (dressed text.entry.marks (with_link_marks marks.now (section_content section.entry))) own × (string_bytes rows.new ≡ string_bytes rows.old ++ linked_rows_bytes text.entry.skin.addresses.now text.entry.skin.skin.now text.entry.width own)) }
 {
     let marked = with_link_marks(section, marks);
     append_linked_dressed(alloc, rows, marked, text, commands)

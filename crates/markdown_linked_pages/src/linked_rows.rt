@@ -4,16 +4,18 @@ ghost use Rattle.std.specs.Prelude.{◌≡◌, ◌++◌, [], IfOk, OnOk, map, st
 ghost use Rattle.mad_draw.specs.Pieces.{pieces_bytes};
 ghost use Rattle.mad_links.specs.LinkRows.{begun_bytes};
 ghost use Rattle.mad_links.specs.LinkedAreas.{in_no_link};
-ghost use Rattle.mad_marked_rows.specs.LinkedRows.{linked_composite};
+ghost use Rattle.mad_marked_rows.specs.LinkedRows.{linked_composite, linked_table_row};
 ghost use Rattle.mad_marked_rows.specs.LinkedTexts.{pieces_on};
 ghost use Rattle.mad_marked_rows.specs.Paints.{paint_by};
 ghost use Rattle.mad_marks.specs.LineMarks.{has_mark};
+ghost use Rattle.mad_marks.specs.RowNumbers.{firsts_of};
 ghost use Rattle.mad_rows.specs.Rows.{line_pieces};
 ghost use Rattle.mad_pages.specs.Fronts.{front_of};
 ghost use Rattle.mad_pages.specs.PageRows.{row_content};
 ghost use Rattle.mad_page_rows.specs.Faces.{backs, faces, line_skin};
 ghost use Rattle.markdown_linked_pages.specs.LinkedPageRows.{lead, linked_behind, linked_row_pieces};
 
+use crate::cells::{TablePlace, append_linked_table_row};
 use crate::open_composites::append_open_composite;
 use mad_format::{FmtComposite, FmtLine};
 use mad_links::{LinkAddress, push_end};
@@ -128,6 +130,15 @@ fn append_linked_line(
                 skin.addresses,
             )
         }
+        FmtLine::TableRow(table) => {
+            let place = TablePlace {
+                number: row.number,
+                outer: columns,
+                filled,
+            };
+            append_cells(rows, &table.cells, place, &inner, row.marks, skin.addresses)?;
+            Ok(None)
+        }
         line => {
             append_plain_line(rows, line, columns, filled, &inner)?;
             Ok(None)
@@ -162,6 +173,28 @@ fn append_linked_composite<'x>(
         addresses,
     };
     append_open_composite(rows, composite, number, place, marked)
+}
+
+// A row of a table with its links, in such a skin.
+fn append_cells<'x>(
+    rows: &mut String,
+    cells: &[FmtComposite],
+    place: TablePlace,
+    skin: &'x RowSkin,
+    runs: &'x [MarkRun],
+    addresses: &'x [Option<LinkAddress>],
+) -> Result<(), AllocError>
+    ensures { OnOk result (pieces_on addresses.entry.now (string_bytes rows.old, None) (linked_table_row (paint_by []) has_mark runs.entry.now skin.entry.now place.outer place.filled (firsts_of has_mark place.number cells.now) cells.now) ≡ (string_bytes rows.new, None)) }
+{
+    let paint = no_tones();
+    let marked = MarkedSkin {
+        skin,
+        paint,
+        runs,
+        addresses,
+    };
+    append_linked_table_row(rows, cells, place, marked)?;
+    Ok(())
 }
 
 // A line without links.

@@ -8,8 +8,7 @@ ghost use Rattle.markdown_reader.specs.LinkMarks.{markdown_link_marks};
 ghost use Rattle.markdown_reader.specs.Markdown.{markdown_links, markdown_sections};
 ghost use Rattle.markdown_reader.specs.NumbersIn.{link_marks_said};
 ghost use Rattle.markdown_reader.specs.MarkdownSays.{links_said, markdown_says};
-ghost use Rattle.markdown_linked_pages.specs.LinkedPages.{linked_page, linked_rows_bytes, linked_text_bytes, WritesLinked};
-ghost use Rattle.markdown_layout.specs.WrittenPages.{IsDressedAt};
+ghost use Rattle.markdown_linked_pages.specs.LinkedPages.{linked_page, linked_rows_bytes, linked_text_bytes, IsLinkedTextAt, WritesLinked};
 
 use crate::link_marks::{addresses_of, links_before, numbered};
 use crate::linked_page_writing::{LinkedText, append_marked_section};
@@ -24,7 +23,7 @@ use std::alloc::{AllocError, Global};
 /// Writes a text of Markdown as [`write_markdown_on`] does, with its links as commands that terminals can follow (OSC 8). Nothing is flushed.
 ///
 /// A link is written where its address begins with `http:`, `https:`, `mailto:` or `file:`, and takes no more than 700 bytes. All of its parts have the
-/// number of the link in the text as their `id`, also over several rows. Links in tables are written as their text alone.
+/// number of the link in the text as their `id`, also over several rows. Links in tables that are shown as lists are written as their text alone.
 ///
 /// [`write_markdown_on`]: markdown_layout::write_markdown_on
 ///
@@ -52,7 +51,7 @@ fn linked_markdown_rows(
     markdown: &str,
     width: Option<usize>,
 ) -> Result<String, AllocError>
-    ensures { IfOk result (λ rows. (own : List RowContent) × IsDressedAt skin.now width (linked_page (markdown_links markdown.now) (markdown_link_marks markdown.now) (markdown_sections markdown.now)) own × (string_bytes rows ≡ linked_text_bytes (markdown_links markdown.now) skin.now width own)) }
+    ensures { IfOk result (λ rows. (own : List RowContent) × IsLinkedTextAt skin.now width (linked_page (markdown_links markdown.now) (markdown_link_marks markdown.now) (markdown_sections markdown.now)) own × (string_bytes rows ≡ linked_text_bytes (markdown_links markdown.now) skin.now width own)) }
 {
     let read = Markdown::read(alloc, markdown)?;
     let addresses = addresses_of(alloc, read.links())?;
@@ -70,7 +69,7 @@ fn append_linked_text(
     width: Option<usize>,
     skin: &PageSkin,
 ) -> Result<(), AllocError>
-    ensures { OnOk result ((own : List RowContent) × IsDressedAt skin.now width (linked_page (links_said read.now) (link_marks_said read.now) (markdown_says read.now)) own × (string_bytes rows.new ≡ string_bytes rows.old ++ linked_rows_bytes addresses.now (page_row_skin skin.now) width own)) }
+    ensures { OnOk result ((own : List RowContent) × IsLinkedTextAt skin.now width (linked_page (links_said read.now) (link_marks_said read.now) (markdown_says read.now)) own × (string_bytes rows.new ≡ string_bytes rows.old ++ linked_rows_bytes addresses.now (page_row_skin skin.now) width own)) }
 {
     let row_skin = skin.row_skin();
     let text = LinkedText {

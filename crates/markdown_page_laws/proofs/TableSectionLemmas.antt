@@ -1,6 +1,6 @@
 -- A section of Markdown has no row of a table, or is one that may be shown as a list.
 use Rattle.std.proofs.Common.{◌≡◌, inl, inr, ◌∙◌, ℕ, Bool, true, false, ◌&&◌, ◌==◌, List, [], ◌∷◌, ◌++◌, map, length, drop, Option, Some, None, refl, if◌then◌else◌}
-use Rattle.std.specs.List.{AllByRecursion}
+use Rattle.std.specs.List.{AllByRecursion, flat_map}
 use Rattle.markdown_marks.specs.Remaining.{Remaining}
 use Rattle.markdown_blocks.specs.declared.containers.Container.{Container}
 use Rattle.markdown_blocks.specs.declared.containers.Container.TheVariants.{Quote, Item}
@@ -17,11 +17,11 @@ use Rattle.mad_sections.specs.Sections.{SectionContent}
 use Rattle.mad_sections.specs.declared.gutters.Alert.{Alert}
 use Rattle.mad_sections.specs.declared.gutters.Gutter.{Gutter}
 use Rattle.mad_sections.specs.declared.gutters.Gutter.TheVariants.{Bar, AlertBar, Bullet, Number, Task, Code, Signs, Below}
-use Rattle.markdown_html_text.specs.Rows.{html_rows}
+use Rattle.markdown_html_text.specs.HtmlLeaves.{html_level}
 use Rattle.markdown_lines.specs.Code.{code_lines}
-use Rattle.markdown_lines.specs.Glyphs.{leaf_glyphs, trimmed}
-use Rattle.markdown_lines.specs.Leaf.{row_of, rows_from, leaf_rows, html_row, html_lines}
-use Rattle.markdown_lines.specs.Links.{Defined}
+use Rattle.markdown_lines.specs.Glyphs.{html_glyphs, leaf_glyphs, trimmed}
+use Rattle.markdown_lines.specs.Leaf.{row_of, rows_from, leaf_rows, html_lines}
+use Rattle.markdown_lines.specs.Links.{html_addresses, Defined}
 use Rattle.markdown_lines.specs.Restyled.{restyled, empty_line}
 use Rattle.markdown_lines.specs.Steady.{steady_lines}
 use Rattle.markdown_marks.specs.Tables as tables
@@ -37,7 +37,7 @@ use Rattle.markdown_gutters.specs.declared.forms.Form.TheVariants.{Words, Large,
 use Rattle.markdown_definitions.specs.Definitions.{definitions_of}
 use Rattle.mad_mark_runs.specs.declared.mark_runs.MarkRun.{MarkRun}
 use Rattle.markdown_tones.specs.Fences.{fence_marks}
-use Rattle.markdown_reader.specs.Mapping.{Mapping, nothing_shown, new_gutter, with_last, is_spaced, spaced, blank_row, linked, section_of, put, passed, list_ended, begun, item_ended, ended_by, text_of, words, addresses_in, words_shown, task_by, alert_line, alert_by, paragraph_by, heading_style, table_addresses, code_shown, leaf_shown, shown_part, shown_parts, with_marks}
+use Rattle.markdown_reader.specs.Mapping.{html_text, html_by, leaves_in, Mapping, nothing_shown, new_gutter, with_last, is_spaced, spaced, blank_row, linked, section_of, put, passed, list_ended, begun, item_ended, ended_by, text_of, words, addresses_in, words_shown, task_by, alert_line, alert_by, paragraph_by, heading_style, table_addresses, code_shown, leaf_shown, shown_part, shown_parts, with_marks}
 use Rattle.markdown_reader.specs.Markdown.{printable_sections}
 use Rattle.markdown_reader.specs.Steady.{steady_section, steady_sections}
 use Rattle.markdown_page_laws.specs.TableSections.{IsNoRow, HaveNoRow, IsTableOrNone, TablesMayBeLists}
@@ -64,13 +64,11 @@ leaf_none labels text =
     let gs : List Glyph = trimmed (leaf_glyphs labels false text) in
     if_none (length gs == 0) [] (rows_from [] gs) tt (rows_none [] gs)
 
-texts_none : (texts : List (List ℕ)) → HaveNoRow (map html_row texts)
-texts_none [] = tt
-texts_none (text ∷ texts) = (tt, texts_none texts)
-
 html_none : (text : List ℕ) → HaveNoRow (html_lines text)
 unfolding html_lines
-html_none text = texts_none (html_rows text)
+html_none text =
+    let gs : List Glyph = trimmed (html_glyphs text) in
+    if_none (length gs == 0) [] (rows_from [] gs) tt (rows_none [] gs)
 
 restyled_none : (style : CompositeStyle) (rows : List LineContent) → HaveNoRow (restyled style style rows)
 unfolding restyled
@@ -158,9 +156,14 @@ paragraph_has None defined bytes m h = words_has defined bytes m h
 code_has : (marks : List MarkRun) (lines : List Remaining) (m : Mapping) → HasTables m → HasTables (code_shown marks lines m)
 code_has marks lines m h = put_has Boxed (code_lines 0 lines) [] (with_marks marks m) (λ n. inl (code_none 0 lines)) h
 
+html_has : (t : Bool) (level : ℕ) (text : List ℕ) (m : Mapping) → HasTables m → HasTables (html_by t level text m)
+html_has true level text m h = put_has Words (html_lines text) (html_addresses text) m (λ n. inl (html_none text)) h
+html_has false level text m h =
+    put_has Large (restyled (heading_style level) (heading_style level) (html_lines text)) (html_addresses text) m (λ n. inl (restyled_none (heading_style level) (html_lines text))) h
+
 leaf_has : (defined : Defined) (kind : Kind) (lines : List Remaining) (m : Mapping) → HasTables m → HasTables (leaf_shown defined kind lines m)
 leaf_has defined ParagraphKind lines m h = paragraph_has (new_gutter m) defined (joined [] lines) m h
-leaf_has defined Html lines m h = put_has Words (html_lines (joined [] lines)) [] m (λ n. inl (html_none (joined [] lines))) h
+leaf_has defined Html lines m h = html_has (html_level (joined [] lines) == 0) (html_level (joined [] lines)) (html_text (joined [] lines)) m h
 leaf_has defined (Heading level) lines m h =
     let rows = words defined (joined [] lines) in
     put_has Large (restyled (heading_style level) (heading_style level) rows) (addresses_in defined (joined [] lines)) m (λ n. inl (restyled_none (heading_style level) rows)) h
@@ -184,7 +187,7 @@ parts_have defined (part ∷ parts) m h = parts_have defined parts (shown_part d
 
 source_has : (source : List ℕ) → AreTablesOrNone (printable_sections source)
 unfolding printable_sections
-source_has source = parts_have (definitions_of (parts_of source)) (parts_of source) nothing_shown tt
+source_has source = parts_have (definitions_of (parts_of source)) (flat_map leaves_in (parts_of source)) nothing_shown tt
 
 -- ---- steady lines
 

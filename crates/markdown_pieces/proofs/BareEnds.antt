@@ -181,8 +181,8 @@ or_ends bytes (Some b) q f g = f
 -- a bare address is placed so
 pub bare_ends : (before : Option ℕ) (bytes : List ℕ) → GivesBare bytes (bare_after before bytes)
 bare_ends before bytes =
-    or_ends bytes (cond (may_precede_web before) (web_of bytes) None) (cond (may_precede_mail before) (mail_of bytes) None)
-    (by_cond (GivesBare bytes) (may_precede_web before) (web_of bytes) None (λ h. web_of_ends bytes) (λ h. no_bare bytes))
+    or_ends bytes (cond (may_precede_web before bytes) (web_of bytes) None) (cond (may_precede_mail before) (mail_of bytes) None)
+    (by_cond (GivesBare bytes) (may_precede_web before bytes) (web_of bytes) None (λ h. web_of_ends bytes) (λ h. no_bare bytes))
     (by_cond (GivesBare bytes) (may_precede_mail before) (mail_of bytes) None (λ h. mail_of_ends bytes) (λ h. no_bare bytes))
 
 -- an address is found at a byte of ASCII

@@ -35,7 +35,7 @@ tag_ends (b ∷ bs) =
 -- ---- bytes that are found
 
 -- the last of some bytes
-abbrev IsEnd : ℕ → List ℕ → Type 0
+abbrev pub IsEnd : ℕ → List ℕ → Type 0
 IsEnd b [] = ⊥
 IsEnd b (n ∷ []) = n ≡ b
 IsEnd b (n ∷ m ∷ ns) = IsEnd b (m ∷ ns)
@@ -51,7 +51,8 @@ front_ends b (n ∷ []) (c ∷ cs) end h = let both = and_parts (nat_eq n c) tru
 front_ends b (n ∷ m ∷ ns) (c ∷ cs) end h =
     let both = and_parts (nat_eq n c) (pointwise nat_eq (m ∷ ns) (take (length (m ∷ ns)) cs)) h in ends_cons b c cs (drop (length (m ∷ ns)) cs) (front_ends b (m ∷ ns) cs end both.1)
 
-found_ends : (b : ℕ) (needle text : List ℕ) → IsEnd b needle → Gives (EndsBy b text) (after_first needle text)
+-- what follows such bytes is behind this one
+pub found_ends : (b : ℕ) (needle text : List ℕ) → IsEnd b needle → Gives (EndsBy b text) (after_first needle text)
 unfolding after_first
 found_ends b needle [] end = gives_none (EndsBy b [])
 found_ends b needle (c ∷ cs) end =

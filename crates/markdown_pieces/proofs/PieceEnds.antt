@@ -120,12 +120,13 @@ escape_ends_by first (b ∷ bs) h =
     (λ k. by_cond (λ (e : Escape). Ends (first ∷ b ∷ bs) (escape_by e)) (is_ascii_punctuation b) (SignEscape b) Itself (λ p. inl (ascii_punctuation b p)) (λ p. inl h))
 
 -- an entity of so many bytes, the first few of which are before these, ends with a semicolon
-record EndsEntity (before : ℕ) (bytes : List ℕ) (entity : Entity) : Type 0 where
-  n : ℕ
-  len : entity.len ≡ n + 1 + before
-  byte : get_or bytes n 0 ≡ 59
+pub record EndsEntity (before : ℕ) (bytes : List ℕ) (entity : Entity) : Type 0 where
+  pub n : ℕ
+  pub len : entity.len ≡ n + 1 + before
+  pub byte : get_or bytes n 0 ≡ 59
 
-abbrev GivesEntity : ℕ → List ℕ → Option Entity → Type 0
+-- an entity that is found ends so
+abbrev pub GivesEntity : ℕ → List ℕ → Option Entity → Type 0
 GivesEntity before bytes o = (entity : Entity) → o ≡ Some entity → EndsEntity before bytes entity
 
 no_entity : (before : ℕ) (bytes : List ℕ) → GivesEntity before bytes None
@@ -193,12 +194,14 @@ named_ends bytes =
     (λ h. name_ends len bytes (characters_named (take len bytes)) (let zero_more : len + 0 ≡ len = omega arith in ap (λ i. get_or bytes i 0) (sym zero_more) ∙ sym (get_or-drop len bytes 0 0) ∙ eqb-true (first (drop len bytes)) 59 h))
     (λ h. no_entity 0 bytes)
 
-entity_ends : (bytes : List ℕ) → GivesEntity 0 bytes (entity_of bytes)
+-- so does each that a rest begins with
+pub entity_ends : (bytes : List ℕ) → GivesEntity 0 bytes (entity_of bytes)
 entity_ends bytes =
     by_cond (GivesEntity 0 bytes) (eqb (first bytes) 35) (numeric (drop 1 bytes)) (named bytes)
     (λ h. entity_before 0 bytes (numeric (drop 1 bytes)) (numeric_ends (drop 1 bytes))) (λ h. named_ends bytes)
 
-entity_ends_by : (rest : List ℕ) (o : Option Entity) → get_or rest 0 0 < 128 → GivesEntity 0 (drop 1 rest) o → Ends rest (entity_by o)
+-- a piece that an entity is ends so
+pub entity_ends_by : (rest : List ℕ) (o : Option Entity) → get_or rest 0 0 < 128 → GivesEntity 0 (drop 1 rest) o → Ends rest (entity_by o)
 entity_ends_by rest None h g = inl h
 entity_ends_by rest (Some entity) h g =
     let found : EndsEntity 0 (drop 1 rest) entity = g entity refl in

@@ -1,5 +1,5 @@
 -- Bytes that stand for themselves.
-use Rattle.std.proofs.Common.{◌≡◌, ℕ, suc, ◌+◌, ◌<◌, ◌≤◌, ⊎_elim, zero, Bool, true, false, cond, eqb, not, ◌||◌, ◌&&◌, List, [], ◌∷◌, length, drop, get_or, refl, sym, ap, ap₂, ◌∙◌, arith, Option, Some, None, is_some}
+use Rattle.std.proofs.Common.{◌≡◌, ℕ, suc, ◌+◌, ◌<◌, ◌≤◌, ⊎_elim, zero, Bool, true, false, cond, eqb, not, ◌||◌, ◌&&◌, List, [], ◌∷◌, length, drop, get_or, refl, sym, ap, ap₂, ◌∙◌, arith, Option, Some, None, codes, is_some}
 use Rattle.std.specs.List.{prefix_len}
 use Rattle.std.proofs.lemmas.Bool.{cases_lt, and_parts}
 use Rattle.std.proofs.lemmas.Bool.Decides.{nat_tests}
@@ -7,16 +7,23 @@ use Rattle.std.proofs.lemmas.List.{get_or-drop}
 use Rattle.memchr.specs.Find.{Nowhere, Passes, is_byte}
 use Rattle.markdown_marks.specs.Bytes.{first, is_blank_byte}
 use Rattle.markdown_addresses.specs.declared.bare.Bare.{Bare}
-use Rattle.markdown_addresses.specs.Bare.{web_of, mail_of, may_precede_web, may_precede_mail, or_bare, bare_after, HasNoAt}
+use Rattle.markdown_addresses.specs.Bare.{web_of, mail_of, is_in_front, may_precede_www, may_precede_web, may_precede_mail, or_bare, bare_after, HasNoAt}
 use Rattle.markdown_addresses.proofs.NoneLemmas.{mail_none}
 use Rattle.markdown_pieces.specs.declared.pieces.Kind.TheVariants.{Plain}
 use Rattle.markdown_pieces.specs.Scan.{HasNoWeb}
 use Rattle.markdown_pieces.specs.Pieces.{piece, is_plain, is_word, ends_line, stays, bare_if, plain_from, plain_by, plain_piece}
 
--- ---- behind a byte of a word
+-- ---- behind a letter
 
-no_web : (b : ℕ) → is_word b ≡ true → may_precede_web (Some b) ≡ false
-no_web b h = grind (arith, nat_tests)
+no_www : (b : ℕ) → is_word b ≡ true → may_precede_www (Some b) ≡ false
+no_www b h = grind (arith, nat_tests)
+
+no_web : (b : ℕ) (rest : List ℕ) → is_word b ≡ true → may_precede_web (Some b) rest ≡ false
+no_web b rest h = both_no (is_in_front (codes "www.") rest) _ _ (no_www b h) (ap not h)
+  where
+    both_no : (t u v : Bool) → u ≡ false → v ≡ false → cond t u v ≡ false
+    both_no true u v e f = e
+    both_no false u v e f = f
 
 no_mail : (b : ℕ) → is_word b ≡ true → may_precede_mail (Some b) ≡ false
 no_mail b h = grind (arith, nat_tests)
@@ -25,11 +32,11 @@ either_none : (free : Bool) (o : Option Bare) → o ≡ None → is_some (cond f
 either_none true o e = ap is_some e
 either_none false o e = refl
 
--- behind a byte of a word no address begins
+-- behind a letter no address begins
 pub word_none : (free : Bool) (b : ℕ) (rest : List ℕ) → is_word b ≡ true → is_some (bare_if free (Some b) rest) ≡ false
 word_none free b rest h =
     either_none free (bare_after (Some b) rest)
-    (ap (λ t. or_bare (cond t (web_of rest) None) (cond (may_precede_mail (Some b)) (mail_of rest) None)) (no_web b h) ∙ ap (λ t. or_bare None (cond t (mail_of rest) None)) (no_mail b h))
+    (ap (λ t. or_bare (cond t (web_of rest) None) (cond (may_precede_mail (Some b)) (mail_of rest) None)) (no_web b rest h) ∙ ap (λ t. or_bare None (cond t (mail_of rest) None)) (no_mail b h))
 
 -- ---- blanks
 
@@ -128,7 +135,7 @@ plain_no_more free before (b ∷ bs) e = absurd (omega (arith, e))
 word_plain : (b : ℕ) → is_word b ≡ true → is_plain b ≡ true
 word_plain b h = grind (arith, nat_tests)
 
--- a byte of a word behind another
+-- a letter behind another
 pub plain_word : (free : Bool) (last b : ℕ) (rest next : List ℕ) → rest ≡ b ∷ next → (is_word last && is_word b) ≡ true → plain_from free (Some last) rest ≡ suc (plain_from free (Some b) next)
 plain_word free last b rest next e h =
     let both = and_parts (is_word last) (is_word b) h in
@@ -145,7 +152,7 @@ either t u o p e f = ap₂ (λ x y. or_bare x y) (one t o e) (one u p f)
 
 none_after : (free : Bool) (before : Option ℕ) (rest : List ℕ) → web_of rest ≡ None → HasNoAt rest → bare_if free before rest ≡ None
 none_after false before rest web mail = refl
-none_after true before rest web mail = either (may_precede_web before) (may_precede_mail before) (web_of rest) (mail_of rest) web (mail_none rest mail)
+none_after true before rest web mail = either (may_precede_web before rest) (may_precede_mail before) (web_of rest) (mail_of rest) web (mail_none rest mail)
 
 no_web_next : (b : ℕ) (bs : List ℕ) → HasNoWeb (b ∷ bs) → HasNoWeb bs
 no_web_next b bs h k = h (suc k)

@@ -1,7 +1,7 @@
 -- What a rest of a text begins with, where it is no bracket.
 use Rattle.std.specs.Prelude.{ℕ, suc, is_some, ◌+◌, ◌-◌, ◌==◌, ◌||◌, ◌&&◌, not, nat_le, Bool, if◌then◌else◌, List, [], ◌∷◌, drop, take, slice_index, chars, Option, Some, None}
 use Rattle.std.specs.List.{prefix_len}
-use Rattle.std.specs.Char.{is_ascii_alphanumeric}
+use Rattle.std.specs.Char.{is_ascii_alphabetic}
 use Rattle.markdown_emphasis.specs.declared.runs.Sign.{Sign}
 use Rattle.markdown_emphasis.specs.declared.runs.Sign.TheVariants.{Star, Underscore, Tilde}
 use Rattle.markdown_runs.specs.declared.flanking.Neighbor.{Neighbor}
@@ -121,9 +121,9 @@ break_piece rest = let blanks = prefix_len is_blank_byte rest in if is_hard rest
 abbrev pub bare_if : (free : Bool) → Option ℕ → List ℕ → Option Bare
 bare_if free before rest = if free then bare_after before rest else None
 
--- a byte behind which no bare address begins
+-- a letter: behind it no bare address begins
 abbrev pub is_word : ℕ → Bool
-is_word b = is_ascii_alphanumeric b || (b == 46) || (b == 43) || (b == 45)
+is_word b = is_ascii_alphabetic b
 
 -- a byte that stands for itself: a plain one, or a blank, but not before the end of a line
 abbrev pub stays : ℕ → List ℕ → Bool

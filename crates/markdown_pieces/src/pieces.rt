@@ -124,11 +124,11 @@ fn bare_if(free: bool, mail: bool, before: Option<u8>, rest: &[u8]) -> Option<Ba
     }
 }
 
-// Behind such a byte no bare address begins.
+// Behind a letter no bare address begins.
 fn is_word(b: u8) -> bool
     ensures { result ≡ is_word b }
 {
-    b.is_ascii_alphanumeric() || b == b'.' || b == b'+' || b == b'-'
+    b.is_ascii_alphabetic()
 }
 
 // Whether both bytes are small letters, of a word then.

@@ -19,7 +19,7 @@ use Rattle.mad_sections.specs.declared.gutters.Gutter.{Gutter}
 use Rattle.mad_sections.specs.declared.gutters.Gutter.TheVariants.{Bar, AlertBar, Bullet, Number, Task, Code, Signs, Below}
 use Rattle.markdown_lines.specs.Code.{code_lines}
 use Rattle.markdown_lines.specs.Leaf.{html_lines}
-use Rattle.markdown_lines.specs.Links.{Defined}
+use Rattle.markdown_lines.specs.Links.{html_addresses, Defined}
 use Rattle.markdown_lines.specs.Restyled.{restyled, empty_line}
 use Rattle.markdown_lines.specs.Tables.{table_lines}
 use Rattle.markdown_gutters.specs.Forms.{is_big}
@@ -30,7 +30,8 @@ use Rattle.markdown_gutters.specs.declared.forms.Form.TheVariants.{Words, Large,
 use Rattle.markdown_reader.specs.Faces.{items_in, faces_in, faces_of, begun_by, items_of, waiting, FacesOnce}
 use Rattle.mad_mark_runs.specs.declared.mark_runs.MarkRun.{MarkRun}
 use Rattle.markdown_tones.specs.Fences.{fence_marks}
-use Rattle.markdown_reader.specs.Mapping.{Mapping, nothing_shown, new_gutter, with_last, is_spaced, spaced, blank_row, section_of, with_section, added, put, passed, list_ended, begun, nothing_since, item_ended, ended_by, closed, ended, words, addresses_in, words_shown, task_by, alert_line, alert_by, paragraph_by, heading_style, table_addresses, leaf_shown, shown_part, shown_parts, with_marks, code_shown}
+use Rattle.markdown_html_text.specs.HtmlLeaves.{html_level}
+use Rattle.markdown_reader.specs.Mapping.{Mapping, nothing_shown, new_gutter, with_last, is_spaced, spaced, blank_row, section_of, with_section, added, put, passed, list_ended, begun, nothing_since, item_ended, ended_by, closed, ended, words, addresses_in, words_shown, task_by, alert_line, alert_by, paragraph_by, heading_style, html_text, html_by, table_addresses, leaf_shown, shown_part, shown_parts, with_marks, code_shown}
 
 by_bool : (P : Bool → Type 0) (b : Bool) → (b ≡ true → P true) → (b ≡ false → P false) → P b
 by_bool P true on off = on refl
@@ -245,9 +246,13 @@ code_began : (count : ℕ) (marks : List MarkRun) (lines : List Remaining) (m : 
 code_began count marks lines m h =
     began_as count (put Boxed (code_lines 0 lines) [] (with_marks marks m)) _ (put_began count Boxed (code_lines 0 lines) [] (with_marks marks m) (began_as count m (with_marks marks m) h refl refl refl)) refl refl refl
 
+html_began : (count : ℕ) (t : Bool) (level : ℕ) (text : List ℕ) (m : Mapping) → Began count m → Began count (html_by t level text m)
+html_began count true level text m h = put_began count Words (html_lines text) (html_addresses text) m h
+html_began count false level text m h = put_began count Large (restyled (heading_style level) (heading_style level) (html_lines text)) (html_addresses text) m h
+
 leaf_began : (count : ℕ) (defined : Defined) (kind : Kind) (lines : List Remaining) (m : Mapping) → Began count m → Began count (leaf_shown defined kind lines m)
 leaf_began count defined ParagraphKind lines m h = paragraph_began count (new_gutter m) defined (joined [] lines) m h refl
-leaf_began count defined Html lines m h = put_began count Words (html_lines (joined [] lines)) [] m h
+leaf_began count defined Html lines m h = html_began count (html_level (joined [] lines) == 0) (html_level (joined [] lines)) (html_text (joined [] lines)) m h
 leaf_began count defined (Heading level) lines m h =
     put_began count Large (restyled (heading_style level) (heading_style level) (words defined (joined [] lines))) (addresses_in defined (joined [] lines)) m h
 leaf_began count defined Indented lines m h = code_began count [] lines m h

@@ -8,15 +8,15 @@ use Rattle.std.proofs.lemmas.Bool.Decides.{nat_tests}
 use Rattle.std.proofs.lemmas.Str.{encodes-append}
 use Rattle.markdown_pieces.specs.Cut.{CutText, cut_text}
 use Rattle.markdown_emphasis.specs.Flags.{flags_of}
-use Rattle.markdown_inlines.specs.Inlines.{char_of, are_shown, leaf_text, left_of}
-use Rattle.markdown_inlines.specs.Links.{overs_of}
+use Rattle.markdown_html_text.specs.HtmlPieces.{html_cut}
+use Rattle.markdown_inlines.specs.Inlines.{all_over, char_of, are_shown, left_of, shown_cut}
 use Rattle.markdown_inlines.specs.Printable.{is_printable, is_shown, shown_char}
 use Rattle.markdown_inlines.specs.Styled.{Shown}
 use Rattle.markdown_inlines.proofs.PrintableLemmas.{shown_is, from_shown}
 use Rattle.mad_md.specs.Flagged.{Run}
 use Rattle.mad_md.specs.Lines.{LineContent}
-use Rattle.markdown_lines.specs.Glyphs.{glyph_of, shown_in, leaf_glyphs, is_edge, without_front, without_back, trimmed, space, spaced_from, is_same_run, run_with, runs_from, runs_of}
-use Rattle.markdown_lines.specs.Leaf.{row_of, rows_from, leaf_rows, cell_runs}
+use Rattle.markdown_lines.specs.Glyphs.{glyph_of, shown_in, leaf_glyphs, html_glyphs, is_edge, without_front, without_back, trimmed, space, spaced_from, is_same_run, run_with, runs_from, runs_of}
+use Rattle.markdown_lines.specs.Leaf.{row_of, rows_from, rows_of, leaf_rows, cell_runs, html_lines}
 use Rattle.markdown_lines.specs.declared.glyphs.Glyph.{Glyph}
 use Rattle.markdown_lines.specs.Printed.{is_obeyed, IsPrintedRun, IsPrintedLine, ArePrinted}
 
@@ -75,10 +75,14 @@ glyphs_fine bold (s ∷ ss) h =
     let parts = and_parts (is_shown s.char) (list_all is_shown (map char_of ss)) h in
     (fine_in (is_some s.look.picture) s.char (fine_by (s.char == 10) s.char parts.0), glyphs_fine bold ss parts.1)
 
+cut_fine : (bold : Bool) (cut : CutText) (text : List ℕ) → AllByRecursion IsFine (map (glyph_of bold) (shown_cut cut text))
+cut_fine bold cut text = glyphs_fine bold (shown_cut cut text) (from_shown text 0 cut.pieces (flags_of (length cut.pieces) cut.pairs) (left_of cut.pairs cut.pieces) (all_over cut.pieces))
+
 leaf_fine : (labels : List (List ℕ)) (bold : Bool) (text : List ℕ) → AllByRecursion IsFine (leaf_glyphs labels bold text)
-leaf_fine labels bold text =
-    let cut : CutText = cut_text labels text in
-    glyphs_fine bold (leaf_text labels text) (from_shown text 0 cut.pieces (flags_of (length cut.pieces) cut.pairs) (left_of cut.pairs cut.pieces) (overs_of cut.pieces))
+leaf_fine labels bold text = cut_fine bold (cut_text labels text) text
+
+html_fine : (text : List ℕ) → AllByRecursion IsFine (html_glyphs text)
+html_fine text = cut_fine false (html_cut text) text
 
 -- ---- some of the characters
 
@@ -166,12 +170,19 @@ rows_clean row (g ∷ gs) h k =
     (λ e. cons_printed (row_of row) (rows_from [] gs) (row_printed row h) (rows_clean [] gs tt k.1))
     (λ e. rows_clean (row ++ g ∷ []) gs (append_kept IsClean row (g ∷ []) h (clean_of g e k.0, tt)) k.1)
 
+-- where characters are fine, none of their rows is obeyed
+fine_printed : (gs : List Glyph) → AllByRecursion IsFine gs → ArePrinted (rows_of (trimmed gs))
+fine_printed gs h = if_printed (length (trimmed gs) == 0) [] (rows_from [] (trimmed gs)) nothing_printed (rows_clean [] (trimmed gs) tt (trimmed_kept IsFine gs h))
+
+-- no character of the rows of html is obeyed
+pub html_printed : (text : List ℕ) → ArePrinted (html_lines text)
+unfolding html_lines
+html_printed text = fine_printed (html_glyphs text) (html_fine text)
+
 -- no character of a leaf's rows is obeyed
 pub leaf_printed : (labels : List (List ℕ)) (text : List ℕ) → ArePrinted (leaf_rows labels text)
 unfolding leaf_rows
-leaf_printed labels text =
-    let gs : List Glyph = trimmed (leaf_glyphs labels false text) in
-    if_printed (length gs == 0) [] (rows_from [] gs) nothing_printed (rows_clean [] gs tt (trimmed_kept IsFine (leaf_glyphs labels false text) (leaf_fine labels false text)))
+leaf_printed labels text = fine_printed (leaf_glyphs labels false text) (leaf_fine labels false text)
 
 -- ---- cells
 

@@ -7,18 +7,19 @@ use Rattle.std.proofs.lemmas.List.Concat.{flat_map-append}
 use Rattle.std.proofs.lemmas.List.Elements.{filter-append}
 use Rattle.std.proofs.lemmas.List.Sums.{suffix_len-take_yes, suffix_len-take_no}
 use Rattle.std.proofs.lemmas.Str.{encode_ascii}
-use Rattle.markdown_inlines.specs.Inlines.{leaf_text, leaf_links}
+use Rattle.markdown_html_text.specs.HtmlPieces.{html_cut, html_pieces}
+use Rattle.markdown_inlines.specs.Inlines.{leaf_text, leaf_links, links_from, shown_cut}
 use Rattle.markdown_inlines.specs.Looks.{is_same_number}
 use Rattle.markdown_inlines.specs.Styled.{Shown}
-use Rattle.markdown_lines.specs.Glyphs.{glyph_of, leaf_glyphs, is_edge, without_front, without_back, trimmed, space, spaced_from, is_same_flags, is_same_run, run_with, runs_from, runs_of}
-use Rattle.markdown_lines.specs.Leaf.{row_of, rows_from, leaf_rows, cell_runs}
-use Rattle.markdown_lines.specs.LinkNumbers.{one_number, numbers_from, numbers_of, row_numbers, rows_numbers_from, leaf_numbers, cell_numbers}
+use Rattle.markdown_lines.specs.Glyphs.{glyph_of, leaf_glyphs, html_glyphs, is_edge, without_front, without_back, trimmed, space, spaced_from, is_same_flags, is_same_run, run_with, runs_from, runs_of}
+use Rattle.markdown_lines.specs.Leaf.{row_of, rows_from, leaf_rows, cell_runs, html_lines}
+use Rattle.markdown_lines.specs.LinkNumbers.{one_number, numbers_from, numbers_of, row_numbers, rows_numbers_from, leaf_numbers, cell_numbers, html_numbers}
 use Rattle.markdown_lines.specs.declared.glyphs.Glyph.{Glyph}
 use Rattle.markdown_lines.proofs.GlyphLemmas.{no_glyph}
 use Rattle.markdown_lines.proofs.NumberLemmas.{trimmed_kept, append_kept}
-use Rattle.markdown_reader.specs.LeafLinks.{LinkByte, bytes_of, numbered_bytes, bytes_in, char_bytes, seen, RunsHaveTheirLinks, CellsHaveTheirLinks}
+use Rattle.markdown_reader.specs.LeafLinks.{LinkByte, bytes_of, numbered_bytes, bytes_in, char_bytes, seen, RunsHaveTheirLinks, CellsHaveTheirLinks, HtmlHasItsLinks}
 use Rattle.mad_link_marks.specs.LinkMarks.{run_texts, line_texts, link_texts}
-use Rattle.markdown_reader.proofs.LinkFitLemmas.{IsFit, leaf_fit, row_fits, spaced_fit}
+use Rattle.markdown_reader.proofs.LinkFitLemmas.{IsFit, leaf_fit, html_fit, row_fits, spaced_fit}
 
 -- ---- characters
 
@@ -231,6 +232,13 @@ unfolding leaf_numbers leaf_rows
 runs_have_their_links labels text =
     let gs : List Glyph = trimmed (leaf_glyphs labels false text) in
     none_by (length gs == 0) gs refl (rows_seen (length (leaf_links labels text)) [] gs tt (leaf_fit labels false text)) ∙ trimmed_seen (leaf_glyphs labels false text) ∙ told_bytes false (leaf_text labels text)
+
+-- so do those of a leaf of html
+pub html_has_its_links : HtmlHasItsLinks
+unfolding html_numbers html_lines
+html_has_its_links text =
+    let gs : List Glyph = trimmed (html_glyphs text) in
+    none_by (length gs == 0) gs refl (rows_seen (length (links_from 0 (html_pieces text))) [] gs tt (html_fit text)) ∙ trimmed_seen (html_glyphs text) ∙ told_bytes false (shown_cut (html_cut text) text)
 
 -- ---- cells
 

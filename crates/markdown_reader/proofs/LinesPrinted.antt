@@ -10,8 +10,7 @@ use Rattle.mad_md.specs.declared.alignment.Alignment.{Alignment}
 use Rattle.mad_md.specs.declared.composite.CompositeStyle.{CompositeStyle}
 use Rattle.markdown_lines.specs.Code.{spaces, expanded_char, next_column, expanded, code_text, code_line, code_lines}
 use Rattle.markdown_inlines.specs.Printable.{shown_char}
-use Rattle.markdown_html_text.specs.Rows.{html_rows}
-use Rattle.markdown_lines.specs.Leaf.{shown_text, plain_row, html_row, html_lines}
+use Rattle.markdown_lines.specs.Leaf.{shown_text}
 use Rattle.markdown_reader.proofs.GlyphsPrinted.{none_obeyed, none_append, nothing_printed, cons_printed, cell_printed}
 use Rattle.markdown_lines.specs.Printed.{is_obeyed, IsPrintedRun, IsPrintedCell, IsPrintedLine, ArePrinted}
 use Rattle.markdown_lines.specs.Restyled.{empty_line, row_runs, restyled}
@@ -60,18 +59,6 @@ first_printed line lines h = h
 pub append_printed : (xs ys : List LineContent) → ArePrinted xs → ArePrinted ys → ArePrinted (xs ++ ys)
 append_printed [] ys h k = k
 append_printed (x ∷ xs) ys h k = let parts = first_printed x xs h in cons_printed x (xs ++ ys) parts.0 (append_printed xs ys parts.1 k)
-
-plain_printed : (text : List ℕ) → IsPrintedLine (plain_row (shown_text text))
-plain_printed text = (text_printed text, tt)
-
-texts_printed : (texts : List (List ℕ)) → ArePrinted (map html_row texts)
-texts_printed [] = nothing_printed
-texts_printed (text ∷ texts) = cons_printed (html_row text) (map html_row texts) (plain_printed text) (texts_printed texts)
-
--- no character of the rows of html is obeyed
-pub html_printed : (text : List ℕ) → ArePrinted (html_lines text)
-unfolding html_lines
-html_printed text = texts_printed (html_rows text)
 
 runs_printed : (row : LineContent) → IsPrintedLine row → AllByRecursion IsPrintedRun (row_runs row)
 runs_printed (normal row) h = h

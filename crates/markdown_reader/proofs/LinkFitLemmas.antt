@@ -12,15 +12,22 @@ use Rattle.markdown_inlines.specs.declared.links.Ahead.{Ahead}
 use Rattle.markdown_inlines.specs.declared.links.Over.{Over}
 use Rattle.markdown_inlines.specs.declared.looks.Look.{Look}
 use Rattle.markdown_inlines.specs.declared.inlines.LinkTarget.{LinkTarget}
-use Rattle.markdown_inlines.specs.Inlines.{look_at, shown_piece, shown_from, left_of, leaf_text, link_target, with_link, links_from, leaf_links, target_by}
+use Rattle.markdown_inlines.specs.Inlines.{look_at, shown_piece, shown_from, shown_cut, all_over, left_of, leaf_text, link_target, with_link, links_from, leaf_links, target_by}
 use Rattle.markdown_inlines.specs.Links.{links_in, link_count, nearest, nearest_picture, opens_at, own_link, or_number, link_over, stepped_back, overs_from, overs_of}
+use Rattle.markdown_spans.specs.declared.attributes.Flag.{Flag}
+use Rattle.markdown_spans.specs.declared.attributes.Flag.TheVariants.{Bold, Italic, Strikeout, Code as CodeFlag}
+use Rattle.markdown_spans.specs.declared.attributes.Html.{Html}
+use Rattle.markdown_spans.specs.declared.attributes.Html.TheVariants.{Nothing, Break, Alternative, Source, On, Off, Link as LinkTag, LinkEnd}
+use Rattle.markdown_html_text.specs.HtmlPieces.{html_cut, html_pieces}
+use Rattle.markdown_inlines.specs.declared.tags.Tags.{Tags}
+use Rattle.markdown_inlines.specs.Tags.{no_tags, with_flag, without_flag, after_html, after_kind, after_piece, tagged_from}
 use Rattle.markdown_inlines.specs.Parts.{piece_shown}
 use Rattle.markdown_inlines.specs.Styled.{Shown, shown_with}
 use Rattle.mad_md.specs.Flagged.{Run}
 use Rattle.mad_md.specs.Lines.{LineContent}
-use Rattle.markdown_lines.specs.Glyphs.{glyph_of, leaf_glyphs, trimmed, space, spaced_from, is_same_run, run_with, runs_from, runs_of}
-use Rattle.markdown_lines.specs.Leaf.{row_of, rows_from, leaf_rows, cell_runs}
-use Rattle.markdown_lines.specs.LinkNumbers.{one_number, numbers_from, numbers_of, row_numbers, rows_numbers_from, leaf_numbers, cell_numbers, after_links}
+use Rattle.markdown_lines.specs.Glyphs.{glyph_of, leaf_glyphs, html_glyphs, trimmed, space, spaced_from, is_same_run, run_with, runs_from, runs_of}
+use Rattle.markdown_lines.specs.Leaf.{row_of, rows_from, leaf_rows, cell_runs, html_lines}
+use Rattle.markdown_lines.specs.LinkNumbers.{one_number, numbers_from, numbers_of, row_numbers, rows_numbers_from, leaf_numbers, html_numbers, cell_numbers, after_links}
 use Rattle.markdown_lines.specs.declared.glyphs.Glyph.{Glyph}
 use Rattle.markdown_lines.proofs.NumberLemmas.{trimmed_kept, append_kept}
 use Rattle.mad_link_marks.specs.LinkMarks.{run_texts, line_texts, link_texts}
@@ -102,6 +109,58 @@ overs_below count index number (p ∷ ps) h =
       stepped_below count index number p.kind ahead here rest.1,
     )
 
+-- ---- links of tags
+
+flag_keeps : (flag : Flag) (t : Tags) → (with_flag flag t).link ≡ t.link
+flag_keeps Bold t = refl
+flag_keeps Italic t = refl
+flag_keeps Strikeout t = refl
+flag_keeps CodeFlag t = refl
+
+flag_leaves : (flag : Flag) (t : Tags) → (without_flag flag t).link ≡ t.link
+flag_leaves Bold t = refl
+flag_leaves Italic t = refl
+flag_leaves Strikeout t = refl
+flag_leaves CodeFlag t = refl
+
+html_below : (count number : ℕ) (html : Html) (t : Tags) → number + links_in (HtmlKind html) ≤ count → IsBelow count t.link → IsBelow count (after_html number html t).link
+html_below count number Nothing t h k = k
+html_below count number Break t h k = k
+html_below count number (Alternative value) t h k = k
+html_below count number (Source value) t h k = k
+html_below count number (On flag) t h k = subst (IsBelow count) (sym (flag_keeps flag t)) k
+html_below count number (Off flag) t h k = subst (IsBelow count) (sym (flag_leaves flag t)) k
+html_below count number (LinkTag value) t h k = omega (arith, h)
+html_below count number LinkEnd t h k = tt
+
+kind_below : (count number : ℕ) (kind : Kind) (t : Tags) → number + links_in kind ≤ count → IsBelow count t.link → IsBelow count (after_kind number kind t).link
+kind_below count number Plain t h k = k
+kind_below count number (ShownKind c second) t h k = k
+kind_below count number (CodeKind code) t h k = k
+kind_below count number (Address len scheme) t h k = k
+kind_below count number (Bare scheme) t h k = k
+kind_below count number (HtmlKind html) t h k = html_below count number html t h k
+kind_below count number Soft t h k = k
+kind_below count number Hard t h k = k
+kind_below count number (RunKind run) t h k = k
+kind_below count number (Opening image) t h k = k
+kind_below count number (Closing link) t h k = k
+
+piece_below : (count : ℕ) (said : Bool) (t after : Tags) → IsBelow count t.link → IsBelow count after.link → IsBelow count (if said then t else after).link
+piece_below count true t after h k = h
+piece_below count false t after h k = k
+
+tagged_below : (count index number : ℕ) (t : Tags) (ps : List Piece) (os : List Over) → number + link_count ps ≤ count → IsBelow count t.link → AllByRecursion (IsOver count) os
+    → AllByRecursion (IsOver count) (tagged_from index number t ps os)
+unfolding tagged_from link_count
+tagged_below count index number t [] os h k all = tt
+tagged_below count index number t (p ∷ ps) [] h k all = tt
+tagged_below count index number t (p ∷ ps) (o ∷ os) h k all =
+    let here : number + links_in p.kind ≤ count = omega (arith, h) in (
+      or_below count o.link t.link all.0 k,
+      tagged_below count (index + 1) (number + links_in p.kind) (after_piece number p.kind o t) ps os (omega (arith, h)) (piece_below count (is_some o.picture) t (after_kind number p.kind t) k (kind_below count number p.kind t here k)) all.1,
+    )
+
 -- ---- characters of a leaf
 
 abbrev IsLooked : ℕ → Shown → Type 0
@@ -129,13 +188,23 @@ one_target : (image : Bool) (target : LinkTarget) (rest : List LinkTarget) → l
 one_target true target rest = omega arith
 one_target false target rest = omega arith
 
+html_link : (html : Html) (at more : ℕ) (rest : List LinkTarget) → length (with_link (link_target (HtmlKind html) at more) rest) ≡ links_in (HtmlKind html) + length rest
+html_link Nothing at more rest = omega arith
+html_link Break at more rest = omega arith
+html_link (Alternative value) at more rest = omega arith
+html_link (Source value) at more rest = omega arith
+html_link (On flag) at more rest = omega arith
+html_link (Off flag) at more rest = omega arith
+html_link (LinkTag value) at more rest = omega arith
+html_link LinkEnd at more rest = omega arith
+
 one_link : (kind : Kind) (at more : ℕ) (rest : List LinkTarget) → length (with_link (link_target kind at more) rest) ≡ links_in kind + length rest
 one_link Plain at more rest = omega arith
 one_link (ShownKind c second) at more rest = omega arith
 one_link (CodeKind code) at more rest = omega arith
 one_link (Address len scheme) at more rest = omega arith
 one_link (Bare scheme) at more rest = omega arith
-one_link (HtmlKind html) at more rest = omega arith
+one_link (HtmlKind html) at more rest = html_link html at more rest
 one_link Soft at more rest = omega arith
 one_link Hard at more rest = omega arith
 one_link (RunKind run) at more rest = omega arith
@@ -148,12 +217,18 @@ unfolding links_from link_count
 links_many at [] = refl
 links_many at (p ∷ ps) = one_link p.kind at p.more (links_from (at + (p.more + 1)) ps) ∙ ap (λ n. links_in p.kind + n) (links_many (at + (p.more + 1)) ps)
 
-leaf_below : (labels : List (List ℕ)) (text : List ℕ) → AllByRecursion (IsLooked (length (leaf_links labels text))) (leaf_text labels text)
-leaf_below labels text =
-    let cut : CutText = cut_text labels text in
-    let count : ℕ = length (leaf_links labels text) in
+cut_below : (cut : CutText) (text : List ℕ) → AllByRecursion (IsLooked (length (links_from 0 cut.pieces))) (shown_cut cut text)
+cut_below cut text =
+    let count : ℕ = length (links_from 0 cut.pieces) in
     let many : 0 + link_count cut.pieces ≤ count = (let e = links_many 0 cut.pieces in omega (arith, e)) in
-    shown_below count text 0 cut.pieces (flags_of (length cut.pieces) cut.pairs) (left_of cut.pairs cut.pieces) (overs_of cut.pieces) (overs_below count 0 0 cut.pieces many).0
+    shown_below count text 0 cut.pieces (flags_of (length cut.pieces) cut.pairs) (left_of cut.pairs cut.pieces) (all_over cut.pieces)
+    (tagged_below count 0 0 no_tags cut.pieces (overs_of cut.pieces) many tt (overs_below count 0 0 cut.pieces many).0)
+
+leaf_below : (labels : List (List ℕ)) (text : List ℕ) → AllByRecursion (IsLooked (length (leaf_links labels text))) (leaf_text labels text)
+leaf_below labels text = cut_below (cut_text labels text) text
+
+html_is_below : (text : List ℕ) → AllByRecursion (IsLooked (length (links_from 0 (html_pieces text)))) (shown_cut (html_cut text) text)
+html_is_below text = cut_below (html_cut text) text
 
 -- ---- glyphs
 
@@ -170,6 +245,12 @@ pub leaf_fit : (labels : List (List ℕ)) (bold : Bool) (text : List ℕ) → Al
 leaf_fit labels bold text =
     let count : ℕ = length (leaf_links labels text) in
     trimmed_kept (IsFit count) (leaf_glyphs labels bold text) (glyphs_fit count bold (leaf_text labels text) (leaf_below labels text))
+
+-- and those of a leaf of html
+pub html_fit : (text : List ℕ) → AllByRecursion (IsFit (length (links_from 0 (html_pieces text)))) (trimmed (html_glyphs text))
+html_fit text =
+    let count : ℕ = length (links_from 0 (html_pieces text)) in
+    trimmed_kept (IsFit count) (html_glyphs text) (glyphs_fit count false (shown_cut (html_cut text) text) (html_is_below text))
 
 -- ---- numbers and texts
 
@@ -257,6 +338,14 @@ unfolding leaf_numbers leaf_rows
 leaf_fits labels text =
     let gs : List Glyph = trimmed (leaf_glyphs labels false text) in
     if_rows (length (leaf_links labels text)) (length gs == 0) [] (rows_numbers_from [] gs) [] (rows_from [] gs) (refl, tt) (rows_fit (length (leaf_links labels text)) [] gs tt (leaf_fit labels false text))
+
+-- so are those of a leaf of html
+pub html_fits : (text : List ℕ) → Fits (length (links_from 0 (html_pieces text))) (html_numbers text) (link_texts (html_lines text))
+unfolding html_numbers html_lines
+html_fits text =
+    let count : ℕ = length (links_from 0 (html_pieces text)) in
+    let gs : List Glyph = trimmed (html_glyphs text) in
+    if_rows count (length gs == 0) [] (rows_numbers_from [] gs) [] (rows_from [] gs) (refl, tt) (rows_fit count [] gs tt (html_fit text))
 
 if_glyphs : (count : ℕ) (t : Bool) (a b : List Glyph) → AllByRecursion (IsFit count) a → AllByRecursion (IsFit count) b → AllByRecursion (IsFit count) (if t then a else b)
 if_glyphs count true a b h k = h

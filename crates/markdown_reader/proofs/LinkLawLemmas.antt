@@ -28,14 +28,14 @@ use Rattle.mad_sections.specs.Sections.{SectionContent}
 use Rattle.mad_sections.specs.declared.gutters.Alert.{Alert}
 use Rattle.mad_sections.specs.declared.gutters.Gutter.{Gutter}
 use Rattle.mad_sections.specs.declared.gutters.Gutter.TheVariants.{Bar, AlertBar, Bullet, Number, Task, Code, Signs, Below}
-use Rattle.markdown_inlines.specs.Inlines.{leaf_links}
+use Rattle.markdown_inlines.specs.Inlines.{leaf_links, links_from}
 use Rattle.markdown_lines.specs.Code.{code_line, code_lines}
-use Rattle.markdown_lines.specs.Glyphs.{leaf_glyphs, trimmed}
-use Rattle.markdown_lines.specs.Leaf.{row_of as leaf_row, rows_from, leaf_rows, html_row, html_lines}
-use Rattle.markdown_html_text.specs.Rows.{html_rows}
-use Rattle.markdown_lines.specs.LinkNumbers.{cell_numbers, after_links}
+use Rattle.markdown_lines.specs.Glyphs.{html_glyphs, leaf_glyphs, trimmed}
+use Rattle.markdown_lines.specs.Leaf.{row_of as leaf_row, rows_from, leaf_rows, html_lines}
+use Rattle.markdown_html_text.specs.HtmlPieces.{html_pieces}
+use Rattle.markdown_lines.specs.LinkNumbers.{cell_numbers, html_numbers, after_links}
 use Rattle.markdown_lines.specs.Links as line_links
-use Rattle.markdown_lines.specs.Links.{Defined, address_of, leaf_addresses, links_at}
+use Rattle.markdown_lines.specs.Links.{html_addresses, Defined, address_of, leaf_addresses, links_at}
 use Rattle.markdown_lines.specs.Restyled.{empty_line, restyled}
 use Rattle.markdown_lines.specs.Steady.{steady_run, steady_runs, steady_line, steady_lines}
 use Rattle.markdown_lines.specs.TableNumbers.{cells_numbers, line_numbers, lines_numbers, ruled_numbers, table_numbers}
@@ -53,11 +53,12 @@ use Rattle.markdown_definitions.specs.Definitions.{definitions_of}
 use Rattle.markdown_reader.specs.LinkLaws.{row_chars, line_chars, is_of_link, links_in, IsMarkOf, HasLinkMarks, HaveLinkMarks, LinksHaveMarks}
 use Rattle.mad_link_marks.specs.LinkMarks.{run_texts, row_texts, line_texts, link_texts, first_link, marks_behind, link_marks}
 use Rattle.markdown_reader.specs.LinkMarks.{sections_link_marks}
-use Rattle.markdown_reader.specs.Mapping.{LinkSaid, Mapping, nothing_shown, new_gutter, with_last, is_spaced, spaced, blank_row, link_at, linked, section_of, put, added, passed, list_ended, begun, closed, item_ended, ended_by, words, addresses_in, words_shown, task_by, alert_line, alert_by, paragraph_by, heading_style, address_said, table_addresses, code_shown, leaf_shown, shown_part, shown_parts, text_of, with_marks}
+use Rattle.markdown_html_text.specs.HtmlLeaves.{html_level}
+use Rattle.markdown_reader.specs.Mapping.{LinkSaid, Mapping, nothing_shown, new_gutter, with_last, is_spaced, spaced, blank_row, link_at, linked, section_of, put, added, passed, list_ended, begun, closed, item_ended, ended_by, words, addresses_in, words_shown, task_by, alert_line, alert_by, paragraph_by, heading_style, html_text, html_by, leaves_in, address_said, table_addresses, code_shown, leaf_shown, shown_part, shown_parts, text_of, with_marks}
 use Rattle.markdown_reader.specs.Markdown.{printable_sections, unmarked_links}
 use Rattle.markdown_reader.specs.SectionNumbers.{task_words, alert_words, paragraph_words, words_numbers, kind_numbers, part_numbers, added_numbers, parts_numbers, unmarked_numbers}
 use Rattle.markdown_reader.specs.Steady.{steady_sections}
-use Rattle.markdown_reader.proofs.LinkFitLemmas.{Fits, fits_append, fits_less, after_fits, leaf_fits, cell_fits}
+use Rattle.markdown_reader.proofs.LinkFitLemmas.{Fits, fits_append, fits_less, after_fits, leaf_fits, html_fits, cell_fits}
 use Rattle.markdown_reader.proofs.LinkMarkLemmas.{blank_numbers, none_added, put_numbers, item_numbers}
 
 -- ---- cells and rows of a table
@@ -143,6 +144,12 @@ leaf_restyled style labels text =
     let gs : List Glyph = trimmed (leaf_glyphs labels false text) in
     if_restyled style (length gs == 0) [] (rows_from [] gs) refl (rows_restyled style [] gs)
 
+html_restyled : (style : CompositeStyle) (text : List ℕ) → link_texts (restyled style style (html_lines text)) ≡ link_texts (html_lines text)
+unfolding html_lines restyled
+html_restyled style text =
+    let gs : List Glyph = trimmed (html_glyphs text) in
+    if_restyled style (length gs == 0) [] (rows_from [] gs) refl (rows_restyled style [] gs)
+
 words_fit : (defined : Defined) (bytes : List ℕ) → Fits (length (addresses_in defined bytes)) (words_numbers defined bytes) (link_texts (words defined bytes))
 words_fit defined bytes =
     let text : List ℕ = text_of bytes in
@@ -162,14 +169,6 @@ code_texts : (lines : List Remaining) → link_texts (code_lines 0 lines) ≡ []
 unfolding code_lines
 code_texts [] = refl
 code_texts (line ∷ lines) = ap (λ (l : List (List ℕ)). l ++ link_texts (map (code_line 0) lines)) (if_texts ((line.pending == 0) && (length line.bytes == 0)) _ _ refl refl) ∙ code_texts lines
-
-html_texts : (texts : List (List ℕ)) → link_texts (map html_row texts) ≡ []
-html_texts [] = refl
-html_texts (text ∷ texts) = html_texts texts
-
-html_lines_texts : (text : List ℕ) → link_texts (html_lines text) ≡ []
-unfolding html_lines
-html_lines_texts text = html_texts (html_rows text)
 
 none_fit : (count : ℕ) (lines : List LineContent) → link_texts lines ≡ [] → Fits count [] (link_texts lines)
 none_fit count lines e = subst (Fits count []) (sym e) (refl, tt)
@@ -306,10 +305,21 @@ paragraph_fit None defined bytes m nss h = words_shown_fit defined bytes m nss h
 code_fit : (marks : List MarkRun) (lines : List Remaining) (m : Mapping) (nss : List (List ℕ)) → HasFit m nss → HasFit (code_shown marks lines m) (nss ++ added_numbers [] m (code_shown marks lines m))
 code_fit marks lines m nss h = put_fit Boxed (code_lines 0 lines) [] [] (with_marks marks m) nss (none_fit 0 (code_lines 0 lines) (code_texts lines)) h
 
+html_text_fit : (text : List ℕ) → Fits (length (html_addresses text)) (html_numbers text) (link_texts (html_lines text))
+html_text_fit text =
+    let same : length (links_from 0 (html_pieces text)) ≤ length (html_addresses text) = (let e = length-map (links_from 0 (html_pieces text)) (address_of [] text) in omega (arith, e)) in
+    fits_less (length (links_from 0 (html_pieces text))) (length (html_addresses text)) _ _ same (html_fits text)
+
+html_shown_fit : (t : Bool) (level : ℕ) (text : List ℕ) (m : Mapping) (nss : List (List ℕ)) → HasFit m nss → HasFit (html_by t level text m) (nss ++ added_numbers (html_numbers text) m (html_by t level text m))
+html_shown_fit true level text m nss h = put_fit Words (html_lines text) (html_addresses text) (html_numbers text) m nss (html_text_fit text) h
+html_shown_fit false level text m nss h =
+    put_fit Large (restyled (heading_style level) (heading_style level) (html_lines text)) (html_addresses text) (html_numbers text) m nss
+    (subst (Fits (length (html_addresses text)) (html_numbers text)) (sym (html_restyled (heading_style level) text)) (html_text_fit text)) h
+
 leaf_shown_fit : (defined : Defined) (kind : Kind) (lines : List Remaining) (m : Mapping) (nss : List (List ℕ)) → HasFit m nss
     → HasFit (leaf_shown defined kind lines m) (nss ++ added_numbers (kind_numbers defined (new_gutter m) kind lines) m (leaf_shown defined kind lines m))
 leaf_shown_fit defined ParagraphKind lines m nss h = paragraph_fit (new_gutter m) defined (joined [] lines) m nss h
-leaf_shown_fit defined Html lines m nss h = put_fit Words (html_lines (joined [] lines)) [] [] m nss (none_fit 0 (html_lines (joined [] lines)) (html_lines_texts (joined [] lines))) h
+leaf_shown_fit defined Html lines m nss h = html_shown_fit (html_level (joined [] lines) == 0) (html_level (joined [] lines)) (html_text (joined [] lines)) m nss h
 leaf_shown_fit defined (Heading level) lines m nss h =
     put_fit Large (restyled (heading_style level) (heading_style level) (words defined (joined [] lines))) (addresses_in defined (joined [] lines)) (words_numbers defined (joined [] lines)) m nss (restyled_fit (heading_style level) defined (joined [] lines)) h
 leaf_shown_fit defined Indented lines m nss h = code_fit [] lines m nss h
@@ -336,7 +346,7 @@ parts_fit defined (part ∷ parts) m nss h =
 
 source_fit : (source : List ℕ) → AreFit 0 (unmarked_links source) (unmarked_numbers source) (printable_sections source)
 unfolding unmarked_links unmarked_numbers printable_sections
-source_fit source = parts_fit (definitions_of (parts_of source)) (parts_of source) nothing_shown [] tt
+source_fit source = parts_fit (definitions_of (parts_of source)) (flat_map leaves_in (parts_of source)) nothing_shown [] tt
 
 -- ---- steady sections
 

@@ -1,6 +1,6 @@
 -- Where links lead: nothing that a terminal obeys.
 use Rattle.std.proofs.Common.{◌≡◌, ℕ, zero, suc, ◌+◌, Bool, true, false, ◌==◌, List, [], ◌∷◌, ◌++◌, length, drop, map, Option, Some, None, slice_get, refl, sym, subst, if◌then◌else◌}
-use Rattle.std.specs.List.{AllByRecursion, list_any}
+use Rattle.std.specs.List.{AllByRecursion, list_any, flat_map}
 use Rattle.std.specs.Str.{NoCharPasses, bytes_eq}
 use Rattle.markdown_brackets.specs.Labels.{normal}
 use Rattle.markdown_marks.specs.Definitions.{after_definition}
@@ -11,8 +11,8 @@ use Rattle.markdown_destinations.specs.Destinations.{Leads, link_leads}
 use Rattle.markdown_link_parts.specs.Parts.{defined_destination}
 use Rattle.markdown_link_parts.specs.Texts.{text_of}
 use Rattle.markdown_inlines.specs.declared.inlines.LinkTarget.{LinkTarget}
-use Rattle.markdown_inlines.specs.declared.inlines.LinkTarget.TheVariants.{Definition, Inline, Address}
-use Rattle.markdown_inlines.specs.Inlines.{leaf_links}
+use Rattle.markdown_inlines.specs.declared.inlines.LinkTarget.TheVariants.{Definition, Inline, Address, Attribute}
+use Rattle.markdown_inlines.specs.Inlines.{leaf_links, links_from}
 use Rattle.markdown_leaves.specs.Defining.{joined}
 use Rattle.markdown_leaves.specs.Parts.{PartContent, begins, ends, block}
 use Rattle.markdown_leaves.specs.Told.{parts_of}
@@ -35,10 +35,12 @@ use Rattle.mad_sections.specs.declared.gutters.Gutter.TheVariants.{Bar, AlertBar
 use Rattle.markdown_lines.specs.Code.{code_lines}
 use Rattle.markdown_lines.specs.Leaf.{html_lines}
 use Rattle.markdown_lines.specs.Links as line_links
-use Rattle.markdown_lines.specs.Links.{Defined, definition_address, address_or_none, address_by, address_in, address_of, leaf_addresses, links_at}
+use Rattle.markdown_lines.specs.Links.{html_addresses, Defined, definition_address, address_or_none, address_by, address_in, address_of, leaf_addresses, links_at}
 use Rattle.markdown_lines.specs.Restyled.{restyled}
 use Rattle.markdown_tones.specs.Fences.{fence_marks}
-use Rattle.markdown_reader.specs.Mapping.{LinkSaid, Mapping, nothing_shown, new_gutter, with_last, is_spaced, spaced, link_at, put, passed, list_ended, begun, item_ended, ended_by, words, addresses_in, text_of as leaf_text, words_shown, task_by, alert_line, alert_by, paragraph_by, heading_style, address_said, table_addresses, leaf_shown, shown_part, shown_parts, with_marks}
+use Rattle.markdown_html_text.specs.HtmlLeaves.{html_level}
+use Rattle.markdown_html_text.specs.HtmlPieces.{html_pieces}
+use Rattle.markdown_reader.specs.Mapping.{LinkSaid, Mapping, nothing_shown, new_gutter, with_last, is_spaced, spaced, link_at, put, passed, list_ended, begun, item_ended, ended_by, words, addresses_in, text_of as leaf_text, words_shown, task_by, alert_line, alert_by, paragraph_by, heading_style, html_text, html_by, leaves_in, address_said, table_addresses, leaf_shown, shown_part, shown_parts, with_marks}
 use Rattle.markdown_reader.proofs.LinesPrinted.{text_printed}
 use Rattle.markdown_lines.specs.Printed.{is_obeyed}
 use Rattle.markdown_reader.specs.Printed.{ArePrintedLinks}
@@ -114,6 +116,7 @@ by_printed : (addresses : List (List ℕ)) (link : LinkTarget) → ArePrintedTex
 by_printed addresses (Definition index) h = get_printed addresses index h
 by_printed addresses (Inline at len) h = empty_printed
 by_printed addresses (Address scheme at len) h = empty_printed
+by_printed addresses (Attribute at value) h = empty_printed
 
 in_leads : (defined : List ℕ) (leads : Option Leads) → IsPrintedText defined → IsPrintedText (address_in defined leads)
 in_leads defined None h = h
@@ -217,9 +220,13 @@ paragraph_has (Some (Signs level)) defined bytes m k h = words_has defined bytes
 paragraph_has (Some (Below level)) defined bytes m k h = words_has defined bytes m k h
 paragraph_has None defined bytes m k h = words_has defined bytes m k h
 
+html_has : (t : Bool) (level : ℕ) (text : List ℕ) (m : Mapping) → HasPrinted m → HasPrinted (html_by t level text m)
+html_has true level text m h = put_has Words (html_lines text) (html_addresses text) m (addresses_printed [] text (links_from 0 (html_pieces text)) tt) h
+html_has false level text m h = put_has Large (restyled (heading_style level) (heading_style level) (html_lines text)) (html_addresses text) m (addresses_printed [] text (links_from 0 (html_pieces text)) tt) h
+
 leaf_has : (defined : Defined) (kind : Kind) (lines : List Remaining) (m : Mapping) → LeadsPrinted defined → HasPrinted m → HasPrinted (leaf_shown defined kind lines m)
 leaf_has defined ParagraphKind lines m k h = paragraph_has (new_gutter m) defined (joined [] lines) m k h
-leaf_has defined Html lines m k h = put_has Words (html_lines (joined [] lines)) [] m tt h
+leaf_has defined Html lines m k h = html_has (html_level (joined [] lines) == 0) (html_level (joined [] lines)) (html_text (joined [] lines)) m h
 leaf_has defined (Heading level) lines m k h =
     put_has Large (restyled (heading_style level) (heading_style level) (words defined (joined [] lines))) (addresses_in defined (joined [] lines)) m (leaf_addresses_printed defined (leaf_text (joined [] lines)) k) h
 leaf_has defined Indented lines m k h = put_has Boxed (code_lines 0 lines) [] (with_marks [] m) tt h
@@ -242,7 +249,7 @@ parts_have defined (part ∷ parts) m k h = parts_have defined parts (shown_part
 
 source_has : (source : List ℕ) → ArePrintedLinks (unmarked_links source)
 unfolding unmarked_links
-source_has source = parts_have (definitions_of (parts_of source)) (parts_of source) nothing_shown (definitions_printed (parts_of source)) no_links
+source_has source = parts_have (definitions_of (parts_of source)) (flat_map leaves_in (parts_of source)) nothing_shown (definitions_printed (parts_of source)) no_links
 
 -- where the links of a text lead has nothing that a terminal obeys
 pub links_printed : (source : List ℕ) (links : List LinkSaid) → links ≡ unmarked_links source → ArePrintedLinks links

@@ -1,5 +1,5 @@
 -- Sections have the marks of the fences that they show.
-use Rattle.std.proofs.Common.{◌≡◌, ◌⊎◌, inl, inr, ℕ, Bool, true, false, ◌==◌, List, [], ◌∷◌, ◌++◌, map, length, drop, Option, Some, None, refl, sym, ap, ◌∙◌, append-nil, append_assoc, arith, if◌then◌else◌}
+use Rattle.std.proofs.Common.{◌≡◌, ◌⊎◌, inl, inr, ℕ, Bool, true, false, ◌==◌, List, [], ◌∷◌, ◌++◌, map, length, drop, Option, Some, None, refl, sym, ap, subst, ◌∙◌, append-nil, append_assoc, arith, if◌then◌else◌}
 use Rattle.std.specs.List.{AllByRecursion, flat_map}
 use Rattle.bstr.proofs.lemmas.PieceLemmas.{pieces-nil}
 use Rattle.bstr.specs.Utf8.{Decoded}
@@ -8,7 +8,7 @@ use Rattle.code_colors.specs.Tokens.{tokens_by}
 use Rattle.code_tones.specs.Tones.{byte_tones, counted_tones, toned}
 use Rattle.mad_mark_runs.specs.Values as runs
 use Rattle.mad_mark_runs.specs.declared.mark_runs.MarkRun.{MarkRun}
-use Rattle.markdown_marks.specs.Remaining.{Remaining}
+use Rattle.markdown_marks.specs.Remaining.{Remaining, whole}
 use Rattle.markdown_blocks.specs.declared.containers.Container.{Container}
 use Rattle.markdown_blocks.specs.declared.containers.Container.TheVariants.{Quote, Item}
 use Rattle.markdown_leaves.specs.Defining.{joined}
@@ -25,7 +25,7 @@ use Rattle.mad_sections.specs.declared.gutters.Gutter.TheVariants.{Bar, AlertBar
 use Rattle.std.proofs.lemmas.Bool.Decides.{nat_tests}
 use Rattle.markdown_lines.specs.Code.{code_line, code_lines}
 use Rattle.markdown_lines.specs.Leaf.{html_lines}
-use Rattle.markdown_lines.specs.Links.{Defined}
+use Rattle.markdown_lines.specs.Links.{html_addresses, Defined}
 use Rattle.markdown_lines.specs.Restyled.{restyled, empty_line}
 use Rattle.markdown_lines.specs.Steady.{steady_lines}
 use Rattle.markdown_lines.specs.Tables.{table_lines}
@@ -37,10 +37,12 @@ use Rattle.markdown_gutters.specs.declared.forms.Form.{Form}
 use Rattle.markdown_gutters.specs.declared.forms.Form.TheVariants.{Words, Large, Listed, Boxed}
 use Rattle.markdown_tones.specs.Fences.{fence_language, fence_marks, marks_in}
 use Rattle.markdown_definitions.specs.Definitions.{definitions_of}
-use Rattle.markdown_reader.specs.Mapping.{Mapping, nothing_shown, new_gutter, with_last, is_spaced, spaced, blank_row, linked, section_of, put, added, passed, list_ended, begun, closed, item_ended, ended_by, words, addresses_in, words_shown, task_by, alert_line, alert_by, paragraph_by, heading_style, table_addresses, code_shown, leaf_shown, shown_part, shown_parts, with_marks}
+use Rattle.markdown_html_text.specs.HtmlLeaves.{html_leaves, html_level}
+use Rattle.markdown_reader.specs.Mapping.{Mapping, nothing_shown, new_gutter, with_last, is_spaced, spaced, blank_row, linked, section_of, put, added, passed, list_ended, begun, closed, item_ended, ended_by, words, addresses_in, words_shown, task_by, alert_line, alert_by, paragraph_by, heading_style, html_text, html_by, html_leaf, html_parts, leaves_by, leaves_in, table_addresses, code_shown, leaf_shown, shown_part, shown_parts, with_marks}
 use Rattle.markdown_reader.specs.Markdown.{printable_sections}
 use Rattle.markdown_reader.specs.Marked.{SectionsAreMarked, ShowsFence, kind_marks, part_marks}
 use Rattle.markdown_reader.specs.Steady.{steady_section, steady_sections}
+use Rattle.markdown_reader.proofs.PartsLemmas.{shown_joined}
 
 -- ---- what sections have
 
@@ -204,10 +206,14 @@ same_all parts all others m e h = record { has = record { each = h.has.each; sai
 more_none : (parts : List PartContent) (all : List MarkRun) (m : Mapping) → HasMarked parts all m → HasMarked parts (all ++ []) m
 more_none parts all m h = same_all parts all (all ++ []) m (sym (append-nil all)) h
 
+html_has : (parts : List PartContent) (all : List MarkRun) (t : Bool) (level : ℕ) (text : List ℕ) (m : Mapping) → HasMarked parts all m → HasMarked parts all (html_by t level text m)
+html_has parts all true level text m h = put_has parts all Words (html_lines text) (html_addresses text) m h
+html_has parts all false level text m h = put_has parts all Large (restyled (heading_style level) (heading_style level) (html_lines text)) (html_addresses text) m h
+
 leaf_has : (parts : List PartContent) (all : List MarkRun) (defined : Defined) (kind : Kind) (lines : List Remaining) (m : Mapping) → (kind ≡ Fenced → MayBe parts (fence_marks lines) (code_lines 0 (drop 1 lines))) → HasMarked parts all m
     → HasMarked parts (all ++ kind_marks kind lines) (leaf_shown defined kind lines m)
 leaf_has parts all defined ParagraphKind lines m may h = more_none parts all _ (paragraph_has parts all (new_gutter m) defined (joined [] lines) m h)
-leaf_has parts all defined Html lines m may h = more_none parts all _ (put_has parts all Words (html_lines (joined [] lines)) [] m h)
+leaf_has parts all defined Html lines m may h = more_none parts all _ (html_has parts all (html_level (joined [] lines) == 0) (html_level (joined [] lines)) (html_text (joined [] lines)) m h)
 leaf_has parts all defined (Heading level) lines m may h =
     more_none parts all _ (put_has parts all Large (restyled (heading_style level) (heading_style level) (words defined (joined [] lines))) (addresses_in defined (joined [] lines)) m h)
 leaf_has parts all defined Indented lines m may h = indented_has parts all lines m h
@@ -235,13 +241,64 @@ part_has parts before after all defined (block leaf) m told h =
     (λ fenced s marks lines_are. shows_it parts before after leaf s told fenced lines_are marks)
     (record { has = h.has; next = h.next })
 
-parts_have : (parts before rest : List PartContent) (all : List MarkRun) (defined : Defined) (m : Mapping) → parts ≡ before ++ rest → HasMarked parts all m → HasMarked parts (all ++ flat_map part_marks rest) (shown_parts defined rest m)
+-- ---- html leaf by leaf
+
+html_leaf_has : (parts : List PartContent) (all : List MarkRun) (defined : Defined) (apart : Bool) (text : List ℕ) (m : Mapping) → HasMarked parts all m → HasMarked parts all (shown_part defined (html_leaf apart text) m)
+unfolding shown_part
+html_leaf_has parts all defined apart text m h =
+    html_has parts all (html_level (joined [] (whole text ∷ [])) == 0) (html_level (joined [] (whole text ∷ []))) (html_text (joined [] (whole text ∷ []))) (list_ended (passed apart m)) (record { has = h.has; next = h.next })
+
+html_rest_have : (parts : List PartContent) (all : List MarkRun) (defined : Defined) (leaves : List (List ℕ)) (m : Mapping) → HasMarked parts all m → HasMarked parts all (shown_parts defined (map (html_leaf false) leaves) m)
 unfolding shown_parts
-parts_have parts before [] all defined m told h = more_none parts all m h
+html_rest_have parts all defined [] m h = h
+html_rest_have parts all defined (leaf ∷ leaves) m h = html_rest_have parts all defined leaves (shown_part defined (html_leaf false leaf) m) (html_leaf_has parts all defined false leaf m h)
+
+html_parts_have : (parts : List PartContent) (all : List MarkRun) (defined : Defined) (apart : Bool) (leaves : List (List ℕ)) (m : Mapping) → HasMarked parts all m → HasMarked parts all (shown_parts defined (html_parts apart leaves) m)
+unfolding shown_parts
+html_parts_have parts all defined apart [] m h = h
+html_parts_have parts all defined apart (leaf ∷ leaves) m h = html_rest_have parts all defined leaves (shown_part defined (html_leaf apart leaf) m) (html_leaf_has parts all defined apart leaf m h)
+
+one_part : (defined : Defined) (part : PartContent) (m : Mapping) → shown_part defined part m ≡ shown_parts defined (part ∷ []) m
+unfolding shown_parts
+one_part defined part m = refl
+
+other_have : (parts before after : List PartContent) (all : List MarkRun) (defined : Defined) (leaf : BlockContent) (kind : Kind) (m : Mapping) → parts ≡ before ++ block leaf ∷ after → leaf.kind ≡ kind → HasMarked parts all m
+    → HasMarked parts (all ++ kind_marks kind leaf.lines) (shown_parts defined (block leaf ∷ []) m)
+other_have parts before after all defined leaf kind m told is h =
+    subst (HasMarked parts (all ++ kind_marks kind leaf.lines)) (one_part defined (block leaf) m)
+    (subst (λ (k : Kind). HasMarked parts (all ++ kind_marks k leaf.lines) (shown_part defined (block leaf) m)) is (part_has parts before after all defined (block leaf) m told h))
+
+kind_have : (parts before after : List PartContent) (all : List MarkRun) (defined : Defined) (leaf : BlockContent) (kind : Kind) (m : Mapping) → parts ≡ before ++ block leaf ∷ after → leaf.kind ≡ kind → HasMarked parts all m
+    → HasMarked parts (all ++ kind_marks kind leaf.lines) (shown_parts defined (leaves_by kind leaf) m)
+kind_have parts before after all defined leaf Html m told is h = more_none parts all _ (html_parts_have parts all defined leaf.apart (html_leaves (joined [] leaf.lines)) m h)
+kind_have parts before after all defined leaf ParagraphKind m told is h = other_have parts before after all defined leaf ParagraphKind m told is h
+kind_have parts before after all defined leaf (Heading level) m told is h = other_have parts before after all defined leaf (Heading level) m told is h
+kind_have parts before after all defined leaf Indented m told is h = other_have parts before after all defined leaf Indented m told is h
+kind_have parts before after all defined leaf Fenced m told is h = other_have parts before after all defined leaf Fenced m told is h
+kind_have parts before after all defined leaf (Table columns) m told is h = other_have parts before after all defined leaf (Table columns) m told is h
+kind_have parts before after all defined leaf Rule m told is h = other_have parts before after all defined leaf Rule m told is h
+kind_have parts before after all defined leaf Nothing m told is h = other_have parts before after all defined leaf Nothing m told is h
+kind_have parts before after all defined leaf Definitions m told is h = other_have parts before after all defined leaf Definitions m told is h
+
+leaves_have : (parts before after : List PartContent) (all : List MarkRun) (defined : Defined) (part : PartContent) (m : Mapping) → parts ≡ before ++ part ∷ after → HasMarked parts all m
+    → HasMarked parts (all ++ part_marks part) (shown_parts defined (leaves_in part) m)
+leaves_have parts before after all defined (begins container apart) m told h =
+    subst (HasMarked parts (all ++ [])) (one_part defined (begins container apart) m) (part_has parts before after all defined (begins container apart) m told h)
+leaves_have parts before after all defined ends m told h = subst (HasMarked parts (all ++ [])) (one_part defined ends m) (part_has parts before after all defined ends m told h)
+leaves_have parts before after all defined (block leaf) m told h = kind_have parts before after all defined leaf leaf.kind m told refl h
+
+nothing_shown_of : (defined : Defined) (m : Mapping) → m ≡ shown_parts defined [] m
+unfolding shown_parts
+nothing_shown_of defined m = refl
+
+parts_have : (parts before rest : List PartContent) (all : List MarkRun) (defined : Defined) (m : Mapping) → parts ≡ before ++ rest → HasMarked parts all m → HasMarked parts (all ++ flat_map part_marks rest) (shown_parts defined (flat_map leaves_in rest) m)
+parts_have parts before [] all defined m told h = subst (HasMarked parts (all ++ [])) (nothing_shown_of defined m) (more_none parts all m h)
 parts_have parts before (part ∷ rest) all defined m told h =
-    let here = part_has parts before rest all defined part m told h in
-    let later = parts_have parts (before ++ part ∷ []) rest (all ++ part_marks part) defined (shown_part defined part m) (told ∙ sym (append_assoc before (part ∷ []) rest)) here in
-    same_all parts ((all ++ part_marks part) ++ flat_map part_marks rest) (all ++ (part_marks part ++ flat_map part_marks rest)) _ (append_assoc all (part_marks part) (flat_map part_marks rest)) later
+    let here = leaves_have parts before rest all defined part m told h in
+    let behind : Mapping = shown_parts defined (leaves_in part) m in
+    let later = parts_have parts (before ++ part ∷ []) rest (all ++ part_marks part) defined behind (told ∙ sym (append_assoc before (part ∷ []) rest)) here in
+    subst (HasMarked parts (all ++ (part_marks part ++ flat_map part_marks rest))) (sym (shown_joined defined (leaves_in part) (flat_map leaves_in rest) m))
+    (same_all parts ((all ++ part_marks part) ++ flat_map part_marks rest) (all ++ (part_marks part ++ flat_map part_marks rest)) _ (append_assoc all (part_marks part) (flat_map part_marks rest)) later)
 
 source_has : (source : List ℕ) → Has (parts_of source) (flat_map part_marks (parts_of source)) (printable_sections source)
 unfolding printable_sections

@@ -18,7 +18,7 @@ use Rattle.mad_sections.specs.declared.gutters.Gutter.{Gutter}
 use Rattle.mad_sections.specs.declared.gutters.Gutter.TheVariants.{Bar, AlertBar, Bullet, Number, Task, Code, Signs, Below}
 use Rattle.markdown_lines.specs.Code.{code_lines}
 use Rattle.markdown_lines.specs.Leaf.{html_lines}
-use Rattle.markdown_lines.specs.Links.{Defined}
+use Rattle.markdown_lines.specs.Links.{html_addresses, Defined}
 use Rattle.markdown_lines.specs.Restyled.{restyled, empty_line}
 use Rattle.markdown_lines.specs.Tables.{table_lines}
 use Rattle.markdown_gutters.specs.Forms.{is_big, leaf_gutters, items_gutters}
@@ -28,9 +28,10 @@ use Rattle.markdown_gutters.specs.declared.forms.Form.{Form}
 use Rattle.markdown_gutters.specs.declared.forms.Form.TheVariants.{Words, Large, Listed, Boxed}
 use Rattle.mad_mark_runs.specs.declared.mark_runs.MarkRun.{MarkRun}
 use Rattle.markdown_tones.specs.Fences.{fence_marks}
-use Rattle.markdown_reader.specs.Mapping.{Mapping, nothing_shown, new_gutter, with_last, is_spaced, spaced, blank_row, section_of, added, put, passed, list_ended, begun, nothing_since, with_section, item_ended, ended_by, closed, words, addresses_in, words_shown, task_by, alert_line, alert_by, paragraph_by, heading_style, table_addresses, leaf_shown, shown_part, shown_parts, with_marks, code_shown}
+use Rattle.markdown_html_text.specs.HtmlLeaves.{html_level}
+use Rattle.markdown_reader.specs.Mapping.{Mapping, nothing_shown, new_gutter, with_last, is_spaced, spaced, blank_row, section_of, added, put, passed, list_ended, begun, nothing_since, with_section, item_ended, ended_by, closed, words, addresses_in, words_shown, task_by, alert_line, alert_by, paragraph_by, heading_style, html_text, html_by, table_addresses, leaf_shown, shown_part, shown_parts, with_marks, code_shown}
 use Rattle.markdown_reader.specs.ListedSections.{MayBeListed, SectionsMayBeListed}
-use Rattle.markdown_reader.specs.Nested.{Opened, opened_by, opened_in, IsOf, AreOf, AreNested, new_ones, IsBehindAll, IsBlankRow, AddsNested, SectionsNest, form_of, form_by}
+use Rattle.markdown_reader.specs.Nested.{Opened, opened_by, opened_in, IsOf, AreOf, AreNested, new_ones, IsBehindAll, IsBlankRow, AddsNested, SectionsNest, html_form, form_of, form_by}
 
 by_bool : (P : Bool → Type 0) (b : Bool) → (b ≡ true → P true) → (b ≡ false → P false) → P b
 by_bool P true on off = on refl
@@ -309,9 +310,13 @@ code_does opened marks lines m h =
     let d = put_does opened Boxed (code_lines 0 lines) [] (with_marks marks m) fits in
     record { adds = record { new = d.adds.new; joins = d.adds.joins; nested = d.adds.nested }; fits = record { gutters = d.fits.gutters; seen = d.fits.seen } }
 
-leaf_does : (opened : List Opened) (defined : Defined) (kind : Kind) (lines : List Remaining) (m : Mapping) → Fits opened m → Does (form_of kind) opened m (leaf_shown defined kind lines m)
+html_does : (opened : List Opened) (t : Bool) (level : ℕ) (text : List ℕ) (m : Mapping) → Fits opened m → Does (html_form t) opened m (html_by t level text m)
+html_does opened true level text m h = put_does opened Words (html_lines text) (html_addresses text) m h
+html_does opened false level text m h = put_does opened Large (restyled (heading_style level) (heading_style level) (html_lines text)) (html_addresses text) m h
+
+leaf_does : (opened : List Opened) (defined : Defined) (kind : Kind) (lines : List Remaining) (m : Mapping) → Fits opened m → Does (form_of kind lines) opened m (leaf_shown defined kind lines m)
 leaf_does opened defined ParagraphKind lines m h = paragraph_does opened (new_gutter m) defined (joined [] lines) m h refl
-leaf_does opened defined Html lines m h = put_does opened Words (html_lines (joined [] lines)) [] m h
+leaf_does opened defined Html lines m h = html_does opened (html_level (joined [] lines) == 0) (html_level (joined [] lines)) (html_text (joined [] lines)) m h
 leaf_does opened defined (Heading level) lines m h =
     put_does opened Large (restyled (heading_style level) (heading_style level) (words defined (joined [] lines))) (addresses_in defined (joined [] lines)) m h
 leaf_does opened defined Indented lines m h = code_does opened [] lines m h

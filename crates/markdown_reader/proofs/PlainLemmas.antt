@@ -1,6 +1,6 @@
 -- Lines of Markdown have no sign of their own.
 use Rattle.std.proofs.Common.{◌≡◌, ℕ, zero, suc, Bool, true, false, ◌&&◌, ◌==◌, List, [], ◌∷◌, ◌++◌, map, length, drop, Option, Some, None, refl, if◌then◌else◌}
-use Rattle.std.specs.List.{AllByRecursion}
+use Rattle.std.specs.List.{AllByRecursion, flat_map}
 use Rattle.markdown_marks.specs.Remaining.{Remaining}
 use Rattle.markdown_blocks.specs.declared.containers.Container.{Container}
 use Rattle.markdown_blocks.specs.declared.containers.Container.TheVariants.{Quote, Item}
@@ -17,16 +17,15 @@ use Rattle.mad_sections.specs.Sections.{SectionContent}
 use Rattle.mad_sections.specs.declared.gutters.Alert.{Alert}
 use Rattle.mad_sections.specs.declared.gutters.Gutter.{Gutter}
 use Rattle.mad_sections.specs.declared.gutters.Gutter.TheVariants.{Bar, AlertBar, Bullet, Number, Task, Code, Signs, Below}
-use Rattle.markdown_html_text.specs.Rows.{html_rows}
 use Rattle.markdown_lines.specs.Code.{code_lines}
-use Rattle.markdown_lines.specs.Glyphs.{leaf_glyphs, trimmed}
-use Rattle.markdown_lines.specs.Leaf.{row_of, rows_from, leaf_rows, html_row, html_lines}
-use Rattle.markdown_lines.specs.Links.{Defined}
+use Rattle.markdown_lines.specs.Glyphs.{html_glyphs, leaf_glyphs, trimmed}
+use Rattle.markdown_lines.specs.Leaf.{row_of, rows_from, leaf_rows, html_lines}
+use Rattle.markdown_lines.specs.Links.{html_addresses, Defined}
 use Rattle.markdown_lines.specs.Restyled.{restyled, empty_line}
 use Rattle.markdown_lines.specs.Steady.{steady_runs, steady_lines}
 use Rattle.markdown_marks.specs.Tables as tables
 use Rattle.markdown_cells.specs.Cells.{after_cell, alignments}
-use Rattle.markdown_lines.specs.Tables.{cells, shown_cells, row_said, body, ruled, table_lines}
+use Rattle.markdown_lines.specs.Tables.{cells, shown_cells, row_said, body, table_lines}
 use Rattle.markdown_lines.specs.Texts.{behind_mark}
 use Rattle.markdown_lines.specs.declared.glyphs.Glyph.{Glyph}
 use Rattle.markdown_gutters.specs.Forms.{is_big}
@@ -37,7 +36,8 @@ use Rattle.markdown_gutters.specs.declared.forms.Form.TheVariants.{Words, Large,
 use Rattle.markdown_definitions.specs.Definitions.{definitions_of}
 use Rattle.mad_mark_runs.specs.declared.mark_runs.MarkRun.{MarkRun}
 use Rattle.markdown_tones.specs.Fences.{fence_marks}
-use Rattle.markdown_reader.specs.Mapping.{Mapping, nothing_shown, new_gutter, with_last, is_spaced, spaced, blank_row, linked, section_of, put, passed, list_ended, begun, item_ended, ended_by, text_of, words, addresses_in, words_shown, task_by, alert_line, alert_by, paragraph_by, heading_style, table_addresses, code_shown, leaf_shown, shown_part, shown_parts, with_marks}
+use Rattle.markdown_html_text.specs.HtmlLeaves.{html_level}
+use Rattle.markdown_reader.specs.Mapping.{Mapping, nothing_shown, new_gutter, with_last, is_spaced, spaced, blank_row, linked, section_of, put, passed, list_ended, begun, item_ended, ended_by, text_of, words, addresses_in, words_shown, task_by, alert_line, alert_by, paragraph_by, heading_style, html_text, html_by, leaves_in, table_addresses, code_shown, leaf_shown, shown_part, shown_parts, with_marks}
 use Rattle.markdown_reader.specs.Markdown.{printable_sections}
 use Rattle.markdown_reader.specs.PlainLines.{IsPlainStyle, IsPlainLine, ArePlainLines, ArePlainSections, SectionsArePlain}
 use Rattle.markdown_reader.specs.Steady.{steady_sections}
@@ -63,13 +63,11 @@ leaf_plain labels text =
     let gs : List Glyph = trimmed (leaf_glyphs labels false text) in
     if_plain (length gs == 0) [] (rows_from [] gs) tt (rows_plain [] gs)
 
-texts_plain : (texts : List (List ℕ)) → ArePlainLines (map html_row texts)
-texts_plain [] = tt
-texts_plain (text ∷ texts) = (tt, texts_plain texts)
-
 html_plain : (text : List ℕ) → ArePlainLines (html_lines text)
 unfolding html_lines
-html_plain text = texts_plain (html_rows text)
+html_plain text =
+    let gs : List Glyph = trimmed (html_glyphs text) in
+    if_plain (length gs == 0) [] (rows_from [] gs) tt (rows_plain [] gs)
 
 restyled_plain : (style : CompositeStyle) (rows : List LineContent) → IsPlainStyle style → ArePlainLines (restyled style style rows)
 unfolding restyled
@@ -163,9 +161,13 @@ paragraph_has None defined bytes m h = words_has defined bytes m h
 code_has : (marks : List MarkRun) (lines : List Remaining) (m : Mapping) → HasPlain m → HasPlain (code_shown marks lines m)
 code_has marks lines m h = put_has Boxed (code_lines 0 lines) [] (with_marks marks m) (code_plain 0 lines) h
 
+html_has : (t : Bool) (level : ℕ) (text : List ℕ) (m : Mapping) → HasPlain m → HasPlain (html_by t level text m)
+html_has true level text m h = put_has Words (html_lines text) (html_addresses text) m (html_plain text) h
+html_has false level text m h = put_has Large (restyled (heading_style level) (heading_style level) (html_lines text)) (html_addresses text) m (restyled_plain (heading_style level) (html_lines text) tt) h
+
 leaf_has : (defined : Defined) (kind : Kind) (lines : List Remaining) (m : Mapping) → HasPlain m → HasPlain (leaf_shown defined kind lines m)
 leaf_has defined ParagraphKind lines m h = paragraph_has (new_gutter m) defined (joined [] lines) m h
-leaf_has defined Html lines m h = put_has Words (html_lines (joined [] lines)) [] m (html_plain (joined [] lines)) h
+leaf_has defined Html lines m h = html_has (html_level (joined [] lines) == 0) (html_level (joined [] lines)) (html_text (joined [] lines)) m h
 leaf_has defined (Heading level) lines m h =
     let rows = words defined (joined [] lines) in
     put_has Large (restyled (heading_style level) (heading_style level) rows) (addresses_in defined (joined [] lines)) m (restyled_plain (heading_style level) rows tt) h
@@ -189,7 +191,7 @@ parts_have defined (part ∷ parts) m h = parts_have defined parts (shown_part d
 
 source_has : (source : List ℕ) → ArePlainSections (printable_sections source)
 unfolding printable_sections
-source_has source = parts_have (definitions_of (parts_of source)) (parts_of source) nothing_shown tt
+source_has source = parts_have (definitions_of (parts_of source)) (flat_map leaves_in (parts_of source)) nothing_shown tt
 
 -- ---- steady lines
 

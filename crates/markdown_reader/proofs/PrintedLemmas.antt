@@ -1,7 +1,7 @@
 -- What is shown has no character that a terminal obeys.
 use Rattle.std.proofs.Common.{◌≡◌, ℕ, ◌<◌, Bool, true, false, not, ◌&&◌, nat_lt, ◌==◌, ap, ◌∙◌, arith, List, [], ◌∷◌, ◌++◌, length, drop, Option, Some, None, refl, sym, subst, if◌then◌else◌}
 use Rattle.std.specs.Prelude.{encode_utf8_all}
-use Rattle.std.specs.List.{list_all}
+use Rattle.std.specs.List.{list_all, flat_map}
 use Rattle.std.specs.Str.{NoCharPasses, NonePass}
 use Rattle.std.proofs.lemmas.Bool.{and_parts}
 use Rattle.std.proofs.lemmas.Bool.Decides.{nat_tests}
@@ -23,7 +23,7 @@ use Rattle.mad_sections.specs.declared.gutters.Gutter.{Gutter}
 use Rattle.mad_sections.specs.declared.gutters.Gutter.TheVariants.{Bar, AlertBar, Bullet, Number, Task, Code, Signs, Below}
 use Rattle.markdown_lines.specs.Code.{code_lines}
 use Rattle.markdown_lines.specs.Leaf.{html_lines}
-use Rattle.markdown_lines.specs.Links.{Defined}
+use Rattle.markdown_lines.specs.Links.{html_addresses, Defined}
 use Rattle.markdown_lines.specs.Printed.{is_obeyed, ArePrinted}
 use Rattle.markdown_lines.specs.Restyled.{restyled, empty_line}
 use Rattle.markdown_lines.specs.Tables.{table_lines}
@@ -35,11 +35,13 @@ use Rattle.markdown_gutters.specs.declared.forms.Form.TheVariants.{Words, Large,
 use Rattle.markdown_definitions.specs.Definitions.{definitions_of}
 use Rattle.mad_mark_runs.specs.declared.mark_runs.MarkRun.{MarkRun}
 use Rattle.markdown_tones.specs.Fences.{fence_marks}
-use Rattle.markdown_reader.specs.Mapping.{Mapping, nothing_shown, new_gutter, with_last, is_spaced, spaced, blank_row, linked, section_of, put, passed, list_ended, begun, item_ended, ended_by, text_of, words, addresses_in, words_shown, task_by, alert_line, alert_by, paragraph_by, heading_style, table_addresses, code_shown, leaf_shown, shown_part, shown_parts, with_marks}
+use Rattle.markdown_html_text.specs.HtmlLeaves.{html_level}
+use Rattle.markdown_reader.specs.Mapping.{Mapping, nothing_shown, new_gutter, with_last, is_spaced, spaced, blank_row, linked, section_of, put, passed, list_ended, begun, item_ended, ended_by, text_of, words, addresses_in, words_shown, task_by, alert_line, alert_by, paragraph_by, heading_style, html_text, html_by, leaves_in, table_addresses, code_shown, leaf_shown, shown_part, shown_parts, with_marks}
 use Rattle.markdown_reader.specs.Markdown.{printable_sections}
 use Rattle.markdown_reader.specs.Printed.{ArePrintedSections}
 use Rattle.markdown_reader.proofs.GlyphsPrinted.{nothing_printed, cons_printed, leaf_printed}
-use Rattle.markdown_reader.proofs.LinesPrinted.{html_printed, restyled_printed, code_lines_printed, table_printed}
+use Rattle.markdown_reader.proofs.GlyphsPrinted.{html_printed}
+use Rattle.markdown_reader.proofs.LinesPrinted.{restyled_printed, code_lines_printed, table_printed}
 
 -- ---- sections
 
@@ -152,9 +154,13 @@ paragraph_has None defined bytes m h = words_has defined bytes m h
 code_has : (marks : List MarkRun) (lines : List Remaining) (m : Mapping) → HasPrinted m → HasPrinted (code_shown marks lines m)
 code_has marks lines m h = put_has Boxed (code_lines 0 lines) [] (with_marks marks m) (code_lines_printed 0 lines) h
 
+html_has : (t : Bool) (level : ℕ) (text : List ℕ) (m : Mapping) → HasPrinted m → HasPrinted (html_by t level text m)
+html_has true level text m h = put_has Words (html_lines text) (html_addresses text) m (html_printed text) h
+html_has false level text m h = put_has Large (restyled (heading_style level) (heading_style level) (html_lines text)) (html_addresses text) m (restyled_printed (heading_style level) (heading_style level) (html_lines text) (html_printed text)) h
+
 leaf_has : (defined : Defined) (kind : Kind) (lines : List Remaining) (m : Mapping) → HasPrinted m → HasPrinted (leaf_shown defined kind lines m)
 leaf_has defined ParagraphKind lines m h = paragraph_has (new_gutter m) defined (joined [] lines) m h
-leaf_has defined Html lines m h = put_has Words (html_lines (joined [] lines)) [] m (html_printed (joined [] lines)) h
+leaf_has defined Html lines m h = html_has (html_level (joined [] lines) == 0) (html_level (joined [] lines)) (html_text (joined [] lines)) m h
 leaf_has defined (Heading level) lines m h =
     let rows = words defined (joined [] lines) in
     put_has Large (restyled (heading_style level) (heading_style level) rows) (addresses_in defined (joined [] lines)) m
@@ -179,7 +185,7 @@ parts_have defined (part ∷ parts) m h = parts_have defined parts (shown_part d
 
 source_has : (source : List ℕ) → ArePrintedSections (printable_sections source)
 unfolding printable_sections
-source_has source = parts_have (definitions_of (parts_of source)) (parts_of source) nothing_shown no_sections
+source_has source = parts_have (definitions_of (parts_of source)) (flat_map leaves_in (parts_of source)) nothing_shown no_sections
 
 -- what a text is shown as has nothing that a terminal obeys
 pub markdown_printed : (source : List ℕ) (sections : List SectionContent) → sections ≡ printable_sections source → ArePrintedSections sections

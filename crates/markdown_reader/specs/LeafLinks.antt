@@ -1,10 +1,11 @@
 -- Which link each byte of a leaf's links belongs to.
 use Rattle.std.specs.Prelude.{◌≡◌, ℕ, ◌==◌, ◌&&◌, Bool, not, List, [], ◌∷◌, ◌++◌, map, encode_utf8, Option, Some, None}
 use Rattle.std.specs.List.{filter, flat_map}
-use Rattle.markdown_inlines.specs.Inlines.{leaf_text}
+use Rattle.markdown_html_text.specs.HtmlPieces.{html_cut}
+use Rattle.markdown_inlines.specs.Inlines.{leaf_text, shown_cut}
 use Rattle.markdown_inlines.specs.Styled.{Shown}
-use Rattle.markdown_lines.specs.Leaf.{cell_runs, leaf_rows}
-use Rattle.markdown_lines.specs.LinkNumbers.{cell_numbers, leaf_numbers}
+use Rattle.markdown_lines.specs.Leaf.{cell_runs, html_lines, leaf_rows}
+use Rattle.markdown_lines.specs.LinkNumbers.{cell_numbers, html_numbers, leaf_numbers}
 use Rattle.mad_link_marks.specs.LinkMarks.{link_texts, run_texts}
 
 -- a byte, and the number of the link that it belongs to
@@ -42,3 +43,7 @@ RunsHaveTheirLinks = (labels : List (List ℕ)) (text : List ℕ) → seen (numb
 -- so it is with the text of each cell
 abbrev pub CellsHaveTheirLinks : Type 0
 CellsHaveTheirLinks = (labels : List (List ℕ)) (bold : Bool) (text : List ℕ) → seen (numbered_bytes (cell_numbers labels bold text) (flat_map run_texts (cell_runs labels bold text))) ≡ seen (flat_map char_bytes (leaf_text labels text))
+
+-- and with the text of each leaf of html
+abbrev pub HtmlHasItsLinks : Type 0
+HtmlHasItsLinks = (text : List ℕ) → seen (numbered_bytes (html_numbers text) (link_texts (html_lines text))) ≡ seen (flat_map char_bytes (shown_cut (html_cut text) text))

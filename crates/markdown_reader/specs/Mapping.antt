@@ -2,11 +2,11 @@
 use Rattle.std.specs.Prelude.{ℕ, ◌-◌, Bool, true, false, ◌||◌, ◌&&◌, ◌==◌, nat_lt, List, [], ◌∷◌, ◌++◌, map, length, take, drop, min, Option, Some, None, if◌then◌else◌}
 use Rattle.std.specs.Str.Lossy.{utf8_lossy}
 use Rattle.markdown_marks.specs.Headings.{without_end}
-use Rattle.markdown_marks.specs.Remaining.{Remaining}
+use Rattle.markdown_marks.specs.Remaining.{Remaining, whole}
 use Rattle.markdown_blocks.specs.declared.containers.Container.{Container}
 use Rattle.markdown_blocks.specs.declared.containers.Container.TheVariants.{Quote, Item}
 use Rattle.markdown_leaves.specs.Defining.{joined}
-use Rattle.markdown_leaves.specs.Parts.{PartContent, begins, ends, block}
+use Rattle.markdown_leaves.specs.Parts.{BlockContent, PartContent, begins, ends, block}
 use Rattle.markdown_leaves.specs.declared.parts.Kind.{Kind}
 use Rattle.markdown_leaves.specs.declared.parts.Kind.TheVariants.{Paragraph as ParagraphKind, Heading, Indented, Fenced, Html, Table, Rule}
 use Rattle.mad_md.specs.Flagged.{Flags}
@@ -20,9 +20,10 @@ use Rattle.mad_sections.specs.declared.gutters.Alert.{Alert}
 use Rattle.mad_sections.specs.declared.gutters.Gutter.{Gutter}
 use Rattle.mad_sections.specs.declared.gutters.Gutter.TheVariants.{Bar, AlertBar, Bullet, Task}
 use Rattle.markdown_lines.specs.Code.{code_lines}
+use Rattle.markdown_html_text.specs.HtmlLeaves.{html_leaves, html_level}
 use Rattle.markdown_lines.specs.Leaf.{leaf_rows, html_lines}
 use Rattle.markdown_lines.specs.Links as line_links
-use Rattle.markdown_lines.specs.Links.{Defined, leaf_addresses}
+use Rattle.markdown_lines.specs.Links.{Defined, html_addresses, leaf_addresses}
 use Rattle.markdown_lines.specs.Restyled.{restyled, empty_line}
 use Rattle.markdown_lines.specs.Tables.{table_lines, table_links}
 use Rattle.markdown_gutters.specs.Forms.{is_big, leaf_gutters, items_gutters}
@@ -211,6 +212,19 @@ heading_style level = Header (min level 255)
 abbrev pub heading_shown : Defined → ℕ → List ℕ → Mapping → Mapping
 heading_shown defined level bytes m = put Large (restyled (heading_style level) (heading_style level) (words defined bytes)) (addresses_in defined bytes) m
 
+-- the text of a leaf of html
+abbrev pub html_text : List ℕ → List ℕ
+html_text bytes = utf8_lossy bytes
+
+-- the rows and links of a leaf of html are shown: a heading's, or words
+abbrev pub html_by : (words : Bool) → ℕ → List ℕ → Mapping → Mapping
+html_by true level text m = put Words (html_lines text) (html_addresses text) m
+html_by false level text m = put Large (restyled (heading_style level) (heading_style level) (html_lines text)) (html_addresses text) m
+
+-- a leaf of html
+abbrev pub html_shown : List ℕ → Mapping → Mapping
+html_shown bytes m = html_by (html_level bytes == 0) (html_level bytes) (html_text bytes) m
+
 -- where a link of a table leads
 abbrev pub address_said : line_links.LinkSaid → List ℕ
 address_said link = link.address
@@ -230,13 +244,34 @@ code_shown marks lines m = with_marks [] (put Boxed (code_lines 0 lines) [] (wit
 -- a leaf is shown as its kind is; nothing and definitions aren't shown
 abbrev pub leaf_shown : Defined → Kind → List Remaining → Mapping → Mapping
 leaf_shown defined ParagraphKind lines m = paragraph_by (new_gutter m) defined (joined [] lines) m
-leaf_shown defined Html lines m = put Words (html_lines (joined [] lines)) [] m
+leaf_shown defined Html lines m = html_shown (joined [] lines) m
 leaf_shown defined (Heading level) lines m = heading_shown defined level (joined [] lines) m
 leaf_shown defined Indented lines m = code_shown [] lines m
 leaf_shown defined Fenced lines m = code_shown (fence_marks lines) (drop 1 lines) m
 leaf_shown defined (Table columns) lines m = put Listed (table_lines defined.labels columns lines) (table_addresses defined columns lines) m
 leaf_shown defined Rule lines m = put Large (horizontal_rule ∷ []) [] m
 leaf_shown defined _ lines m = m
+
+-- ---- leaves of html
+
+-- a leaf of html with this text
+abbrev pub html_leaf : Bool → List ℕ → PartContent
+html_leaf apart text = block (record { kind = Html; apart = apart; lines = whole text ∷ [] })
+
+-- these are leaves of a block; blank lines are before the first alone
+abbrev pub html_parts : Bool → List (List ℕ) → List PartContent
+html_parts apart [] = []
+html_parts apart (leaf ∷ leaves) = html_leaf apart leaf ∷ map (html_leaf false) leaves
+
+-- the leaves that a block is: one, but for html, in which each tag of a heading begins another
+abbrev pub leaves_by : Kind → BlockContent → List PartContent
+leaves_by Html leaf = html_parts leaf.apart (html_leaves (joined [] leaf.lines))
+leaves_by _ leaf = block leaf ∷ []
+
+-- a part of the text as those that are shown one by one
+abbrev pub leaves_in : PartContent → List PartContent
+leaves_in (block leaf) = leaves_by leaf.kind leaf
+leaves_in part = part ∷ []
 
 -- ---- parts
 

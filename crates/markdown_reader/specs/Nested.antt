@@ -1,10 +1,13 @@
 -- Which containers are open where a section is told, and which of them begin with it: by the parts of the text, and the number of sections before each.
-use Rattle.std.specs.Prelude.{◌≡◌, ℕ, ◌+◌, ◌-◌, true, false, ◌==◌, List, [], ◌∷◌, ◌++◌, length, take, None, if◌then◌else◌}
+use Rattle.std.specs.Prelude.{◌≡◌, ℕ, Bool, ◌+◌, ◌-◌, true, false, ◌==◌, List, [], ◌∷◌, ◌++◌, length, take, None, if◌then◌else◌}
 use Rattle.markdown_blocks.specs.declared.containers.Container.{Container}
 use Rattle.markdown_blocks.specs.declared.containers.Container.TheVariants.{Quote, Item}
 use Rattle.markdown_leaves.specs.Parts.{PartContent, begins, ends, block}
 use Rattle.markdown_leaves.specs.declared.parts.Kind.{Kind}
-use Rattle.markdown_leaves.specs.declared.parts.Kind.TheVariants.{Heading, Indented, Fenced, Table, Rule}
+use Rattle.markdown_leaves.specs.declared.parts.Kind.TheVariants.{Heading, Indented, Fenced, Html, Table, Rule}
+use Rattle.markdown_leaves.specs.Defining.{joined}
+use Rattle.markdown_marks.specs.Remaining.{Remaining}
+use Rattle.markdown_html_text.specs.HtmlLeaves.{html_level}
 use Rattle.mad_md.specs.declared.composite.CompositeStyle.TheVariants.{Paragraph}
 use Rattle.mad_sections.specs.Sections.{SectionContent}
 use Rattle.mad_sections.specs.declared.gutters.Gutter.{Gutter}
@@ -33,18 +36,24 @@ unfoldable pub opened_in : Defined → List PartContent → Mapping → List Ope
 opened_in defined [] m opened = opened
 opened_in defined (part ∷ parts) m opened = opened_in defined parts (shown_part defined part m) (opened_by part (length m.sections) opened)
 
+-- the form of a leaf of html: of words, or of a heading
+abbrev pub html_form : (words : Bool) → Form
+html_form true = Words
+html_form false = Large
+
 -- the form of a leaf
-abbrev pub form_of : Kind → Form
-form_of (Heading level) = Large
-form_of Rule = Large
-form_of (Table columns) = Listed
-form_of Indented = Boxed
-form_of Fenced = Boxed
-form_of _ = Words
+abbrev pub form_of : Kind → List Remaining → Form
+form_of (Heading level) lines = Large
+form_of Html lines = html_form (html_level (joined [] lines) == 0)
+form_of Rule lines = Large
+form_of (Table columns) lines = Listed
+form_of Indented lines = Boxed
+form_of Fenced lines = Boxed
+form_of _ lines = Words
 
 -- the form of what a part is shown as: of an item that ends a row without text
 abbrev pub form_by : PartContent → Form
-form_by (block leaf) = form_of leaf.kind
+form_by (block leaf) = form_of leaf.kind leaf.lines
 form_by _ = Words
 
 -- a gutter that a container has: a bar, or that of an alert; a number, a bullet, or a task's box in the place of that

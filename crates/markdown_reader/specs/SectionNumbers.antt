@@ -1,6 +1,7 @@
 -- Which links the runs of sections belong to: for each section, and in it for each run that is of a link, the number of this link among those of the
 -- section, from 0.
 use Rattle.std.specs.Prelude.{ℕ, zero, suc, ◌-◌, Bool, List, [], ◌∷◌, ◌++◌, length, Option, Some, None}
+use Rattle.std.specs.List.{flat_map}
 use Rattle.mad_sections.specs.declared.gutters.Alert.{Alert}
 use Rattle.mad_sections.specs.declared.gutters.Gutter.{Gutter}
 use Rattle.mad_sections.specs.declared.gutters.Gutter.TheVariants.{Bar, Bullet}
@@ -9,13 +10,13 @@ use Rattle.markdown_leaves.specs.Defining.{joined}
 use Rattle.markdown_leaves.specs.Parts.{PartContent, block}
 use Rattle.markdown_leaves.specs.Told.{parts_of}
 use Rattle.markdown_leaves.specs.declared.parts.Kind.{Kind}
-use Rattle.markdown_leaves.specs.declared.parts.Kind.TheVariants.{Paragraph as ParagraphKind, Heading, Table}
-use Rattle.markdown_lines.specs.LinkNumbers.{leaf_numbers}
+use Rattle.markdown_leaves.specs.declared.parts.Kind.TheVariants.{Paragraph as ParagraphKind, Heading, Html, Table}
+use Rattle.markdown_lines.specs.LinkNumbers.{html_numbers, leaf_numbers}
 use Rattle.markdown_lines.specs.Links.{Defined}
 use Rattle.markdown_lines.specs.TableNumbers.{table_numbers}
 use Rattle.markdown_gutters.specs.Signs.{after_box, box_of, after_line, alert_of}
 use Rattle.markdown_definitions.specs.Definitions.{definitions_of}
-use Rattle.markdown_reader.specs.Mapping.{Mapping, nothing_shown, new_gutter, shown_part, text_of}
+use Rattle.markdown_reader.specs.Mapping.{Mapping, nothing_shown, new_gutter, html_text, leaves_in, shown_part, text_of}
 
 -- ---- leaves
 
@@ -39,10 +40,11 @@ paragraph_words _ bytes = bytes
 abbrev pub words_numbers : Defined → List ℕ → List ℕ
 words_numbers defined bytes = leaf_numbers defined.labels (text_of bytes)
 
--- of a leaf, by the gutter that is new in front of it: html and code have no links
+-- of a leaf, by the gutter that is new in front of it: code has no links
 abbrev pub kind_numbers : Defined → Option Gutter → Kind → List Remaining → List ℕ
 kind_numbers defined gutter ParagraphKind lines = words_numbers defined (paragraph_words gutter (joined [] lines))
 kind_numbers defined gutter (Heading level) lines = words_numbers defined (joined [] lines)
+kind_numbers defined gutter Html lines = html_numbers (html_text (joined [] lines))
 kind_numbers defined gutter (Table columns) lines = table_numbers defined 0 columns lines
 kind_numbers defined gutter _ lines = []
 
@@ -70,4 +72,4 @@ parts_numbers defined (part ∷ parts) m = added_numbers (part_numbers defined m
 
 -- of the sections of a text behind its byte order mark
 unfoldable pub unmarked_numbers : List ℕ → List (List ℕ)
-unmarked_numbers source = parts_numbers (definitions_of (parts_of source)) (parts_of source) nothing_shown
+unmarked_numbers source = parts_numbers (definitions_of (parts_of source)) (flat_map leaves_in (parts_of source)) nothing_shown

@@ -1,7 +1,7 @@
 //! Laws, each the contract of a small function: what is said of the sections of all texts.
 
 ghost use Rattle.markdown_reader.specs.Faces.{FacesOnce};
-ghost use Rattle.markdown_reader.specs.LeafLinks.{CellsHaveTheirLinks, RunsHaveTheirLinks};
+ghost use Rattle.markdown_reader.specs.LeafLinks.{CellsHaveTheirLinks, HtmlHasItsLinks, RunsHaveTheirLinks};
 ghost use Rattle.markdown_reader.specs.LinkLaws.{LinksHaveMarks};
 ghost use Rattle.markdown_reader.specs.ListedSections.{SectionsMayBeListed};
 ghost use Rattle.markdown_reader.specs.Marked.{SectionsAreMarked};
@@ -49,10 +49,11 @@ pub fn links_have_marks()
     ensures { LinksHaveMarks }
 {}
 
-/// The runs of a leaf, or of a table's cell, that belong to links have the bytes of the characters that do. They come in the same order, and each in
-/// the link of its character, apart from spaces.
-#[tactic(auto, using(crate::proofs::LeafLinkLemmas::runs_have_their_links, crate::proofs::LeafLinkLemmas::cells_have_their_links))]
+/// The runs of a leaf, of a table's cell, or of a leaf of html, that belong to links have the bytes of the characters that do. They come in the same
+/// order, and each in the link of its character, apart from spaces.
+#[tactic(auto, using(crate::proofs::LeafLinkLemmas::runs_have_their_links, crate::proofs::LeafLinkLemmas::cells_have_their_links, crate::proofs::LeafLinkLemmas::html_has_its_links))]
 pub fn runs_have_their_links()
     ensures leaves { RunsHaveTheirLinks }
     ensures cells { CellsHaveTheirLinks }
+    ensures html { HtmlHasItsLinks }
 {}

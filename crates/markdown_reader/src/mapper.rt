@@ -1,19 +1,20 @@
 //! What the parts of a text are shown as.
 
-ghost use Rattle.std.specs.Prelude.{◌≡◌, ◌||◌, true, false, Some, [], ◌∷◌, ◌++◌, IfOk, OnOk, map, drop, string_bytes, if◌then◌else◌};
+ghost use Rattle.std.specs.Prelude.{◌≡◌, ◌==◌, ◌||◌, true, false, Some, [], ◌∷◌, ◌++◌, IfOk, OnOk, map, drop, string_bytes, if◌then◌else◌};
 ghost use Rattle.markdown_marks.specs.Remaining.{remaining};
 ghost use Rattle.markdown_leaves.specs.Defining.{joined};
-ghost use Rattle.markdown_leaves.specs.Parts.{part_of};
+ghost use Rattle.std.specs.List.{flat_map};
+ghost use Rattle.markdown_leaves.specs.Parts.{block, block_of, part_of};
 ghost use Rattle.mad_md.specs.Lines.{horizontal_rule};
 ghost use Rattle.markdown_lines.specs.Code.{code_lines};
-ghost use Rattle.markdown_lines.specs.Leaf.{html_lines};
+ghost use Rattle.markdown_lines.specs.LinkNumbers.{html_numbers};
 ghost use Rattle.markdown_lines.specs.LinksOf.{defined_of};
 ghost use Rattle.markdown_lines.specs.Restyled.{restyled};
 ghost use Rattle.markdown_lines.specs.Shown.{shown};
 ghost use Rattle.markdown_lines.specs.TableNumbers.{table_numbers};
 ghost use Rattle.markdown_lines.specs.Tables.{table_lines};
 ghost use Rattle.markdown_gutters.specs.Signs.{alert_of, box_of};
-ghost use Rattle.markdown_reader.specs.Mapping.{nothing_shown, with_list, new_gutter, with_last, with_section, blank_row, is_spaced, spaced, linked, added, put, passed, list_ended, quote_begun, numbered, begun, item_ended, ended_by, closed, ended, text_of, words_shown, task_by, alert_line, alert_by, paragraph_by, heading_style, heading_shown, code_shown, table_addresses, leaf_shown, shown_part, shown_parts};
+ghost use Rattle.markdown_reader.specs.Mapping.{nothing_shown, with_list, new_gutter, with_last, with_section, blank_row, is_spaced, spaced, linked, added, put, passed, list_ended, quote_begun, numbered, begun, item_ended, ended_by, closed, ended, text_of, words_shown, task_by, alert_line, alert_by, paragraph_by, heading_style, heading_shown, html_text, html_by, html_shown, leaves_in, code_shown, table_addresses, leaf_shown, shown_part, shown_parts};
 ghost use Rattle.markdown_reader.specs.MappingOf.{mapping_of};
 ghost use Rattle.markdown_reader.specs.NumbersIn.{numbers_in, section_numbers};
 ghost use Rattle.markdown_reader.specs.SectionNumbers.{added_numbers, alert_words, kind_numbers, paragraph_words, part_numbers, parts_numbers, task_words, words_numbers};
@@ -30,10 +31,11 @@ use markdown_gutters::lists::{
     number_in, up_to_bar,
 };
 use markdown_gutters::signs::{after_box, after_line, alert_of, alert_word, box_of};
+use markdown_html_text::leaves::html_level;
 use markdown_leaves::defining::joined;
-use markdown_leaves::{Kind, Part};
+use markdown_leaves::{Block, Kind, Part};
 use markdown_lines::code::push_code_lines;
-use markdown_lines::leaf::{html_lines, read_leaf};
+use markdown_lines::leaf::{read_html, read_leaf};
 use markdown_lines::lines::Lines;
 use markdown_lines::links::Definitions;
 use markdown_lines::places::{RunFlags, RunRange};
@@ -82,12 +84,19 @@ fn heading_style(level: usize) -> CompositeStyle
     CompositeStyle::Header(level.min(255) as u8)
 }
 
-// The text of a leaf.
-fn text_of(alloc: Global, bytes: &[u8]) -> Result<String, AllocError>
+/// The text of a leaf.
+pub(crate) fn text_of(alloc: Global, bytes: &[u8]) -> Result<String, AllocError>
     ensures { IfOk result (λ text. string_bytes text ≡ text_of bytes.now) }
 {
     let text = String::from_utf8_lossy(alloc, without_end(b' ', b'\t', bytes))?;
     Ok(text)
+}
+
+/// The text of a leaf of html.
+pub(crate) fn html_text(alloc: Global, bytes: &[u8]) -> Result<String, AllocError>
+    ensures { IfOk result (λ text. string_bytes text ≡ html_text bytes.now) }
+{
+    String::from_utf8_lossy(alloc, bytes)
 }
 
 // Rows in another style.
@@ -336,8 +345,8 @@ impl Mapper {
 
     // ---- containers
 
-    // Blank lines came, or didn't.
-    fn pass(&mut self, apart: bool)
+    /// Blank lines came, or didn't.
+    pub(crate) fn pass(&mut self, apart: bool)
         ensures mapping { mapping_of self.new ≡ passed apart (mapping_of self.old) }
         ensures kept { numbers_in self.new ≡ numbers_in self.old }
     {
@@ -356,8 +365,8 @@ impl Mapper {
         Ok(())
     }
 
-    // What isn't an item ends the list beside it.
-    fn end_list(&mut self) -> Result<(), AllocError>
+    /// What isn't an item ends the list beside it.
+    pub(crate) fn end_list(&mut self) -> Result<(), AllocError>
         ensures mapping { OnOk result (mapping_of self.new ≡ list_ended (mapping_of self.old)) }
         ensures kept { OnOk result (numbers_in self.new ≡ numbers_in self.old) }
     {
@@ -588,12 +597,26 @@ impl Mapper {
         Ok(())
     }
 
-    fn show_html(&mut self, alloc: Global, bytes: &[u8]) -> Result<(), AllocError>
-        ensures mapping { OnOk result (mapping_of self.new ≡ put Form.Words (html_lines bytes.now) [] (mapping_of self.old)) }
-        ensures numbers { OnOk result (numbers_in self.new ≡ numbers_in self.old ++ added_numbers [] (mapping_of self.old) (mapping_of self.new)) }
+    // A leaf of html: a heading of this level, or words.
+    fn show_html_at(&mut self, alloc: Global, level: usize, text: &str) -> Result<(), AllocError>
+        ensures mapping { OnOk result (mapping_of self.new ≡ html_by (level == 0) level text.now (mapping_of self.old)) }
+        ensures numbers { OnOk result (numbers_in self.new ≡ numbers_in self.old ++ added_numbers (html_numbers text.now) (mapping_of self.old) (mapping_of self.new)) }
     {
-        let rows = html_lines(alloc, bytes)?;
-        self.put(alloc, Form::Words, rows, Vec::new(alloc), Vec::new(alloc))
+        let leaf = read_html(alloc, text)?;
+        if level == 0 {
+            return self.put(alloc, Form::Words, leaf.rows, leaf.addresses, leaf.numbers);
+        }
+        let rows = restyled(alloc, heading_style(level), &leaf.rows)?;
+        self.put(alloc, Form::Large, rows, leaf.addresses, leaf.numbers)
+    }
+
+    /// A leaf of html: a heading, if its tag is in front, or words.
+    pub(crate) fn show_html(&mut self, alloc: Global, bytes: &[u8]) -> Result<(), AllocError>
+        ensures mapping { OnOk result (mapping_of self.new ≡ html_shown bytes.now (mapping_of self.old)) }
+        ensures numbers { OnOk result (numbers_in self.new ≡ numbers_in self.old ++ added_numbers (html_numbers (html_text bytes.now)) (mapping_of self.old) (mapping_of self.new)) }
+    {
+        let text = html_text(alloc, bytes)?;
+        self.show_html_at(alloc, html_level(bytes), text.as_str())
     }
 
     fn show_table(
@@ -684,16 +707,36 @@ impl Mapper {
         replace(&mut self.links, Vec::new(alloc))
     }
 
-    /// A part of the text.
+    /// A leaf as it is.
+    ///
+    /// # Errors
+    ///
+    /// Out of memory is the only error.
     #[tactic(auto, unfolding(crate::specs::Mapping::shown_part))]
+    pub(crate) fn show_block(
+        &mut self,
+        alloc: Global,
+        definitions: &Definitions,
+        leaf: &Block<'_>,
+    ) -> Result<(), AllocError>
+        ensures mapping { OnOk result (mapping_of self.new ≡ shown_part (defined_of definitions.now) (block (block_of leaf.now)) (mapping_of self.old)) }
+        ensures numbers { OnOk result (numbers_in self.new ≡ numbers_in self.old ++ added_numbers (part_numbers (defined_of definitions.now) (mapping_of self.old) (block (block_of leaf.now))) (mapping_of self.old) (mapping_of self.new)) }
+    {
+        self.pass(leaf.apart);
+        self.end_list()?;
+        self.show_leaf(alloc, definitions, leaf.kind, &leaf.lines)
+    }
+
+    /// A part of the text. A block of html is shown leaf by leaf.
+    #[tactic(auto, unfolding(crate::specs::Mapping::shown_part, crate::specs::Mapping::shown_parts, crate::specs::SectionNumbers::parts_numbers))]
     pub fn show(
         &mut self,
         alloc: Global,
         definitions: &Definitions,
         part: &Part<'_>,
     ) -> Result<(), AllocError>
-        ensures mapping { OnOk result (mapping_of self.new ≡ shown_part (defined_of definitions.now) (part_of part.now) (mapping_of self.old)) }
-        ensures numbers { OnOk result (numbers_in self.new ≡ numbers_in self.old ++ added_numbers (part_numbers (defined_of definitions.now) (mapping_of self.old) (part_of part.now)) (mapping_of self.old) (mapping_of self.new)) }
+        ensures mapping { OnOk result (mapping_of self.new ≡ shown_parts (defined_of definitions.now) (leaves_in (part_of part.now)) (mapping_of self.old)) }
+        ensures numbers { OnOk result (numbers_in self.new ≡ numbers_in self.old ++ parts_numbers (defined_of definitions.now) (leaves_in (part_of part.now)) (mapping_of self.old)) }
     {
         match part {
             Part::Begins(container, apart) => {
@@ -701,11 +744,10 @@ impl Mapper {
                 self.begin(*container)
             }
             Part::Ends => self.end(alloc),
-            Part::Block(block) => {
-                self.pass(block.apart);
-                self.end_list()?;
-                self.show_leaf(alloc, definitions, block.kind, &block.lines)
-            }
+            Part::Block(block) => match block.kind {
+                Kind::Html => self.show_html_block(alloc, block.apart, &block.lines),
+                _ => self.show_block(alloc, definitions, block),
+            },
         }
     }
 
@@ -717,8 +759,8 @@ impl Mapper {
         definitions: &Definitions,
         parts: &[Part<'_>],
     ) -> Result<(), AllocError>
-        ensures mapping { OnOk result (mapping_of self.new ≡ shown_parts (defined_of definitions.now) (map part_of parts.now) (mapping_of self.old)) }
-        ensures numbers { OnOk result (numbers_in self.new ≡ numbers_in self.old ++ parts_numbers (defined_of definitions.now) (map part_of parts.now) (mapping_of self.old)) }
+        ensures mapping { OnOk result (mapping_of self.new ≡ shown_parts (defined_of definitions.now) (flat_map leaves_in (map part_of parts.now)) (mapping_of self.old)) }
+        ensures numbers { OnOk result (numbers_in self.new ≡ numbers_in self.old ++ parts_numbers (defined_of definitions.now) (flat_map leaves_in (map part_of parts.now)) (mapping_of self.old)) }
     {
         let mut rest = parts;
         while let [part, next @ ..] = rest {

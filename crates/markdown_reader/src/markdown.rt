@@ -188,7 +188,7 @@ impl Markdown {
         self.sections[section].link_marks(alloc)
     }
 
-    /// The links, in the order of their sections. Those of images aren't among them, nor those of html.
+    /// The links, in the order of their sections. Those of images aren't among them.
     pub fn links(&self) -> &[Link]
         ensures { map link_said result.now ≡ links_said self.now }
     {

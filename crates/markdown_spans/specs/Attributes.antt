@@ -1,6 +1,6 @@
--- What raw html shows: a tag br breaks the line, and an image says its alternative text.
-use Rattle.std.specs.Prelude.{◌≡◌, ℕ, ◌+◌, ◌==◌, ◌&&◌, ◌||◌, not, Bool, true, false, if◌then◌else◌, List, [], ◌∷◌, take, drop, Option, Some, None, codes}
-use Rattle.std.specs.List.{prefix_len}
+-- What raw html shows, and what its tags say of the text behind them: br breaks the line, an image says its alternative text, other names give a flag, and a link leads to an address.
+use Rattle.std.specs.Prelude.{◌≡◌, ℕ, ◌+◌, ◌==◌, ◌&&◌, ◌||◌, not, Bool, true, false, if◌then◌else◌, List, [], ◌∷◌, length, take, drop, Option, Some, None, codes}
+use Rattle.std.specs.List.{prefix_len, list_any}
 use Rattle.std.specs.Char.{is_ascii_alphanumeric}
 use Rattle.markdown_html.specs.Names.{same_letters}
 use Rattle.markdown_html.specs.Starts.{without_slash}
@@ -14,7 +14,9 @@ use Rattle.markdown_spans.specs.Decoded.{decoded}
 use Rattle.markdown_spans.specs.Words.{words}
 use Rattle.markdown_spans.specs.declared.attributes.Value.{Value}
 use Rattle.markdown_spans.specs.declared.attributes.Html.{Html}
-use Rattle.markdown_spans.specs.declared.attributes.Html.TheVariants.{Nothing, Break, Alternative}
+use Rattle.markdown_spans.specs.declared.attributes.Html.TheVariants.{Nothing, Break, Alternative, Source, On, Off, Link, LinkEnd}
+use Rattle.markdown_spans.specs.declared.attributes.Flag.{Flag}
+use Rattle.markdown_spans.specs.declared.attributes.Flag.TheVariants.{Bold, Italic, Strikeout, Code}
 
 -- ---- names
 
@@ -81,20 +83,77 @@ attribute_from name len at place (b ∷ bs) =
     if not (is_attribute place) && is_attribute (next_place place (spaced b)) && is_attribute_named name (b ∷ bs) then value_of (at + len) (drop len (b ∷ bs))
     else attribute_from name len (at + 1) (next_place place (spaced b)) bs
 
--- ---- what is shown
+-- the text of a value, of whose tag these are the bytes after the sign <: blanks are one space, and entities their characters
+abbrev pub value_text : List ℕ → Value → List ℕ
+value_text tag value = decoded false (words false false (take value.len (drop value.start tag)))
 
--- an image shows its alternative text, if it has one
-abbrev pub alternative_by : Option Value → Html
-alternative_by None = Nothing
-alternative_by (Some value) = Alternative value
+-- a byte that is no blank
+abbrev pub is_filling : ℕ → Bool
+is_filling b = not (is_space_byte b)
 
--- the alternative text of an image, of whose tag these are the bytes after the sign <: blanks are one space, and entities their characters
-abbrev pub alternative : List ℕ → Value → List ℕ
-alternative tag value = decoded false (words false false (take value.len (drop value.start tag)))
+-- a value with something else than blanks
+abbrev pub filled : List ℕ → Option Value → Option Value
+filled tag None = None
+filled tag (Some value) = if list_any is_filling (take value.len (drop value.start tag)) then Some value else None
+
+-- the value of a tag's first attribute of this name, if that isn't empty
+abbrev pub attribute : List ℕ → List ℕ → Option Value
+attribute name tag = filled tag (attribute_from name (length name) 0 Name tag)
+
+-- ---- what tags say
+
+-- these bytes are those of a closing tag
+abbrev pub is_closing : List ℕ → Bool
+is_closing tag = first tag == 47
+
+-- an image shows its alternative text, or else the name of its file
+abbrev pub image_by : (alternative source : Option Value) → Html
+image_by (Some value) source = Alternative value
+image_by None (Some value) = Source value
+image_by None None = Nothing
+
+-- a tag a with an address begins a link; any other ends it
+abbrev pub link_by : Option Value → Html
+link_by None = LinkEnd
+link_by (Some value) = Link value
+
+-- of a tag a
+abbrev pub link_shown : List ℕ → Html
+link_shown tag = if is_closing tag then LinkEnd else link_by (attribute (codes "href") tag)
+
+-- the flag that a tag with this name in front gives
+abbrev pub flag_named : List ℕ → Option Flag
+flag_named tag =
+    if is_tag_named (codes "b") tag || is_tag_named (codes "strong") tag then Some Bold
+    else if is_tag_named (codes "i") tag || is_tag_named (codes "em") tag then Some Italic
+    else if is_tag_named (codes "s") tag || is_tag_named (codes "del") tag then Some Strikeout
+    else if is_tag_named (codes "code") tag || is_tag_named (codes "kbd") tag || is_tag_named (codes "tt") tag || is_tag_named (codes "samp") tag then Some Code
+    else None
+
+-- a flag is on behind its tag, and off behind the closing one
+abbrev pub flag_by : (closing : Bool) → Option Flag → Html
+flag_by closing None = Nothing
+flag_by closing (Some flag) = if closing then Off flag else On flag
 
 -- of raw html, from after its sign < to its end
 abbrev pub html_shown : List ℕ → Html
-html_shown bytes =
-    if is_tag_named (codes "br") (without_slash bytes) then Break
-    else if is_tag_named (codes "img") bytes then alternative_by (attribute_from (codes "alt") 3 0 Name bytes)
-    else Nothing
+html_shown tag =
+    if is_tag_named (codes "br") (without_slash tag) then Break
+    else if is_tag_named (codes "img") tag then image_by (attribute (codes "alt") tag) (attribute (codes "src") tag)
+    else if is_tag_named (codes "a") (without_slash tag) then link_shown tag
+    else flag_by (is_closing tag) (flag_named (without_slash tag))
+
+-- ---- names that links go to
+
+-- the first value that there is
+abbrev pub first_value : Option Value → Option Value → Option Value
+first_value None other = other
+first_value (Some value) other = Some value
+
+-- the name of a tag a
+abbrev pub own_name : List ℕ → Option Value
+own_name tag = if is_tag_named (codes "a") tag then attribute (codes "name") tag else None
+
+-- the name that an opening tag gives to its place: its id, or the name of a tag a
+abbrev pub anchor : List ℕ → Option Value
+anchor tag = if is_closing tag then None else first_value (attribute (codes "id") tag) (own_name tag)

@@ -1,9 +1,10 @@
-//! What raw html shows: a tag `br` breaks the line, and an image says its alternative text.
+//! What raw html shows, and what its tags say of the text behind them: `br` breaks the line, an image says its alternative text, other names give
+//! a flag, and a link leads to an address.
 
-ghost use Rattle.std.specs.Prelude.{◌≡◌, ◌+◌, ◌<◌, ◌≤◌, ◌^◌, IfOk, length, take, codes};
-ghost use Rattle.std.specs.List.{prefix_len};
+ghost use Rattle.std.specs.Prelude.{◌≡◌, ◌+◌, ◌<◌, ◌≤◌, ◌^◌, IfOk, length, take, drop, codes};
+ghost use Rattle.std.specs.List.{prefix_len, list_any};
 ghost use Rattle.markdown_marks.specs.Definitions.{is_space_byte};
-ghost use Rattle.markdown_spans.specs.Attributes.{goes_on, is_name_byte, is_tag_named, is_attribute_named, is_value_byte, is_single, is_double, value_here, value_behind, value_of, is_attribute, attribute_from, alternative_by, alternative, html_shown};
+ghost use Rattle.markdown_spans.specs.Attributes.{goes_on, is_name_byte, is_tag_named, is_attribute_named, is_value_byte, is_single, is_double, value_here, value_behind, value_of, is_attribute, attribute_from, value_text, is_filling, filled, attribute, is_closing, image_by, link_by, link_shown, flag_named, flag_by, html_shown, first_value, own_name, anchor};
 
 use crate::code::spaced;
 use crate::decoded::decoded;
@@ -24,7 +25,20 @@ pub struct Value {
     pub len: usize,
 }
 
-/// What raw html shows.
+/// A flag that a tag gives to the text behind it.
+#[derive(Debug, Clone, Copy, PartialEq, Eq)]
+pub enum Flag {
+    /// `b`, `strong`
+    Bold,
+    /// `i`, `em`
+    Italic,
+    /// `s`, `del`
+    Strikeout,
+    /// `code`, `kbd`, `tt`, `samp`
+    Code,
+}
+
+/// What raw html shows, or says of the text behind it.
 #[derive(Debug, Clone, Copy)]
 pub enum Html {
     Nothing,
@@ -32,6 +46,16 @@ pub enum Html {
     Break,
     /// The alternative text of an image.
     Alternative(Value),
+    /// The address of an image without such a text, of which the name of its file is shown.
+    Source(Value),
+    /// A flag is on from here, once more.
+    On(Flag),
+    /// A flag is on once less.
+    Off(Flag),
+    /// A link begins, which leads to this address.
+    Link(Value),
+    /// The link ends that another tag began.
+    LinkEnd,
 }
 
 fn is_name_byte(b: u8) -> bool
@@ -213,37 +237,174 @@ fn attribute_from(name: &[u8], place: Place, bytes: &[u8]) -> Option<Value>
     None
 }
 
-fn alternative_by(value: Option<Value>) -> Html
-    ensures { result ≡ alternative_by value }
-{
-    match value {
-        None => Html::Nothing,
-        Some(value) => Html::Alternative(value),
-    }
-}
-
-/// The alternative text of an image, of whose tag these are the bytes after its sign `<`. Blanks are one space, and entities their characters.
+/// The text of an attribute's value, of whose tag these are the bytes after its sign `<`. Blanks are one space, and entities their characters.
 ///
 /// # Errors
 ///
 /// Out of memory is the only error.
-pub fn alternative(alloc: Global, tag: &[u8], value: Value) -> Result<Vec<u8>, AllocError>
-    ensures { IfOk result (λ text. text.items ≡ alternative tag.now value) }
+pub fn value_text(alloc: Global, tag: &[u8], value: Value) -> Result<Vec<u8>, AllocError>
+    ensures { IfOk result (λ text. text.items ≡ value_text tag.now value) }
 {
     let words = words(alloc, bytes_up_to(bytes_from(tag, value.start), value.len))?;
     let text = decoded(alloc, false, &words)?;
     Ok(text)
 }
 
-/// What raw html shows, whose bytes these are after its sign `<`.
-pub fn html_shown(bytes: &[u8]) -> Html
-    ensures { result ≡ html_shown bytes.now }
+fn is_filling(b: u8) -> bool
+    ensures { result ≡ is_filling b }
 {
-    if is_tag_named(b"br", without_slash(bytes)) {
+    !is_space_byte(b)
+}
+
+// Whether a value has something else than blanks.
+fn is_filled(tag: &[u8], value: Value) -> bool
+    ensures { result ≡ list_any is_filling (take value.len (drop value.start tag.now)) }
+{
+    bytes_up_to(bytes_from(tag, value.start), value.len)
+        .iter()
+        .any(|b| is_filling(*b))
+}
+
+fn filled(tag: &[u8], value: Option<Value>) -> Option<Value>
+    ensures { result ≡ filled tag.now value }
+{
+    match value {
+        None => None,
+        Some(value) => {
+            if is_filled(tag, value) {
+                Some(value)
+            } else {
+                None
+            }
+        }
+    }
+}
+
+/// The value of a tag's first attribute of this name, if that isn't empty. These are the tag's bytes after its sign `<`.
+pub fn attribute(name: &[u8], tag: &[u8]) -> Option<Value>
+    ensures { result ≡ attribute name.now tag.now }
+{
+    filled(tag, attribute_from(name, Place::Name, tag))
+}
+
+/// Whether these are the bytes of a closing tag.
+pub fn is_closing(tag: &[u8]) -> bool
+    ensures { result ≡ is_closing tag.now }
+{
+    first(tag) == b'/'
+}
+
+fn image_by(alternative: Option<Value>, source: Option<Value>) -> Html
+    ensures { result ≡ image_by alternative source }
+{
+    match (alternative, source) {
+        (Some(value), _) => Html::Alternative(value),
+        (None, Some(value)) => Html::Source(value),
+        (None, None) => Html::Nothing,
+    }
+}
+
+fn link_by(href: Option<Value>) -> Html
+    ensures { result ≡ link_by href }
+{
+    match href {
+        None => Html::LinkEnd,
+        Some(value) => Html::Link(value),
+    }
+}
+
+// What a tag `a` says.
+fn link_shown(tag: &[u8]) -> Html
+    ensures { result ≡ link_shown tag.now }
+{
+    if is_closing(tag) {
+        return Html::LinkEnd;
+    }
+    link_by(attribute(b"href", tag))
+}
+
+// The flag that a tag with this name in front gives.
+fn flag_named(tag: &[u8]) -> Option<Flag>
+    ensures { result ≡ flag_named tag.now }
+{
+    if is_tag_named(b"b", tag) || is_tag_named(b"strong", tag) {
+        return Some(Flag::Bold);
+    }
+    if is_tag_named(b"i", tag) || is_tag_named(b"em", tag) {
+        return Some(Flag::Italic);
+    }
+    if is_tag_named(b"s", tag) || is_tag_named(b"del", tag) {
+        return Some(Flag::Strikeout);
+    }
+    if is_tag_named(b"code", tag)
+        || is_tag_named(b"kbd", tag)
+        || is_tag_named(b"tt", tag)
+        || is_tag_named(b"samp", tag)
+    {
+        return Some(Flag::Code);
+    }
+    None
+}
+
+fn flag_by(closing: bool, flag: Option<Flag>) -> Html
+    ensures { result ≡ flag_by closing flag }
+{
+    match flag {
+        None => Html::Nothing,
+        Some(flag) => {
+            if closing {
+                Html::Off(flag)
+            } else {
+                Html::On(flag)
+            }
+        }
+    }
+}
+
+/// What raw html shows, whose bytes these are after its sign `<`.
+pub fn html_shown(tag: &[u8]) -> Html
+    ensures { result ≡ html_shown tag.now }
+{
+    if is_tag_named(b"br", without_slash(tag)) {
         return Html::Break;
     }
-    if is_tag_named(b"img", bytes) {
-        return alternative_by(attribute_from(b"alt", Place::Name, bytes));
+    if is_tag_named(b"img", tag) {
+        return image_by(attribute(b"alt", tag), attribute(b"src", tag));
     }
-    Html::Nothing
+    if is_tag_named(b"a", without_slash(tag)) {
+        return link_shown(tag);
+    }
+    flag_by(is_closing(tag), flag_named(without_slash(tag)))
+}
+
+// ---- names that links go to
+
+fn first_value(value: Option<Value>, other: Option<Value>) -> Option<Value>
+    ensures { result ≡ first_value value other }
+{
+    match value {
+        None => other,
+        Some(value) => Some(value),
+    }
+}
+
+// The name of a tag `a`.
+fn own_name(tag: &[u8]) -> Option<Value>
+    ensures { result ≡ own_name tag.now }
+{
+    if is_tag_named(b"a", tag) {
+        attribute(b"name", tag)
+    } else {
+        None
+    }
+}
+
+/// The name that an opening tag gives to its place, to which links go: its `id`, or the `name` of a tag `a`. These are its bytes after its sign `<`.
+pub fn anchor(tag: &[u8]) -> Option<Value>
+    ensures { result ≡ anchor tag.now }
+{
+    if is_closing(tag) {
+        return None;
+    }
+    first_value(attribute(b"id", tag), own_name(tag))
 }

@@ -1,16 +1,19 @@
 -- Definitions that don't stand before a part don't matter to it, where it asks for none.
-use Rattle.std.proofs.Common.{◌≡◌, true, false, List, [], ◌∷◌, ◌++◌, refl, sym, ap, ◌∙◌, subst}
-use Rattle.std.specs.List.{list_all}
+use Rattle.std.proofs.Common.{◌≡◌, ℕ, Bool, true, false, List, [], ◌∷◌, ◌++◌, map, refl, sym, ap, ◌∙◌, subst}
+use Rattle.std.specs.List.{flat_map, list_all}
 use Rattle.std.proofs.lemmas.Bool.{and_parts}
-use Rattle.markdown_leaves.specs.Parts.{PartContent, begins, ends, block}
+use Rattle.markdown_leaves.specs.Defining.{joined}
+use Rattle.markdown_html_text.specs.HtmlLeaves.{html_leaves}
+use Rattle.markdown_leaves.specs.Parts.{BlockContent, PartContent, begins, ends, block}
 use Rattle.markdown_leaves.specs.Told.{parts_of}
 use Rattle.markdown_leaves.specs.declared.parts.Kind.{Kind}
 use Rattle.markdown_leaves.specs.declared.parts.Kind.TheVariants.{Nothing, Paragraph, Heading, Indented, Fenced, Html, Table, Rule, Definitions}
 use Rattle.markdown_marks.specs.Remaining.{Remaining}
 use Rattle.markdown_lines.specs.Links.{Defined}
 use Rattle.markdown_definitions.specs.Definitions.{leaf_defined, part_defined, parts_defined, nothing_defined, definitions_of}
-use Rattle.markdown_reader.specs.Mapping.{Mapping, passed, list_ended, leaf_shown, shown_part, shown_parts}
+use Rattle.markdown_reader.specs.Mapping.{Mapping, passed, list_ended, leaf_shown, html_leaf, html_parts, leaves_by, leaves_in, shown_part, shown_parts}
 use Rattle.markdown_reader.specs.Markdown.{printable_sections, unmarked_links}
+use Rattle.markdown_reader.proofs.PartsLemmas.{shown_joined}
 use Rattle.markdown_stream.specs.Known.{asks_nothing, AreKnown, defines_nothing}
 use Rattle.markdown_stream.specs.Laws.{KnownIsWhole, KnownHasLinks, UndefinedIsWhole, DefinedInFrontIsWhole, WithoutWordsIsSame}
 use Rattle.markdown_stream.specs.Streamed.{Streamed, nothing_streamed, part_streamed, parts_streamed, streamed_sections, streamed_links}
@@ -34,18 +37,55 @@ part_same (begins container apart) defined all m h = refl
 part_same ends defined all m h = refl
 part_same (block leaf) defined all m h = leaf_same leaf.kind leaf.lines defined all (list_ended (passed leaf.apart m)) h
 
+-- ---- html leaf by leaf
+
+html_leaf_same : (apart : Bool) (text : List ℕ) (defined all : Defined) (m : Mapping) → shown_part defined (html_leaf apart text) m ≡ shown_part all (html_leaf apart text) m
+unfolding shown_part
+html_leaf_same apart text defined all m = refl
+
+html_rest_same : (leaves : List (List ℕ)) (defined all : Defined) (m : Mapping) → shown_parts defined (map (html_leaf false) leaves) m ≡ shown_parts all (map (html_leaf false) leaves) m
+unfolding shown_parts
+html_rest_same [] defined all m = refl
+html_rest_same (leaf ∷ leaves) defined all m = ap (shown_parts defined (map (html_leaf false) leaves)) (html_leaf_same false leaf defined all m) ∙ html_rest_same leaves defined all (shown_part all (html_leaf false leaf) m)
+
+html_parts_same : (apart : Bool) (leaves : List (List ℕ)) (defined all : Defined) (m : Mapping) → shown_parts defined (html_parts apart leaves) m ≡ shown_parts all (html_parts apart leaves) m
+unfolding shown_parts
+html_parts_same apart [] defined all m = refl
+html_parts_same apart (leaf ∷ leaves) defined all m = ap (shown_parts defined (map (html_leaf false) leaves)) (html_leaf_same apart leaf defined all m) ∙ html_rest_same leaves defined all (shown_part all (html_leaf apart leaf) m)
+
+one_same : (part : PartContent) (defined all : Defined) (m : Mapping) → shown_part defined part m ≡ shown_part all part m → shown_parts defined (part ∷ []) m ≡ shown_parts all (part ∷ []) m
+unfolding shown_parts
+one_same part defined all m e = e
+
+block_same : (leaf : BlockContent) (kind : Kind) (defined all : Defined) (m : Mapping) → shown_part defined (block leaf) m ≡ shown_part all (block leaf) m → shown_parts defined (leaves_by kind leaf) m ≡ shown_parts all (leaves_by kind leaf) m
+block_same leaf Html defined all m e = html_parts_same leaf.apart (html_leaves (joined [] leaf.lines)) defined all m
+block_same leaf Paragraph defined all m e = one_same (block leaf) defined all m e
+block_same leaf (Heading level) defined all m e = one_same (block leaf) defined all m e
+block_same leaf Indented defined all m e = one_same (block leaf) defined all m e
+block_same leaf Fenced defined all m e = one_same (block leaf) defined all m e
+block_same leaf (Table columns) defined all m e = one_same (block leaf) defined all m e
+block_same leaf Rule defined all m e = one_same (block leaf) defined all m e
+block_same leaf Nothing defined all m e = one_same (block leaf) defined all m e
+block_same leaf Definitions defined all m e = one_same (block leaf) defined all m e
+
+leaves_same : (part : PartContent) (defined all : Defined) (m : Mapping) → shown_part defined part m ≡ shown_part all part m → shown_parts defined (leaves_in part) m ≡ shown_parts all (leaves_in part) m
+leaves_same (begins container apart) defined all m e = one_same (begins container apart) defined all m e
+leaves_same ends defined all m e = one_same ends defined all m e
+leaves_same (block leaf) defined all m e = block_same leaf leaf.kind defined all m e
+
 -- a part without words says the same by any definitions
 pub without_words : WithoutWordsIsSame
-without_words part defined other h m = part_same part defined other m h
+without_words part defined other h m = leaves_same part defined other m (part_same part defined other m h)
 
 -- ---- parts
 
-pub known : (all : Defined) (parts : List PartContent) (s : Streamed) → AreKnown all s.defined parts → (parts_streamed parts s).mapping ≡ shown_parts all parts s.mapping
+pub known : (all : Defined) (parts : List PartContent) (s : Streamed) → AreKnown all s.defined parts → (parts_streamed parts s).mapping ≡ shown_parts all (flat_map leaves_in parts) s.mapping
 unfolding parts_streamed shown_parts
 known all [] s h = refl
 known all (part ∷ parts) s h =
     known all parts (part_streamed part s) h.1
-    ∙ ap (shown_parts all parts) (h.0 s.mapping)
+    ∙ ap (shown_parts all (flat_map leaves_in parts)) (h.0 s.mapping)
+    ∙ sym (shown_joined all (leaves_in part) (flat_map leaves_in parts) s.mapping)
 
 -- a text whose parts are known is shown as the whole
 pub known_is_whole : KnownIsWhole
@@ -88,7 +128,7 @@ all_known [] defined h = tt
 all_known (part ∷ parts) defined h =
     let both = and_parts (defines_nothing part) (list_all defines_nothing parts) h in
     let same = part_defines part defined both.0 in
-    (λ m. ap (λ (d : Defined). shown_part d part m) same, subst (λ (d : Defined). AreKnown defined d parts) (sym same) (all_known parts defined both.1))
+    (λ m. ap (λ (d : Defined). shown_parts d (leaves_in part) m) same, subst (λ (d : Defined). AreKnown defined d parts) (sym same) (all_known parts defined both.1))
 
 -- parts that ask for nothing, and then parts of which all is known
 in_front : (front others : List PartContent) (all defined : Defined) → list_all asks_nothing front ≡ true → AreKnown all (parts_defined defined front) others → AreKnown all defined (front ++ others)
@@ -96,7 +136,7 @@ unfolding parts_defined
 in_front [] others all defined h later = later
 in_front (part ∷ front) others all defined h later =
     let both = and_parts (asks_nothing part) (list_all asks_nothing front) h in
-    (λ m. part_same part (part_defined defined part) all m both.0, in_front front others all (part_defined defined part) both.1 later)
+    (without_words part (part_defined defined part) all both.0, in_front front others all (part_defined defined part) both.1 later)
 
 defined_joined : (front others : List PartContent) (defined : Defined) → parts_defined defined (front ++ others) ≡ parts_defined (parts_defined defined front) others
 unfolding parts_defined

@@ -16,7 +16,7 @@ use Rattle.markdown_leaves.specs.declared.parts.Kind.{Kind}
 use Rattle.markdown_leaves.specs.declared.parts.Kind.TheVariants.{Nothing, Paragraph as ParagraphKind, Heading, Indented, Fenced, Html, Table, Rule, Definitions}
 use Rattle.markdown_lines.specs.Code.{code_lines}
 use Rattle.markdown_lines.specs.Leaf.{html_lines}
-use Rattle.markdown_lines.specs.Links.{Defined}
+use Rattle.markdown_lines.specs.Links.{html_addresses, Defined}
 use Rattle.markdown_lines.specs.Restyled.{restyled, empty_line}
 use Rattle.markdown_lines.specs.Tables.{table_lines}
 use Rattle.markdown_gutters.specs.Forms.{is_big}
@@ -26,7 +26,9 @@ use Rattle.markdown_gutters.specs.declared.forms.Form.{Form}
 use Rattle.markdown_gutters.specs.declared.forms.Form.TheVariants.{Words, Large, Listed, Boxed}
 use Rattle.mad_mark_runs.specs.declared.mark_runs.MarkRun.{MarkRun}
 use Rattle.markdown_tones.specs.Fences.{fence_marks}
-use Rattle.markdown_reader.specs.Mapping.{LinkSaid, Mapping, new_gutter, with_last, is_spaced, spaced, blank_row, link_at, linked, section_of, with_section, added, put, passed, list_ended, begun, closed, item_ended, nothing_since, ended_by, ended, words, addresses_in, words_shown, task_by, alert_line, alert_by, paragraph_by, heading_style, table_addresses, leaf_shown, shown_part, shown_parts, with_marks, code_shown}
+use Rattle.markdown_html_text.specs.HtmlLeaves.{html_level}
+use Rattle.markdown_reader.specs.Mapping.{html_text, html_by, LinkSaid, Mapping, new_gutter, with_last, is_spaced, spaced, blank_row, link_at, linked, section_of, with_section, added, put, passed, list_ended, begun, closed, item_ended, nothing_since, ended_by, ended, words, addresses_in, words_shown, task_by, alert_line, alert_by, paragraph_by, heading_style, table_addresses, leaf_shown, shown_part, shown_parts, with_marks, code_shown}
+use Rattle.markdown_reader.proofs.PartsLemmas.{shown_joined}
 use Rattle.markdown_stream.specs.Laws.{SectionsComeInTurn}
 use Rattle.markdown_stream.specs.Streaming.{taken, link_after, shown_after}
 
@@ -126,10 +128,14 @@ paragraph_behind (Some (Below level)) defined bytes ss ls m = words_behind defin
 code_behind : (marks : List MarkRun) (lines : List Remaining) (ss : List SectionContent) (ls : List LinkSaid) (m : Mapping) → code_shown marks lines (shown_after ss ls m) ≡ shown_after ss ls (code_shown marks lines m)
 code_behind marks lines ss ls m = ap (with_marks []) (put_behind Boxed (code_lines 0 lines) [] ss ls (with_marks marks m))
 
+html_behind : (t : Bool) (level : ℕ) (text : List ℕ) (ss : List SectionContent) (ls : List LinkSaid) (m : Mapping) → html_by t level text (shown_after ss ls m) ≡ shown_after ss ls (html_by t level text m)
+html_behind true level text ss ls m = put_behind Words (html_lines text) (html_addresses text) ss ls m
+html_behind false level text ss ls m = put_behind Large (restyled (heading_style level) (heading_style level) (html_lines text)) (html_addresses text) ss ls m
+
 leaf_behind : (defined : Defined) (kind : Kind) (lines : List Remaining) (ss : List SectionContent) (ls : List LinkSaid) (m : Mapping)
     → leaf_shown defined kind lines (shown_after ss ls m) ≡ shown_after ss ls (leaf_shown defined kind lines m)
 leaf_behind defined ParagraphKind lines ss ls m = paragraph_behind (new_gutter m) defined (joined [] lines) ss ls m
-leaf_behind defined Html lines ss ls m = put_behind Words (html_lines (joined [] lines)) [] ss ls m
+leaf_behind defined Html lines ss ls m = html_behind (html_level (joined [] lines) == 0) (html_level (joined [] lines)) (html_text (joined [] lines)) ss ls m
 leaf_behind defined (Heading level) lines ss ls m =
     put_behind Large (restyled (heading_style level) (heading_style level) (words defined (joined [] lines))) (addresses_in defined (joined [] lines)) ss ls m
 leaf_behind defined Indented lines ss ls m = code_behind [] lines ss ls m
@@ -142,21 +148,17 @@ leaf_behind defined Definitions lines ss ls m = refl
 -- ---- parts
 
 -- a part is shown behind other sections as it is without them
-pub part_behind : (defined : Defined) (part : PartContent) (ss : List SectionContent) (ls : List LinkSaid) (m : Mapping) → shown_part defined part (shown_after ss ls m) ≡ shown_after ss ls (shown_part defined part m)
+part_behind : (defined : Defined) (part : PartContent) (ss : List SectionContent) (ls : List LinkSaid) (m : Mapping) → shown_part defined part (shown_after ss ls m) ≡ shown_after ss ls (shown_part defined part m)
 unfolding shown_part
 part_behind defined (begins container apart) ss ls m = begun_behind container ss ls (passed apart m)
 part_behind defined ends ss ls m = ended_behind ss ls m
 part_behind defined (block leaf) ss ls m = leaf_behind defined leaf.kind leaf.lines ss ls (list_ended (passed leaf.apart m))
 
-parts_behind : (defined : Defined) (parts : List PartContent) (ss : List SectionContent) (ls : List LinkSaid) (m : Mapping) → shown_parts defined parts (shown_after ss ls m) ≡ shown_after ss ls (shown_parts defined parts m)
+-- so are parts
+pub parts_behind : (defined : Defined) (parts : List PartContent) (ss : List SectionContent) (ls : List LinkSaid) (m : Mapping) → shown_parts defined parts (shown_after ss ls m) ≡ shown_after ss ls (shown_parts defined parts m)
 unfolding shown_parts
 parts_behind defined [] ss ls m = refl
 parts_behind defined (part ∷ parts) ss ls m = ap (shown_parts defined parts) (part_behind defined part ss ls m) ∙ parts_behind defined parts ss ls (shown_part defined part m)
-
-shown_joined : (defined : Defined) (parts later : List PartContent) (m : Mapping) → shown_parts defined (parts ++ later) m ≡ shown_parts defined later (shown_parts defined parts m)
-unfolding shown_parts
-shown_joined defined [] later m = refl
-shown_joined defined (part ∷ parts) later m = shown_joined defined parts later (shown_part defined part m)
 
 -- a mapping is its sections and links, and behind them what goes on
 pub kept : (m : Mapping) → m ≡ shown_after m.sections m.links (taken m)

@@ -1,12 +1,13 @@
 -- What is open, while the text goes on.
 use Rattle.std.proofs.Common.{◌≡◌, ℕ, List, [], ◌∷◌, ◌++◌, length, sym, ap, ◌∙◌, arith}
+use Rattle.std.specs.List.{flat_map}
 use Rattle.mad_sections.specs.Sections.{SectionContent}
 use Rattle.markdown_blocks.specs.Lines.{text_lines}
 use Rattle.markdown_blocks.specs.Steps.{Step, step}
 use Rattle.markdown_blocks.specs.declared.containers.Container.{Container}
 use Rattle.markdown_leaves.specs.Parts.{PartContent}
 use Rattle.markdown_leaves.specs.Told.{told, events_between}
-use Rattle.markdown_reader.specs.Mapping.{LinkSaid, Mapping, shown_parts}
+use Rattle.markdown_reader.specs.Mapping.{LinkSaid, Mapping, leaves_in, shown_parts}
 use Rattle.markdown_stream.specs.Come.{HasCome, lines_streamed, streamed_after}
 use Rattle.markdown_stream.specs.Held.{streaming_of}
 use Rattle.markdown_stream.specs.Laws.{OpenIsStreamed}
@@ -57,4 +58,4 @@ open_is_streamed text end lines joins defines =
     ap (λ (ps : List PartContent). (parts_streamed ps nothing_streamed).mapping.sections) (parts_come_in_turn text lines (text_lines end) joins)
     ∙ ap (λ (t : Streamed). t.mapping.sections) (streamed_joined (parts_read r) later nothing_streamed)
     ∙ ap (λ (m : Mapping). m.sections) (known s.defined later s (all_known later s.defined defines))
-    ∙ ap (λ (m : Mapping). m.sections) (sections_come_in_turn s.defined [] later s.mapping)
+    ∙ ap (λ (m : Mapping). m.sections) (sections_come_in_turn s.defined [] (flat_map leaves_in later) s.mapping)

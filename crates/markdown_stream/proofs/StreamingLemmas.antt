@@ -4,13 +4,13 @@ use Rattle.std.specs.List.{flat_map}
 use Rattle.mad_sections.specs.Sections.{SectionContent}
 use Rattle.markdown_leaves.specs.Parts.{PartContent}
 use Rattle.markdown_definitions.specs.Definitions.{part_defined}
-use Rattle.markdown_reader.specs.Mapping.{LinkSaid, Mapping}
+use Rattle.markdown_reader.specs.Mapping.{LinkSaid, Mapping, leaves_in}
 use Rattle.markdown_stream.specs.Come.{streamed_after}
 use Rattle.markdown_stream.specs.Laws.{CutsDontMatter, CutsDontMatterToLinks}
 use Rattle.markdown_stream.specs.Readings.{Reading, lines_read, parts_read, parts_at_end, handed_on}
 use Rattle.markdown_stream.specs.Streamed.{Streamed, nothing_streamed, part_streamed, parts_streamed, streamed_sections, streamed_links}
 use Rattle.markdown_stream.specs.Streaming.{taken_from, shown_after, Streaming, nothing_come, lines_shown, kept_after, end_shown, pieces_shown, sections_shown, links_joined, links_shown}
-use Rattle.markdown_stream.proofs.MappingLemmas.{part_behind, kept}
+use Rattle.markdown_stream.proofs.MappingLemmas.{parts_behind as leaves_behind, kept}
 use Rattle.markdown_stream.proofs.ReadingLemmas.{read_whole, read_joined, hand_on}
 
 -- sections and links that were shown before change nothing of what parts are shown as
@@ -18,7 +18,7 @@ pub parts_behind : (parts : List PartContent) (ss : List SectionContent) (ls : L
 unfolding parts_streamed
 parts_behind [] ss ls s = refl
 parts_behind (part ∷ parts) ss ls s =
-    ap (λ (m : Mapping). parts_streamed parts (record { defined = part_defined s.defined part; mapping = m })) (part_behind (part_defined s.defined part) part ss ls s.mapping)
+    ap (λ (m : Mapping). parts_streamed parts (record { defined = part_defined s.defined part; mapping = m })) (leaves_behind (part_defined s.defined part) (leaves_in part) ss ls s.mapping)
     ∙ parts_behind parts ss ls (part_streamed part s)
 
 -- parts are shown on behind those before them

@@ -5,7 +5,7 @@ use Rattle.markdown_leaves.specs.declared.parts.Kind.{Kind}
 use Rattle.markdown_leaves.specs.declared.parts.Kind.TheVariants.{Paragraph, Heading, Table, Definitions}
 use Rattle.markdown_lines.specs.Links.{Defined}
 use Rattle.markdown_definitions.specs.Definitions.{part_defined}
-use Rattle.markdown_reader.specs.Mapping.{Mapping, shown_part}
+use Rattle.markdown_reader.specs.Mapping.{Mapping, leaves_in, shown_parts}
 
 -- a leaf whose words may name a definition
 abbrev pub has_words : Kind → Bool
@@ -21,7 +21,7 @@ asks_nothing _ = true
 
 -- a part says the same by some definitions as by others
 abbrev pub SaysTheSame : Defined → Defined → PartContent → Type 0
-SaysTheSame defined other part = (m : Mapping) → shown_part defined part m ≡ shown_part other part m
+SaysTheSame defined other part = (m : Mapping) → shown_parts defined (leaves_in part) m ≡ shown_parts other (leaves_in part) m
 
 -- each of these parts says the same by the definitions that came up to it as by all
 abbrev pub AreKnown : Defined → Defined → List PartContent → Type 0

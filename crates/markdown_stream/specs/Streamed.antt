@@ -5,7 +5,7 @@ use Rattle.markdown_leaves.specs.Parts.{PartContent}
 use Rattle.markdown_leaves.specs.Told.{parts_of}
 use Rattle.markdown_lines.specs.Links.{Defined}
 use Rattle.markdown_definitions.specs.Definitions.{part_defined, nothing_defined}
-use Rattle.markdown_reader.specs.Mapping.{LinkSaid, Mapping, nothing_shown, shown_part}
+use Rattle.markdown_reader.specs.Mapping.{LinkSaid, Mapping, nothing_shown, leaves_in, shown_parts}
 
 -- The definitions so far, and what the parts so far are shown as.
 pub record Streamed : Type 0 where
@@ -16,9 +16,9 @@ pub record Streamed : Type 0 where
 abbrev pub nothing_streamed : Streamed
 nothing_streamed = record { defined = nothing_defined; mapping = nothing_shown }
 
--- a part is shown by these definitions
+-- a part is shown by these definitions, html leaf by leaf
 abbrev pub shown_by : Defined → PartContent → Mapping → Streamed
-shown_by defined part m = record { defined = defined; mapping = shown_part defined part m }
+shown_by defined part m = record { defined = defined; mapping = shown_parts defined (leaves_in part) m }
 
 -- a part comes: its own definitions count too
 abbrev pub part_streamed : PartContent → Streamed → Streamed

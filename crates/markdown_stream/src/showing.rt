@@ -1,9 +1,10 @@
 //! What the parts so far are shown as, and what the next ones depend on.
 
 ghost use Rattle.std.specs.Prelude.{◌≡◌, IfOk, OnOk, map};
+ghost use Rattle.std.specs.List.{flat_map};
 ghost use Rattle.markdown_leaves.specs.Parts.{part_of};
 ghost use Rattle.markdown_reader.specs.MarkdownSays.{markdown_says, links_said};
-ghost use Rattle.markdown_reader.specs.Mapping.{shown_parts};
+ghost use Rattle.markdown_reader.specs.Mapping.{leaves_in, shown_parts};
 ghost use Rattle.markdown_reader.specs.Steady.{steady_sections};
 ghost use Rattle.markdown_stream.specs.ShowingOf.{streamed_of};
 ghost use Rattle.markdown_stream.specs.Streamed.{nothing_streamed, part_streamed, parts_streamed};
@@ -88,7 +89,7 @@ impl Showing {
     ///
     /// Out of memory is the only error.
     pub fn read_next(&self, alloc: Global, parts: &[Part<'_>]) -> Result<Markdown, AllocError>
-        ensures { IfOk result (λ read. markdown_says read ≡ steady_sections (shown_parts (streamed_of self.now).defined (map part_of parts.now) (taken (streamed_of self.now).mapping)).sections) }
+        ensures { IfOk result (λ read. markdown_says read ≡ steady_sections (shown_parts (streamed_of self.now).defined (flat_map leaves_in (map part_of parts.now)) (taken (streamed_of self.now).mapping)).sections) }
     {
         let mut mapper = self.mapper.going_on(alloc)?;
         mapper.show_all(alloc, &self.definitions, parts)?;

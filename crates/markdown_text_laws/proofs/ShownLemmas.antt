@@ -1,5 +1,5 @@
 -- Each piece is shown.
-use Rattle.std.proofs.Common.{◌≡◌, ℕ, zero, suc, ◌+◌, ◌-◌, ◌≤◌, ◌==◌, ◌&&◌, inl, inr, Bool, true, false, List, [], ◌∷◌, ◌++◌, map, length, take, drop, slice_index, Option, Some, None, refl, sym, ap, subst, ◌∙◌, append_assoc, arith}
+use Rattle.std.proofs.Common.{◌≡◌, ℕ, zero, suc, ◌+◌, ◌≤◌, ◌==◌, ◌&&◌, inl, inr, Bool, true, false, List, [], ◌∷◌, ◌++◌, map, length, take, drop, slice_index, Option, Some, None, refl, sym, ap, subst, ◌∙◌, append_assoc, arith}
 use Rattle.std.proofs.lemmas.List.{append-nil, map-append}
 use Rattle.std.proofs.lemmas.List.FromFn.{length-map-range_with_len}
 use Rattle.std.specs.List.{range_with_len}
@@ -9,17 +9,20 @@ use Rattle.markdown_emphasis.specs.Flags.{flags_at, flags_of}
 use Rattle.markdown_brackets.specs.declared.brackets.Link.{Link}
 use Rattle.markdown_spans.specs.Code.{unpadded}
 use Rattle.markdown_spans.specs.declared.attributes.Html.{Html as HtmlShown}
-use Rattle.markdown_spans.specs.declared.attributes.Html.TheVariants.{Nothing, Break, Alternative}
+use Rattle.markdown_spans.specs.declared.attributes.Html.TheVariants.{Nothing, Break, Alternative, Source, On, Off, Link as LinkTag, LinkEnd}
 use Rattle.markdown_pieces.specs.declared.pieces.Kind.{Kind}
 use Rattle.markdown_pieces.specs.declared.pieces.Kind.TheVariants.{Plain, Shown as ShownKind, Code, Address, Bare, Html, Soft, Hard, Run, Opening, Closing}
 use Rattle.markdown_pieces.specs.declared.pieces.Piece.{Piece}
 use Rattle.markdown_pieces.specs.Cut.{cut_text}
 use Rattle.markdown_inlines.specs.declared.links.Over.{Over}
 use Rattle.markdown_inlines.specs.declared.looks.Look.{Look}
-use Rattle.markdown_inlines.specs.Inlines.{char_of, look_at, shown_from}
+use Rattle.markdown_inlines.specs.Inlines.{all_over, char_of, look_at, shown_from}
 use Rattle.markdown_inlines.specs.Left.{left_at, marks_of, piece_marks}
 use Rattle.markdown_inlines.specs.Links.{is_silent, links_in, overs_from, overs_of}
-use Rattle.markdown_inlines.specs.Parts.{alternative_text, html_shown, kind_characters, name_by, name_shown, piece_shown, shown_text, target_name}
+use Rattle.markdown_inlines.specs.Tags.{after_piece, no_tags, tagged_from}
+use Rattle.markdown_inlines.specs.declared.tags.Tags.{Tags}
+use Rattle.markdown_inlines.proofs.TagLemmas.{all_length}
+use Rattle.markdown_inlines.specs.Parts.{alternative_text, source_name, html_shown, kind_characters, name_by, name_shown, piece_shown, shown_text, target_name}
 use Rattle.markdown_inlines.specs.Styled.{shown_with}
 use Rattle.markdown_text_laws.specs.Shown.{AreShown, EachPieceIsShown, IsBracketOrNone, IsClosing, IsShownOf}
 
@@ -50,6 +53,11 @@ html_at : (html : HtmlShown) (text : List ℕ) (at : ℕ) → html_shown html te
 html_at Nothing text at = refl
 html_at Break text at = refl
 html_at (Alternative value) text at = ap (λ (tag : List ℕ). shown_text (alternative_text tag value)) (drop_more at 1 text)
+html_at (Source value) text at = ap (λ (tag : List ℕ). shown_text (source_name tag value)) (drop_more at 1 text)
+html_at (On flag) text at = refl
+html_at (Off flag) text at = refl
+html_at (LinkTag value) text at = refl
+html_at LinkEnd text at = refl
 
 opening_is : (image opens : Bool) (text : List ℕ) (at more left : ℕ) → IsBracketOrNone image (kind_characters (Opening image) text at more left opens)
 opening_is image true text at more left = inl refl
@@ -129,6 +137,13 @@ AreSilent [] os = Unit {0}
 AreSilent (p ∷ ps) [] = Unit {0}
 AreSilent (p ∷ ps) (o ∷ os) = SilentImage o.silent p.kind × AreSilent ps os
 
+-- tags change nothing of that
+tagged_silent : (index number : ℕ) (t : Tags) (ps : List Piece) (os : List Over) → AreSilent ps os → AreSilent ps (tagged_from index number t ps os)
+unfolding tagged_from
+tagged_silent index number t [] os h = tt
+tagged_silent index number t (p ∷ ps) [] h = tt
+tagged_silent index number t (p ∷ ps) (o ∷ os) h = (h.0, tagged_silent (index + 1) (number + links_in p.kind) (after_piece number p.kind o t) ps os h.1)
+
 overs_silent : (index number : ℕ) (ps : List Piece) → AreSilent ps (overs_from index number ps).overs
 unfolding overs_from
 overs_silent index number [] = tt
@@ -162,12 +177,6 @@ lefts_next pairs before ps p =
 
 -- ---- all pieces
 
--- each piece has its own word on links
-overs_length : (index number : ℕ) (ps : List Piece) → length (overs_from index number ps).overs ≡ length ps
-unfolding overs_from
-overs_length index number [] = refl
-overs_length index number (p ∷ ps) = ap suc (overs_length (index + 1) (number + links_in p.kind) ps)
-
 no_more : (n : ℕ) → 0 ≡ suc n → ⊥
 no_more n e = omega (arith, e)
 
@@ -197,4 +206,5 @@ shown_by text pairs before (p ∷ ps) at (x ∷ fs) (v ∷ os) f o s =
 pub each_shown : EachPieceIsShown
 each_shown labels text =
     let cut = cut_text labels text in
-    shown_by text cut.pairs [] cut.pieces 0 (flags_of (length cut.pieces) cut.pairs) (overs_of cut.pieces) (length-map-range_with_len (flags_at cut.pairs) 0 (length cut.pieces)) (overs_length 0 0 cut.pieces) (overs_silent 0 0 cut.pieces)
+    shown_by text cut.pairs [] cut.pieces 0 (flags_of (length cut.pieces) cut.pairs) (all_over cut.pieces) (length-map-range_with_len (flags_at cut.pairs) 0 (length cut.pieces)) (all_length cut.pieces)
+    (tagged_silent 0 0 no_tags cut.pieces (overs_of cut.pieces) (overs_silent 0 0 cut.pieces))

@@ -3,8 +3,13 @@ pub mod WordLemmas
 pub mod ParagraphLemmas
 pub mod MarkLemmas
 pub mod CodeLemmas
+pub mod FrontLemmas
 pub mod QuoteLemmas
+pub mod FreshLemmas
+pub mod ItemLemmas
 pub mod LineLemmas
 pub mod PhraseLemmas
+pub mod TableLemmas
+pub mod RowLemmas
 pub mod BlockLemmas
 pub mod PageLemmas

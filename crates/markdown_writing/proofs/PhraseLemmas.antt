@@ -189,7 +189,7 @@ others_end (emphasis strong words) [] h = subst EndsFull (sym (append-nil (empha
 others_end (link words destination) [] h = subst EndsFull (sym (append-nil (link_text words destination))) (link_ends words destination)
 others_end p (q ∷ qs) h = more_ends (phrase_text p) (flat_map phrase_text (q ∷ qs)) (others_end q qs (later_full p q qs h))
 
-line_end : (p : Phrase) (ps : List Phrase) → line_ends_full (p ∷ ps) ≡ true → EndsFull (line_text (p ∷ ps))
+pub line_end : (p : Phrase) (ps : List Phrase) → line_ends_full (p ∷ ps) ≡ true → EndsFull (line_text (p ∷ ps))
 line_end (plain []) [] h = let no : false ≡ true = h in absurd (cc)
 line_end (plain (b ∷ bs)) [] h = subst EndsFull (sym (append-nil (escaped (b ∷ bs)))) (words_end b bs h)
 line_end (code_span code) [] h = subst EndsFull (sym (append-nil (phrase_text (code_span code)))) (span_ends code)

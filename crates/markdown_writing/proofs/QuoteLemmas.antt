@@ -26,14 +26,10 @@ use Rattle.markdown_laws.proofs.HeldLemmas.{AllGoOn, BeginsIn, all_container, be
 use Rattle.markdown_laws.proofs.LineLemmas.{blank_outside}
 use Rattle.markdown_laws.proofs.RoomLemmas.{room_at, rooms}
 use Rattle.markdown_part_laws.proofs.ParagraphLemmas.{outside_of}
+use Rattle.markdown_writing.proofs.FrontLemmas.{quoted_line}
 use Rattle.markdown_writing.proofs.ParagraphLemmas.{Behind, last, more}
 
 -- ---- a line
-
--- a line behind the sign of a quote
-abbrev pub quoted_line : List ℕ → List ℕ
-quoted_line [] = 62 ∷ []
-quoted_line (b ∷ bs) = 62 ∷ 32 ∷ b ∷ bs
 
 -- a quote begins in this line, or goes on in it, and leaves that one
 record Quotes (held : List ℕ) : Type 0 where

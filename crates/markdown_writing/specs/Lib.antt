@@ -1,6 +1,7 @@
 pub mod Words
 pub mod Phrases
-pub mod Quotes
+pub mod Fronts
+pub mod Tables
 pub mod Pages
 pub mod Writable
 pub mod Reading

@@ -1,5 +1,5 @@
 -- Pages that are read as they are written.
-use Rattle.std.specs.Prelude.{◌≡◌, ℕ, Bool, true, false, not, ◌||◌, ◌&&◌, ◌==◌, nat_le, List, [], ◌∷◌}
+use Rattle.std.specs.Prelude.{◌≡◌, ℕ, Bool, true, false, not, ◌||◌, ◌&&◌, ◌==◌, nat_le, List, [], ◌∷◌, length}
 use Rattle.std.specs.List.{list_all}
 use Rattle.markdown_marks.specs.Bytes.{first, is_blank_byte}
 use Rattle.markdown_writing.specs.Phrases.{Phrase, plain, code_span, emphasis, link}
@@ -98,3 +98,23 @@ pub record IsLine (phrases : List Phrase) : Type 0 where
   pub are : ArePhrases phrases
   pub begins : begins_full phrases ≡ true
   pub ends : line_ends_full phrases ≡ true
+
+-- the first phrase is no words that begin with a blank
+abbrev pub begins_cell : List Phrase → Bool
+begins_cell (plain words ∷ phrases) = not (is_blank_byte (first words))
+begins_cell _ = true
+
+-- A cell: no phrases, or some that neither begin nor end with a blank. It may begin with a link.
+pub data IsCell : List Phrase → Type 0 where
+  empty_cell : IsCell []
+  full_cell : (phrases : List Phrase) → ArePhrases phrases → begins_cell phrases ≡ true → line_ends_full phrases ≡ true → IsCell phrases
+
+-- each is a cell
+abbrev pub AreCells : List (List Phrase) → Type 0
+AreCells [] = Unit {0}
+AreCells (cell ∷ cells) = IsCell cell × AreCells cells
+
+-- each row has so many cells
+abbrev pub AreRows : ℕ → List (List (List Phrase)) → Type 0
+AreRows columns [] = Unit {0}
+AreRows columns (row ∷ rows) = (length row ≡ columns) × AreCells row × AreRows columns rows

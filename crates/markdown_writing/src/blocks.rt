@@ -1,5 +1,7 @@
 //! What a page is made of.
 
+use mad_md::Alignment;
+
 /// A phrase of a line.
 #[derive(Clone, Copy)]
 pub enum PagePhrase<'p> {
@@ -20,12 +22,17 @@ pub enum PagePhrase<'p> {
 pub enum PageBlock<'p> {
     /// A heading of this level, 1 to 6, and its phrases.
     Heading(usize, &'p [PagePhrase<'p>]),
-    /// The phrases of a paragraph.
-    Paragraph(&'p [PagePhrase<'p>]),
+    /// The lines of a paragraph, one at least, each with its phrases.
+    Paragraph(&'p [&'p [PagePhrase<'p>]]),
     /// Code: the name of its language, which may be empty, and its lines without their ends.
     Code(&'p str, &'p [&'p str]),
     /// A thematic break.
     Break,
+    /// A table: the alignment of each column, one at least, the cells of its head, and its rows. The head and each row have as many cells as there are
+    /// columns. A cell has its phrases, or none.
+    Table(&'p [Alignment], &'p [&'p [PagePhrase<'p>]], &'p [&'p [&'p [PagePhrase<'p>]]]),
     /// A quote of these blocks, one at least.
     Quote(&'p [PageBlock<'p>]),
+    /// An item of a list, that holds these blocks, one at least. Items one below the other are a list.
+    Item(&'p [PageBlock<'p>]),
 }

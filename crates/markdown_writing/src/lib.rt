@@ -3,15 +3,17 @@
 //! 1. [`blocks`]: what a page is made of.
 //! 2. [`words`]: words, in which a backslash stands before each sign that could be a mark.
 //! 3. [`phrases`]: words, code, emphasis and links, one behind the other.
-//! 4. [`quotes`]: a text whose lines have the sign of a quote.
-//! 5. [`writing`]: blocks one below the other.
-//! 6. [`laws`]: what is read of them.
+//! 4. [`fronts`]: a text as a quote, and as an item of a list.
+//! 5. [`tables`]: rows of cells between bars.
+//! 6. [`writing`]: blocks one below the other.
+//! 7. [`laws`]: what is read of them.
 #![tactic(auto)]
 
 pub mod blocks;
+pub mod fronts;
 pub mod laws;
 pub mod phrases;
-pub mod quotes;
+pub mod tables;
 pub mod words;
 pub mod writing;
 

@@ -28,7 +28,7 @@ fn is_mark(byte: u8) -> bool
     )
 }
 
-fn push_byte(out: &mut Vec<u8>, mark: bool, byte: u8) -> Result<(), AllocError>
+pub(crate) fn push_byte(out: &mut Vec<u8>, mark: bool, byte: u8) -> Result<(), AllocError>
     ensures { OnOk result (out.new.items ≡ out.old.items ++ escaped_if mark byte) }
 {
     if mark {

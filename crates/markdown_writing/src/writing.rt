@@ -1,13 +1,14 @@
 //! Blocks one below the other.
 
-ghost use Rattle.std.specs.Prelude.{◌≡◌, ◌++◌, true, IfOk, OnOk, map, flat_map};
-ghost use Rattle.markdown_writing.specs.Pages.{above, block_text, code, ended, first_block, gap, heading, longest, markdown_of, no_more, page_of};
+ghost use Rattle.std.specs.Prelude.{◌≡◌, ◌++◌, IfOk, OnOk, map, flat_map};
+ghost use Rattle.markdown_writing.specs.Pages.{above, block_text, code, ended, first_block, gap, heading, longest, markdown_of, no_more, page_of, paragraph};
 ghost use Rattle.markdown_writing.specs.Phrases.{phrase_of};
-ghost use Rattle.markdown_writing.specs.Quotes.{quoted};
+ghost use Rattle.markdown_writing.specs.Fronts.{itemized, quoted};
 
 use crate::blocks::{PageBlock, PagePhrase};
+use crate::fronts::{push_item, push_quoted};
 use crate::phrases::{push_fence, push_phrases, push_times};
-use crate::quotes::push_quoted;
+use crate::tables::push_table;
 use markdown_marks::bytes::{count_in_front, without_blanks};
 use std::alloc::{AllocError, Global};
 
@@ -58,6 +59,19 @@ fn push_heading(
     Ok(())
 }
 
+#[tactic(auto, using(crate::proofs::PushLemmas::put_more))]
+fn push_paragraph(out: &mut Vec<u8>, lines: &[&[PagePhrase<'_>]]) -> Result<(), AllocError>
+    ensures { OnOk result (out.new.items ≡ out.old.items ++ block_text (paragraph (map (λ line. map phrase_of line.now) lines.now))) }
+{
+    let mut rest = lines;
+    while let [line, next @ ..] = rest {
+        push_phrases(out, *line)?;
+        out.push(b'\n')?;
+        rest = next;
+    }
+    Ok(())
+}
+
 fn push_code(out: &mut Vec<u8>, language: &[u8], lines: &[&str]) -> Result<(), AllocError>
     ensures { OnOk result (out.new.items ≡ out.old.items ++ block_text (code language.now (map (λ line. line.now) lines.now))) }
 {
@@ -72,27 +86,33 @@ fn push_code(out: &mut Vec<u8>, language: &[u8], lines: &[&str]) -> Result<(), A
 
 #[cycle(blocks)]
 fn push_quote(alloc: Global, out: &mut Vec<u8>, blocks: &[PageBlock<'_>]) -> Result<(), AllocError>
-    ensures { OnOk result (out.new.items ≡ out.old.items ++ quoted true (markdown_of (page_of blocks.now))) }
+    ensures { OnOk result (out.new.items ≡ out.old.items ++ quoted (markdown_of (page_of blocks.now))) }
 {
     let inner = markdown_of(alloc, blocks)?;
     push_quoted(out, inner.as_slice())
 }
 
 #[cycle(blocks)]
-#[tactic(auto, using(crate::proofs::BlockLemmas::quote_text))]
+fn push_held(alloc: Global, out: &mut Vec<u8>, blocks: &[PageBlock<'_>]) -> Result<(), AllocError>
+    ensures { OnOk result (out.new.items ≡ out.old.items ++ itemized (markdown_of (page_of blocks.now))) }
+{
+    let inner = markdown_of(alloc, blocks)?;
+    push_item(out, inner.as_slice())
+}
+
+#[cycle(blocks)]
+#[tactic(auto, using(crate::proofs::BlockLemmas::quote_text, crate::proofs::BlockLemmas::item_text))]
 fn push_block(alloc: Global, out: &mut Vec<u8>, block: PageBlock<'_>) -> Result<(), AllocError>
     ensures { OnOk result (out.new.items ≡ out.old.items ++ first_block (above block.entry no_more)) }
 {
     match block {
         PageBlock::Heading(level, phrases) => push_heading(out, level, phrases),
-        PageBlock::Paragraph(phrases) => {
-            push_phrases(out, phrases)?;
-            out.push(b'\n')?;
-            Ok(())
-        }
+        PageBlock::Paragraph(lines) => push_paragraph(out, lines),
         PageBlock::Code(language, lines) => push_code(out, language.as_bytes(), lines),
         PageBlock::Break => push_line(out, b"***"),
+        PageBlock::Table(rule, head, rows) => push_table(alloc, out, rule, head, rows),
         PageBlock::Quote(blocks) => push_quote(alloc, out, blocks),
+        PageBlock::Item(blocks) => push_held(alloc, out, blocks),
     }
 }
 

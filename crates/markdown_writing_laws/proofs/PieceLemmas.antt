@@ -196,7 +196,7 @@ none_or_none false false = refl
 no_bare : (is_out : Bool) (before : Option ℕ) (words tail : List ℕ) → is_line words ≡ true → IsTail tail → bare_if is_out before (rest_of words ++ tail) ≡ None
 no_bare false before words tail h t = refl
 no_bare true before words tail h t =
-    let p = may_precede_web before in
+    let p = may_precede_web before (rest_of words ++ tail) in
     let q = may_precede_mail before in
     ap (λ (o : Option Bare). or_bare (cond p o None) (cond q (mail_of (rest_of words ++ tail)) None)) (no_web words tail t)
     ∙ ap (λ (o : Option Bare). or_bare (cond p None None) (cond q o None)) (no_mail words tail h t) ∙ none_or_none p q

@@ -16,10 +16,10 @@ use Rattle.termimad_c.specs.TextsInPieces.{Comes, GoesOn, HandsOn, IsOver, Reads
 use Rattle.termimad_c.specs.declared.answer.Answer.{Answer}
 use Rattle.termimad_c.specs.declared.coming.Coming.{Coming}
 
-some_is : {A : Type 0} (x y : A) → Some x ≡ Some y → x ≡ y
+pub some_is : {A : Type 0} (x y : A) → Some x ≡ Some y → x ≡ y
 some_is x y k = cc
 
-some_is_not_none : {A : Type 0} {B : Type 0} (x : A) → None ≡ Some x → B
+pub some_is_not_none : {A : Type 0} {B : Type 0} (x : A) → None ≡ Some x → B
 some_is_not_none x k = absurd (false≢true (ap is_some k))
 
 -- an option that has a value
@@ -30,11 +30,11 @@ there None p = absurd (false≢true p)
 -- ---- the rows of a text
 
 -- the bytes that a device took which had taken nothing
-unfolded : (start now : Trace) (bytes rows : List ℕ) → start ≡ untouched → now ≡ after start bytes → now.bytes ≡ Some rows → bytes ≡ rows
+pub unfolded : (start now : Trace) (bytes rows : List ℕ) → start ≡ untouched → now ≡ after start bytes → now.bytes ≡ Some rows → bytes ≡ rows
 unfolding after
 unfolded start now bytes rows p q taken = some_is bytes rows (sym (ap (λ (t : Trace). t.bytes) (q ∙ ap (λ (t : Trace). after t bytes) p)) ∙ taken)
 
-twice : (start mid now : Trace) (one two rows : List ℕ) → start ≡ untouched → mid ≡ after start one → now ≡ after mid two → now.bytes ≡ Some rows → one ++ two ≡ rows
+pub twice : (start mid now : Trace) (one two rows : List ℕ) → start ≡ untouched → mid ≡ after start one → now ≡ after mid two → now.bytes ≡ Some rows → one ++ two ≡ rows
 unfolding after
 twice start mid now one two rows p q r taken =
     some_is (one ++ two) rows (sym (ap (λ (t : Trace). t.bytes) (r ∙ ap (λ (t : Trace). after t two) (q ∙ ap (λ (t : Trace). after t one) p))) ∙ taken)
@@ -78,12 +78,12 @@ nothing_came word width columns skin s c narrow wide given step prompt dress acr
 }
 
 -- what came behind a text and the beginning of a character
-joins : (come text begun piece bytes next rest : List ℕ) → come ≡ text ++ begun → bytes ≡ begun ++ piece → bytes ≡ next ++ rest → come ++ piece ≡ (text ++ next) ++ rest
+pub joins : (come text begun piece bytes next rest : List ℕ) → come ≡ text ++ begun → bytes ≡ begun ++ piece → bytes ≡ next ++ rest → come ++ piece ≡ (text ++ next) ++ rest
 joins come text begun piece bytes next rest cut is parts =
     ap (λ (l : List ℕ). l ++ piece) cut ∙ append_assoc text begun piece ∙ ap (λ (l : List ℕ). text ++ l) (sym is ∙ parts) ∙ sym (append_assoc text next rest)
 
 -- the rows that wait come after those that were handed out
-rows_join : (sent old rows new : List ℕ) → new ≡ old ++ rows → (sent ++ old) ++ rows ≡ sent ++ new
+pub rows_join : (sent old rows new : List ℕ) → new ≡ old ++ rows → (sent ++ old) ++ rows ≡ sent ++ new
 rows_join sent old rows new is = append_assoc sent old rows ∙ ap (λ (l : List ℕ). sent ++ l) (sym is)
 
 -- a piece came, of which a text was read
@@ -137,7 +137,7 @@ nothing_read last old new piece none empty same = record {
 }
 
 -- rows that were handed out stand before those that wait on
-handed_on : (sent rows left : List ℕ) (count : ℕ) → left ≡ drop count rows → sent ++ rows ≡ (sent ++ take count rows) ++ left
+pub handed_on : (sent rows left : List ℕ) (count : ℕ) → left ≡ drop count rows → sent ++ rows ≡ (sent ++ take count rows) ++ left
 handed_on sent rows left count is =
     ap (λ (l : List ℕ). sent ++ l) (sym (take-append-drop count rows)) ∙ sym (append_assoc sent (take count rows) (drop count rows)) ∙ ap (λ (l : List ℕ). (sent ++ take count rows) ++ l) (sym is)
 

@@ -1,5 +1,7 @@
 pub mod Answers
 pub mod DataTables
+pub mod GrowingTexts
+pub mod HeldGrowths
 pub mod HeldTexts
 pub mod Inputs
 pub mod Making

@@ -1,6 +1,6 @@
 //! What a call answers, and what it leaves in the caller's buffer.
 
-ghost use Rattle.std.specs.Prelude.{◌≡◌, MatchResult};
+ghost use Rattle.std.specs.Prelude.{◌≡◌, MatchResult, drop, length};
 ghost use Rattle.termimad_c.specs.Answers.{HandsOut, HandsOutParts, IsNoProgress, IsRefused, bit, status_of, refusal_of};
 
 use std::alloc::AllocError;
@@ -187,4 +187,16 @@ pub(crate) fn copy_front(whole: &[u8], buffer: &mut [u8]) -> Answer
     buffer[..fitting].copy_from_slice(&whole[..fitting]);
     let status = if fitting == count { DONE } else { SHORT };
     Answer { count, status }
+}
+
+/// Hands out the bytes that wait, as many as fit the buffer. The others wait on.
+pub(crate) fn hand_out_front(waiting: &mut Vec<u8>, buffer: &mut [u8]) -> Answer
+    ensures handed { HandsOut waiting.old.items buffer.old result buffer.new }
+    ensures rest { waiting.new.items ≡ drop (length buffer.old) waiting.old.items }
+{
+    let answer = copy_front(waiting.as_slice(), buffer);
+    let count = waiting.len().min(buffer.len());
+    waiting.rotate_left(count);
+    waiting.truncate(waiting.len() - count);
+    answer
 }

@@ -1,14 +1,14 @@
 //! A text of Markdown as people write it that comes in pieces of bytes, and its rows until they are handed out.
 
-ghost use Rattle.std.specs.Prelude.{◌≡◌, ◌++◌, ◌≤◌, ◌^◌, ⊤, ℕ, [], List, IfOk, MatchResult, OnOk, Some, drop, length};
+ghost use Rattle.std.specs.Prelude.{◌≡◌, ◌≤◌, ◌^◌, ⊤, ℕ, [], List, IfOk, MatchResult, OnOk, Some, drop, length};
 ghost use Rattle.markdown_stream.specs.declared.stream.MarkdownStream.{MarkdownStream};
 ghost use Rattle.termimad_c.specs.Answers.{HandsOut};
 ghost use Rattle.termimad_c.specs.Inputs.{RefusesPage};
 ghost use Rattle.termimad_c.specs.TextsInPieces.{Comes, GoesOn, Reads, RefusesPiece, TakesPiece, Waits};
 ghost use Rattle.termimad_c.specs.declared.answer.Refusal.TheVariants.{Memory};
 
-use crate::answer::{Answer, Refusal, copy_front, refuse};
-use crate::inputs::{number_of, page_skin_of_bytes, text_so_far};
+use crate::answer::{Answer, Refusal, hand_out_front, refuse};
+use crate::inputs::{bytes_behind, joined, number_of, page_skin_of_bytes, text_so_far};
 use mad_frames::Gathered;
 use markdown_stream::MarkdownStream;
 use std::alloc::Global;
@@ -116,11 +116,7 @@ impl Coming {
         ensures stream { self.new.stream ≡ self.old.stream }
         ensures begun { self.new.begun ≡ self.old.begun }
     {
-        let answer = copy_front(&self.rows, buffer);
-        let count = self.rows.len().min(buffer.len());
-        self.rows.rotate_left(count);
-        self.rows.truncate(self.rows.len() - count);
-        answer
+        hand_out_front(&mut self.rows, buffer)
     }
 }
 
@@ -142,23 +138,4 @@ fn rows_of(
         return Ok((out.bytes, None));
     }
     Ok((out.bytes, Some(stream)))
-}
-
-// Bytes and those that come after them.
-fn joined(alloc: Global, begun: &[u8], piece: &[u8]) -> Result<Vec<u8>, Refusal>
-    ensures { MatchResult result (λ bytes. bytes.items ≡ begun.now ++ piece.now) (λ refusal. refusal ≡ Memory) }
-{
-    let mut bytes = Vec::with_capacity(alloc, begun.len())?;
-    bytes.extend_from_slice(begun)?;
-    bytes.extend_from_slice(piece)?;
-    Ok(bytes)
-}
-
-// The bytes behind a place.
-fn bytes_behind(alloc: Global, bytes: &[u8], place: usize) -> Result<Vec<u8>, Refusal>
-    requires { place ≤ length bytes.now }
-    ensures { MatchResult result (λ behind. behind.items ≡ drop place bytes.now) (λ refusal. refusal ≡ Memory) }
-{
-    let behind = Vec::from_slice(alloc, &bytes[place..])?;
-    Ok(behind)
 }

@@ -1,6 +1,6 @@
 //! The calls as C sees them: a slice is a pointer and then a length, and an allocator is passed by nothing.
 //!
-//! None requires anything of its arguments but that a text in pieces was begun. What C has to keep is what the types say: each pointer is not null,
+//! None requires anything of its arguments but that a text in pieces or a live one was begun. What C has to keep is what the types say: each pointer is not null,
 //! what it points to has the length that is told, and the buffer shares no byte with the text or the skin.
 
 ghost use Rattle.std.specs.Prelude.{◌≡◌, ◌⊎◌, ◌≤◌, ◌^◌, [], None};
@@ -10,12 +10,16 @@ ghost use Rattle.termimad_c.specs.Inputs.{RefusesCall, RefusesCode, RefusesPage,
 ghost use Rattle.termimad_c.specs.DataTables.{IsNoTable, IsTableWritten};
 ghost use Rattle.termimad_c.specs.Making.{IsWritten, IsAreaWritten, IsTextWritten, IsCodeWritten, IsMarkdownWritten, IsRowCount, IsFittedLine, IsMadePrintable, ArePartsOf};
 ghost use Rattle.termimad_c.specs.Outlines.{AreHeadingsOf, AreLinksOf};
+ghost use Rattle.termimad_c.specs.GrowingTexts.{BeginsLive, ResizesLive, TakesLive};
+ghost use Rattle.termimad_c.specs.HeldGrowths.{IsHeld};
 ghost use Rattle.termimad_c.specs.HeldTexts.{IsBegun};
 ghost use Rattle.termimad_c.specs.TextsInPieces.{Begins, Takes};
 
 use crate::answer::{Answer, Progress, count_out, hand_out, hand_out_parts, refuse};
 use crate::coming::Coming;
+use crate::growing::Growing;
 use crate::held::Stream;
+use crate::live::Live;
 use crate::making::{
     area_bytes, code_bytes, fitted_bytes, inline_bytes, markdown_bytes, parts_made,
     printable_bytes, rows_count, table_bytes, text_bytes,
@@ -85,7 +89,7 @@ pub extern "C" fn termimad_code(
     hand_out(code_bytes(alloc, text, language, skin, width), buffer)
 }
 
-/// The links of a text of Markdown as people write it, in the order in which they end, each as a line: the number of its section, a tab, and the address.
+/// The links of a text of Markdown as people write it, in the order of the text, each as a line: the number of its section, a tab, and the address.
 #[unsafe(no_mangle)]
 pub extern "C" fn termimad_links(alloc: Global, text: &[u8], buffer: &mut [u8]) -> Answer
     ensures { Answers (AreLinksOf text.now) (RefusesCall ⊥ text.now []) buffer.old result buffer.new }
@@ -175,6 +179,79 @@ pub extern "C" fn termimad_stream_end(alloc: Global, stream: &mut Stream)
     ensures { stream.new.coming ≡ None }
 {
     let _ended = stream.take_out(alloc);
+}
+
+/// Begins a text of Markdown as people write it that comes in pieces and grows on a terminal that scrolls, to be laid out at a width, in columns, on
+/// a screen that has `height` rows.
+///
+/// Where it isn't refused, the text lives behind the pointer until `termimad_live_end`. What stood there is forgotten.
+#[unsafe(no_mangle)]
+pub extern "C" fn termimad_live_begin(
+    alloc: Global,
+    live: &mut Live,
+    skin: &[u8],
+    width: usize,
+    height: usize,
+) -> Answer
+    ensures { BeginsLive skin.now width height result live.old.growing live.new.growing }
+{
+    match Growing::boxed(alloc, skin, width, height) {
+        Ok(growing) => {
+            live.put_in(growing);
+            count_out(Ok(0))
+        }
+        Err(refusal) => refuse(refusal),
+    }
+}
+
+/// Takes the next piece of a live text, where `last` isn't 0 the last one, and hands out the bytes that wait then: those that lead the terminal to
+/// one that shows the text as far as it has come, or all of it.
+///
+/// A piece is cut anywhere, inside a character too. Bytes that don't fit the buffer wait for the next call, also one with an empty piece. At the end
+/// the terminal has the rows that `termimad-view markdown-stream` writes of the whole text.
+#[unsafe(no_mangle)]
+pub extern "C" fn termimad_live_take(
+    alloc: Global,
+    live: &mut Live,
+    text: &[u8],
+    last: usize,
+    buffer: &mut [u8],
+) -> Answer
+    requires { IsHeld live.old.growing }
+    ensures { TakesLive (is_told last) live.old.growing text.now buffer.old result live.new.growing buffer.new }
+{
+    let mut growing = live.take_out(alloc);
+    let answer = growing.take(alloc, text, last != 0, buffer);
+    live.put_in(growing);
+    answer
+}
+
+/// Goes on below whatever stands on the terminal, at another width and on a screen of another height, and hands out the bytes that wait then. The
+/// next piece, also an empty one, shows what grows there.
+#[unsafe(no_mangle)]
+pub extern "C" fn termimad_live_resize(
+    alloc: Global,
+    live: &mut Live,
+    width: usize,
+    height: usize,
+    buffer: &mut [u8],
+) -> Answer
+    requires { IsHeld live.old.growing }
+    ensures { ResizesLive width height live.old.growing buffer.old result live.new.growing buffer.new }
+{
+    let mut growing = live.take_out(alloc);
+    let answer = growing.resize(alloc, width, height, buffer);
+    live.put_in(growing);
+    answer
+}
+
+/// Ends a live text that was begun, whether all of it came or not, and gives its memory back.
+#[unsafe(no_mangle)]
+pub extern "C" fn termimad_live_end(alloc: Global, live: &mut Live)
+    requires { IsHeld live.old.growing }
+    ensures { live.new.growing ≡ None }
+{
+    let _ended = live.take_out(alloc);
 }
 
 /// A text as one line with its inline marks, and a newline: what `termimad-view inline` writes.

@@ -1,7 +1,7 @@
 //! What a caller hands: texts, skins and numbers. What C can get wrong is tested here.
 
-ghost use Rattle.std.specs.Prelude.{◌≡◌, ◌<◌, ◌≤◌, ◌^◌, IsUtf8, MatchResult, option_map};
-ghost use Rattle.termimad_c.specs.declared.answer.Refusal.TheVariants.{Condition, NotUtf8};
+ghost use Rattle.std.specs.Prelude.{◌≡◌, ◌++◌, ◌<◌, ◌≤◌, ◌^◌, IsUtf8, MatchResult, drop, length, option_map};
+ghost use Rattle.termimad_c.specs.declared.answer.Refusal.TheVariants.{Condition, Memory, NotUtf8};
 ghost use Rattle.termimad_c.specs.Inputs.{AreAligned, IsTextSoFar, IsNoText, IsPageSkinOf, IsSkinOf, RefusesAligns, RefusesPageSkin, RefusesSkin, IsAreaOf, IsNoArea, alignment_number, word_given};
 
 use crate::answer::Refusal;
@@ -149,4 +149,31 @@ pub fn aligns_of(alloc: Global, numbers: &[usize]) -> Result<Vec<Alignment>, Ref
         }
     }
     Ok(aligns)
+}
+
+/// Bytes and those that come after them.
+///
+/// # Errors
+///
+/// Out of memory.
+pub(crate) fn joined(alloc: Global, begun: &[u8], piece: &[u8]) -> Result<Vec<u8>, Refusal>
+    ensures { MatchResult result (λ bytes. bytes.items ≡ begun.now ++ piece.now) (λ refusal. refusal ≡ Memory) }
+{
+    let mut bytes = Vec::with_capacity(alloc, begun.len())?;
+    bytes.extend_from_slice(begun)?;
+    bytes.extend_from_slice(piece)?;
+    Ok(bytes)
+}
+
+/// The bytes behind a place.
+///
+/// # Errors
+///
+/// Out of memory.
+pub(crate) fn bytes_behind(alloc: Global, bytes: &[u8], place: usize) -> Result<Vec<u8>, Refusal>
+    requires { place ≤ length bytes.now }
+    ensures { MatchResult result (λ behind. behind.items ≡ drop place bytes.now) (λ refusal. refusal ≡ Memory) }
+{
+    let behind = Vec::from_slice(alloc, &bytes[place..])?;
+    Ok(behind)
 }

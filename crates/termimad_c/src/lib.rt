@@ -7,18 +7,23 @@
 //! 3. [`making`]: what each call makes of its inputs.
 //! 4. [`outlines`]: links and headings, as lines.
 //! 5. [`coming`]: a text that comes in pieces. [`loose`], [`held`]: such a text behind a pointer, which C keeps from call to call.
-//! 6. [`exports`]: the calls as C sees them.
+//! 6. [`growing`]: a text that grows on a terminal. [`live`]: such a text behind a pointer.
+//! 7. [`exports`]: the calls as C sees them.
 #![tactic(auto)]
 
 mod answer;
 mod coming;
 mod exports;
+mod growing;
 mod held;
 mod inputs;
+mod live;
 mod loose;
 mod making;
 mod outlines;
 
 pub use answer::{Answer, Parts, Progress, Refusal};
 pub use coming::Coming;
+pub use growing::Growing;
 pub use held::Stream;
+pub use live::Live;

@@ -86,10 +86,20 @@ abbrev pub words_behind : List (List ℕ) → List (List ℕ)
 words_behind [] = []
 words_behind (word ∷ words) = words_after (named_grammar word) word words
 
--- the words ask for this file, read so, this word for the skin and this place
-abbrev pub Asks : List (List ℕ) → List ℕ → Grammar → Option (List ℕ) → Where → Type 0
-Asks words file grammar skin place = (grammar ≡ grammar_said words) × AsksPlace (words_behind words) file skin place
+-- the mark that the first two words name, if they do, and the words behind them, or all
+abbrev pub mark_said : List (List ℕ) → Option (List ℕ)
+mark_said (word ∷ mark ∷ words) = if bytes_eq word (codes "--grows") then Some mark else None
+mark_said words = None
+
+abbrev pub words_unmarked : List (List ℕ) → List (List ℕ)
+words_unmarked (word ∷ mark ∷ words) = if bytes_eq word (codes "--grows") then words else word ∷ mark ∷ words
+words_unmarked words = words
+
+-- the words ask for this file, with this mark where its text still comes, read so, this word for the skin and this place
+abbrev pub Asks : List (List ℕ) → Option (List ℕ) → List ℕ → Grammar → Option (List ℕ) → Where → Type 0
+Asks words mark file grammar skin place =
+    (mark ≡ mark_said words) × (grammar ≡ grammar_said (words_unmarked words)) × AsksPlace (words_behind (words_unmarked words)) file skin place
 
 -- the words ask for nothing that the program does
 abbrev pub IsNoCall : List (List ℕ) → Type 0
-IsNoCall words = (file : List ℕ) (grammar : Grammar) (skin : Option (List ℕ)) (place : Where) → ¬ (Asks words file grammar skin place)
+IsNoCall words = (mark : Option (List ℕ)) (file : List ℕ) (grammar : Grammar) (skin : Option (List ℕ)) (place : Where) → ¬ (Asks words mark file grammar skin place)

@@ -42,7 +42,7 @@ status_of Unread = 141
 -- the line that is said of a failure
 abbrev pub failure_line : Failure → List ℕ
 failure_line Io = codes "termimad-page: the file can't be read, or the output failed\n"
-failure_line Usage = codes "usage: termimad-page [GRAMMAR] page FILE COLUMNS ROWS [SKIN [NAME [PLACE [ROW]]]] | [GRAMMAR] whole FILE [SKIN [COLUMNS]]; GRAMMAR is --lines, --plain or --plain=none\n"
+failure_line Usage = codes "usage: termimad-page [--grows MARK] [GRAMMAR] page FILE COLUMNS ROWS [SKIN [NAME [PLACE [ROW]]]] | [GRAMMAR] whole FILE [SKIN [COLUMNS]]; GRAMMAR is --lines, --plain or --plain=none\n"
 failure_line NotUtf8 = codes "termimad-page: the file is not UTF-8\n"
 failure_line Skin = codes "termimad-page: skin\n"
 failure_line Memory = codes "termimad-page: memory\n"

@@ -1,6 +1,6 @@
 -- What a run does to its devices, and how it ends.
 use Rattle.std.specs.Str.Lossy.{utf8_lossy}
-use Rattle.std.specs.Prelude.{◌≡◌, ◌⊎◌, ℕ, List, Option, Some, Result, Ok, Err, MatchResult, IsErrOf, IsUtf8, ⊤}
+use Rattle.std.specs.Prelude.{◌≡◌, ◌⊎◌, ℕ, Bool, true, false, List, Option, Some, None, Result, Ok, Err, MatchResult, IsErrOf, IsUtf8, ⊤}
 use Rattle.mad_layout.specs.RowSkins.{row_skin}
 use Rattle.mad_layout.specs.WrittenParts.{WritesParts}
 use Rattle.mad_page.specs.declared.page.Files.{Files}
@@ -15,7 +15,10 @@ use Rattle.markdown_layout.specs.WrittenPages.{WritesDressed}
 use Rattle.markdown_reader.specs.Markdown.{markdown_sections}
 use Rattle.markdown_lines.specs.Texts.{behind_mark}
 use Rattle.termimad_given.specs.Given.{Held}
+use Rattle.termimad_page_run.specs.Comings.{Arrival}
+use Rattle.termimad_page_run.specs.Growing.{IsBrokenGrowing, IsPagedGrowing}
 use Rattle.termimad_page_run.specs.Runs.{IsBrokenRun, IsPaged, shown_text}
+use Rattle.termimad_page_run.specs.declared.growing.Frame.{Frame}
 use Rattle.termimad_page_run.specs.declared.program.Grammar.{Grammar}
 use Rattle.termimad_page_run.specs.declared.program.Grammar.TheVariants.{Lines, Markdown, Plain}
 use Rattle.termimad_page_run.specs.declared.program.Sheet.{Sheet}
@@ -38,19 +41,20 @@ devices keys screen out = record { keys = keys; screen = screen; out = out }
 
 -- ---- what is asked for
 
--- The words ask for this file, read so, in this place, and in a skin that their word for it is.
-pub record IsBegun (words : List (List ℕ)) (file : List ℕ) (grammar : Grammar) (place : Where) (skin : PageSkin) : Type 0 where
+-- The words ask for this file, with this mark, if its text still comes, read so, in this place, and in a skin that their word for it is.
+pub record IsBegun (words : List (List ℕ)) (mark : Option (List ℕ)) (file : List ℕ) (grammar : Grammar) (place : Where) (skin : PageSkin) : Type 0 where
   pub word : Option (List ℕ)
-  pub asks : Asks words file grammar word place
+  pub asks : Asks words mark file grammar word place
   pub given : skin_for word grammar ≡ Some skin
 
 -- the words ask for something, in a skin that is refused so
 pub record RefusesSkin (words : List (List ℕ)) (failure : Failure) : Type 0 where
+  pub mark : Option (List ℕ)
   pub file : List ℕ
   pub grammar : Grammar
   pub place : Where
   pub word : Option (List ℕ)
-  pub asks : Asks words file grammar word place
+  pub asks : Asks words mark file grammar word place
   pub refused : RefusesSkinFor word grammar failure
 
 -- why nothing is begun: the words are no call, or their skin is refused
@@ -135,32 +139,82 @@ Shows grammar skin place bytes old r new =
     ((text : List ℕ) × IsTextOf grammar bytes text × ShowsText grammar skin place (behind_mark text) old r new)
     ⊎ ((refusal : Refusal) × (r ≡ Err refusal) × IsNoText grammar bytes refusal × (new ≡ old))
 
+-- ---- a text that comes
+
+-- the text comes: it is to be paged, and has a mark
+abbrev pub comes : Option (List ℕ) → Where → Bool
+comes (Some mark) (on_screen name columns rows files start) = true
+comes mark place = false
+
+-- The frame has this name, grammar and skin, on a screen of so many columns and rows, with these files beside the text, from the row of this number on.
+pub record IsFrameOf (grammar : Grammar) (skin : PageSkin) (name : List ℕ) (columns rows : ℕ) (files : Files) (start : ℕ) (frame : Frame) : Type 0 where
+  pub grammar_is : frame.grammar ≡ grammar
+  pub skin_is : frame.skin.now ≡ skin
+  pub name_is : frame.name.now ≡ name
+  pub columns_are : frame.columns ≡ columns
+  pub rows_are : frame.rows ≡ rows
+  pub files_are : frame.files ≡ files
+  pub start_is : frame.start ≡ start
+
+-- a text that comes is paged until a key or the input ends it, or up to a fault
+abbrev pub PagesComing : Grammar → PageSkin → List ℕ → ℕ → ℕ → Files → ℕ → Arrival → Trace → Trace → Result End Refusal → Trace → Trace → Type 0
+PagesComing grammar skin name columns rows files start coming keys screen r new_keys new_screen =
+    (frame : Frame) × IsFrameOf grammar skin name columns rows files start frame
+    × MatchResult r (λ end. IsPagedGrowing frame end coming keys new_keys screen new_screen)
+    (λ refusal. (e : Error) × (refusal ≡ refusal_of e) × IsBrokenGrowing frame e coming keys new_keys screen new_screen)
+
+-- nothing was read of a text that comes
+pub record IsFreshArrival (coming : Arrival) : Type 0 where
+  pub ended : coming.ended ≡ None
+  pub is_whole : coming.is_whole ≡ false
+
+-- a text that comes is paged in its place; the output is left alone
+abbrev pub ShowsComing : Grammar → PageSkin → Where → Devices → Result End Refusal → Devices → Type 0
+ShowsComing grammar skin (on_screen name columns rows files start) old r new =
+    (coming : Arrival) × IsFreshArrival coming × PagesComing grammar skin name columns rows files start coming old.keys old.screen r new.keys new.screen × (new.out ≡ old.out)
+ShowsComing grammar skin (as_whole columns) old r new = ⊥
+
 -- ---- a run
 
--- The words are a call, its file is read, and what it holds is shown.
-pub record HasShown (holds : Held) (words : List (List ℕ)) (old : Devices) (r : Result End Refusal) (new : Devices) : Type 0 where
+-- The words are a call for a text that comes, whose file and mark could be opened, and it is paged. Nothing is known of what they hold.
+pub record HasPagedComing (words : List (List ℕ)) (old : Devices) (r : Result End Refusal) (new : Devices) : Type 0 where
+  pub mark : Option (List ℕ)
   pub file : List ℕ
   pub grammar : Grammar
   pub place : Where
   pub skin : PageSkin
-  pub begun : IsBegun words file grammar place skin
+  pub begun : IsBegun words mark file grammar place skin
+  pub coming : comes mark place ≡ true
+  pub shown : ShowsComing grammar skin place old r new
+
+-- The words are a call for a text that is there, its file is read, and what it holds is shown.
+pub record HasShown (holds : Held) (words : List (List ℕ)) (old : Devices) (r : Result End Refusal) (new : Devices) : Type 0 where
+  pub mark : Option (List ℕ)
+  pub file : List ℕ
+  pub grammar : Grammar
+  pub place : Where
+  pub skin : PageSkin
+  pub begun : IsBegun words mark file grammar place skin
+  pub whole : comes mark place ≡ false
   pub bytes : List ℕ
   pub held : holds file bytes
   pub shown : Shows grammar skin place bytes old r new
 
 -- The words are a call, and its file isn't read.
 pub record IsUnread (words : List (List ℕ)) (refusal : Refusal) : Type 0 where
+  pub mark : Option (List ℕ)
   pub file : List ℕ
   pub grammar : Grammar
   pub place : Where
   pub skin : PageSkin
-  pub begun : IsBegun words file grammar place skin
+  pub begun : IsBegun words mark file grammar place skin
   pub unread : ReadsFile refusal
 
 -- what a run has done, without what is said of its refusal
 abbrev pub Performs : Held → List (List ℕ) → Devices → Result End Refusal → Devices → Type 0
 Performs holds words old r new =
     HasShown holds words old r new
+    ⊎ HasPagedComing words old r new
     ⊎ ((refusal : Refusal) × (r ≡ Err refusal) × (IsUnbegun words refusal ⊎ IsUnread words refusal) × (new ≡ old))
 
 -- its status, and what is said: of some ends a row

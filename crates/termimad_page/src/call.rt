@@ -2,7 +2,7 @@
 
 ghost use Rattle.std.specs.Prelude.{◌≡◌, ℕ, List, Option, MatchOption, map, option_map, string_bytes};
 ghost use Rattle.mad_page.specs.declared.page.Files.{Files as SomeFiles};
-ghost use Rattle.termimad_page.specs.Calls.{Asks, AsksPlace, AsksScreen, AsksWhole, IsNoCall, IsRowNumber, SaysMore, SaysStart, Where, grammar_said, named_grammar, where_of, words_behind};
+ghost use Rattle.termimad_page.specs.Calls.{Asks, AsksPlace, AsksScreen, AsksWhole, IsNoCall, IsRowNumber, SaysMore, SaysStart, Where, grammar_said, mark_said, named_grammar, where_of, words_behind, words_unmarked};
 
 use termimad_page_run::{Files, Grammar};
 use termimad_words::parse_number;
@@ -15,6 +15,8 @@ const WHOLE_COLUMNS: u16 = 80;
 pub(crate) struct Call<'w> {
     /// The file that is read.
     pub file: &'w str,
+    /// The file that has a byte once no more of the text comes, where it still comes.
+    pub mark: Option<&'w str>,
     /// How its text is read.
     pub grammar: Grammar,
     /// The word for the skin, if there is one.
@@ -49,19 +51,32 @@ pub(crate) struct Screen<'w> {
 
 /// The call that the words after the program's name are: `page FILE COLUMNS ROWS [SKIN [NAME [PLACE [ROW]]]]` or `whole FILE [SKIN [COLUMNS]]`, with
 /// `--lines` before them where each line of the text stands for itself, `--plain` where it isn't Markdown, and `--plain=none` where its styles aren't shown
-/// either. None, where they are neither.
+/// either. Before all of them may stand `--grows MARK`, where the text of a page still comes. None, where they are neither.
 pub(crate) fn parse_call(words: &[String]) -> Option<Call<'_>>
     ensures { MatchOption result (IsNoCall (map string_bytes words.now))
-        (λ call. Asks (map string_bytes words.now) call.file.now call.grammar (option_map (λ word. word.now) call.skin) (where_of call.place)) }
+        (λ call. Asks (map string_bytes words.now) (option_map (λ mark. mark.now) call.mark) call.file.now call.grammar (option_map (λ word. word.now) call.skin) (where_of call.place)) }
 {
-    let (grammar, rest) = grammar_said(words);
+    let (mark, rest) = mark_said(words);
+    let (grammar, rest) = grammar_said(rest);
     let (file, skin, place) = parse_place(rest)?;
     Some(Call {
         file,
+        mark,
         grammar,
         skin,
         place,
     })
+}
+
+// The mark that the first words name, if they do, and the words behind them.
+fn mark_said(words: &[String]) -> (Option<&str>, &[String])
+    ensures mark { option_map (λ mark. mark.now) result.0 ≡ mark_said (map string_bytes words.now) }
+    ensures behind { map string_bytes result.1.now ≡ words_unmarked (map string_bytes words.now) }
+{
+    match words {
+        [word, mark, rest @ ..] if word.as_str() == "--grows" => (Some(mark.as_str()), rest),
+        _ => (None, words),
+    }
 }
 
 // How the text is read, and the words behind the one that says so.

@@ -126,7 +126,7 @@ fn line(failure: Failure) -> &'static [u8]
     match failure {
         Failure::Io => b"termimad-page: the file can't be read, or the output failed\n",
         Failure::Usage => {
-            b"usage: termimad-page [GRAMMAR] page FILE COLUMNS ROWS [SKIN [NAME [PLACE [ROW]]]] | [GRAMMAR] whole FILE [SKIN [COLUMNS]]; GRAMMAR is --lines, --plain or --plain=none\n"
+            b"usage: termimad-page [--grows MARK] [GRAMMAR] page FILE COLUMNS ROWS [SKIN [NAME [PLACE [ROW]]]] | [GRAMMAR] whole FILE [SKIN [COLUMNS]]; GRAMMAR is --lines, --plain or --plain=none\n"
         }
         Failure::NotUtf8 => b"termimad-page: the file is not UTF-8\n",
         Failure::Skin => b"termimad-page: skin\n",

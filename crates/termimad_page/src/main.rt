@@ -3,13 +3,14 @@
 //! 1. [`call`]: what the arguments ask for.
 //! 2. [`skins`]: the skin that a text is shown in.
 //! 3. [`failing`]: how a run ends.
-//! 4. [`running`]: a run, over any devices.
+//! 4. [`sources`]: files that are read on; [`running`]: a run, over any devices.
 #![tactic(auto)]
 
 mod call;
 mod failing;
 mod running;
 mod skins;
+mod sources;
 
 ghost use Rattle.std.specs.Prelude.{◌≡◌, MatchResult};
 ghost use Rattle.termimad_page.specs.Streams.{HasEnded, HasRunGiven, RefusesGiven, refusal_of_words};

@@ -1,17 +1,20 @@
 //! A run, over any devices.
 
-ghost use Rattle.std.specs.Prelude.{◌≡◌, IsUtf8, MatchResult, map, string_bytes};
+ghost use Rattle.std.specs.Prelude.{◌≡◌, IfErr, IsUtf8, MatchOption, MatchResult, None, Some, false, map, option_map, string_bytes};
 ghost use Rattle.std.specs.Cow.{cow_str_bytes};
 ghost use Rattle.std.specs.Str.Lossy.{utf8_lossy};
 ghost use Rattle.termimad_page.specs.declared.failing.Refusal.TheVariants.{Failed};
 ghost use Rattle.termimad_words.specs.declared.failure.Failure.TheVariants.{Memory, NotUtf8};
 ghost use Rattle.mad_pager.specs.declared.session.End.TheVariants.{Quits};
 ghost use Rattle.termimad_page.specs.Calls.{where_of};
-ghost use Rattle.termimad_page.specs.Runs.{HasRun, IsBegun, IsNoText, IsSheetOf, IsTextOf, IsUnbegun, PagesText, Performs, ReadsFile, Shows, WritesRows, WritesWhole, devices};
+ghost use Rattle.termimad_page.specs.declared.call.Place.TheVariants.{OnScreen};
+ghost use Rattle.termimad_page_run.specs.Comings.{arrival};
+ghost use Rattle.termimad_page.specs.Runs.{comes, HasRun, IsBegun, IsNoText, IsSheetOf, IsTextOf, IsUnbegun, PagesComing, PagesText, Performs, ReadsFile, Shows, WritesRows, WritesWhole, devices};
 
 use crate::call::{Call, Place, Screen, parse_call};
 use crate::failing::{Refusal, refusal_of, refusal_reading, refuse, say_end};
 use crate::skins::skin_for;
+use crate::sources::Growing;
 use mad_measure::printable;
 use mad_page_skin::PageSkin;
 use mad_plain::lossy_text;
@@ -23,7 +26,7 @@ use markdown_lines::texts::behind_mark;
 use std::alloc::Global;
 use std::borrow::CowStr;
 use termimad_given::Texts;
-use termimad_page_run::{End, Grammar, Sheet, run as page};
+use termimad_page_run::{Coming, End, Frame, Grammar, Sheet, run as page, run_growing};
 use termimad_words::Failure;
 
 /// Does what the words after the program's name ask for, and answers the status: keys come from the input, and a text is paged on the screen, or
@@ -31,7 +34,7 @@ use termimad_words::Failure;
 ///
 /// The words are checked first, then the skin, and then the file is read. Statuses are 0, after the keys for another file 6 and 7, after those for the
 /// file as it is now and for an editor 8 and 9, and of a refusal 1 to 5 and 141. A refusal is said on `err`, in one line, and of 8 and 9 the row on top.
-pub(crate) fn run<T: Texts, I: Source, S: Out, O: Out, E: Out>(
+pub(crate) fn run<T: Texts + Growing, I: Source, S: Out, O: Out, E: Out>(
     alloc: Global,
     words: &[String],
     texts: &T,
@@ -50,7 +53,7 @@ pub(crate) fn run<T: Texts, I: Source, S: Out, O: Out, E: Out>(
 }
 
 // Does what the words ask for.
-fn perform<T: Texts, I: Source, S: Out, O: Out>(
+fn perform<T: Texts + Growing, I: Source, S: Out, O: Out>(
     alloc: Global,
     words: &[String],
     texts: &T,
@@ -62,14 +65,34 @@ fn perform<T: Texts, I: Source, S: Out, O: Out>(
         result (devices (I.seen input.new) (S.seen screen.new) (O.seen out.new)) }
 {
     let (call, skin) = begin(alloc, words)?;
-    let bytes = read(alloc, texts, call.file)?;
-    show(alloc, &call, &skin, bytes.as_slice(), input, screen, out)
+    match mark_and_screen(call.mark, call.place) {
+        Some((mark, place)) => {
+            let coming = open(texts, call.file, mark)?;
+            page_coming(alloc, &place, call.grammar, &skin, coming, input, screen)
+        }
+        None => {
+            let bytes = read(alloc, texts, call.file)?;
+            show(alloc, &call, &skin, bytes.as_slice(), input, screen, out)
+        }
+    }
+}
+
+// The mark of a text that comes, and where it is paged; none, where it is there.
+fn mark_and_screen<'w>(mark: Option<&'w str>, place: Place<'w>) -> Option<(&'w str, Screen<'w>)>
+    ensures { MatchOption result (comes (option_map (λ mark. mark.now) mark.entry) (where_of place.entry) ≡ false)
+        (λ found. (option_map (λ mark. mark.now) mark.entry ≡ Some found.0.now) × (place.entry ≡ OnScreen found.1)) }
+{
+    let mark = mark?;
+    match place {
+        Place::OnScreen(screen) => Some((mark, screen)),
+        Place::Whole(_) => None,
+    }
 }
 
 // What the words ask for, and its skin.
 fn begin(alloc: Global, words: &[String]) -> Result<(Call<'_>, PageSkin), Refusal>
     ensures { MatchResult result
-        (λ begun. IsBegun (map string_bytes words.now) begun.0.file.now begun.0.grammar (where_of begun.0.place) begun.1)
+        (λ begun. IsBegun (map string_bytes words.now) (option_map (λ mark. mark.now) begun.0.mark) begun.0.file.now begun.0.grammar (where_of begun.0.place) begun.1)
         (IsUnbegun (map string_bytes words.now)) }
 {
     let Some(call) = parse_call(words) else {
@@ -88,6 +111,55 @@ fn read<T: Texts>(alloc: Global, texts: &T, file: &str) -> Result<Vec<u8>, Refus
     match texts.read(alloc, file) {
         Ok(bytes) => Ok(bytes),
         Err(e) => Err(refusal_reading(&e)),
+    }
+}
+
+// A text that still comes, and its mark.
+fn open<T: Growing>(texts: &T, file: &str, mark: &str) -> Result<Coming<T::File, T::File>, Refusal>
+    ensures { MatchResult result (λ coming. (coming.ended ≡ None) × (coming.is_whole ≡ false)) ReadsFile }
+{
+    let text = open_file(texts, file)?;
+    let mark = open_file(texts, mark)?;
+    Ok(Coming::new(text, mark))
+}
+
+// A file that is read on.
+fn open_file<T: Growing>(texts: &T, name: &str) -> Result<T::File, Refusal>
+    ensures { IfErr result ReadsFile }
+{
+    match texts.open(name) {
+        Ok(file) => Ok(file),
+        Err(e) => Err(refusal_reading(&e)),
+    }
+}
+
+// Pages a text that still comes.
+fn page_coming<F: Source + Drop, I: Source, S: Out>(
+    alloc: Global,
+    place: &Screen,
+    grammar: Grammar,
+    skin: &PageSkin,
+    coming: Coming<F, F>,
+    input: &mut I,
+    screen: &mut S,
+) -> Result<End, Refusal>
+    ensures { PagesComing grammar skin.now place.now.name.now place.now.columns place.now.rows place.now.files place.now.start
+        (arrival (F.seen coming.text) (F.seen coming.mark) coming.ended coming.is_whole)
+        (I.seen input.old) (S.seen screen.old) result (I.seen input.new) (S.seen screen.new) }
+{
+    let mut coming = coming;
+    let frame = Frame {
+        name: place.name,
+        grammar,
+        skin,
+        columns: place.columns,
+        rows: place.rows,
+        start: place.start,
+        files: place.files,
+    };
+    match run_growing(alloc, &mut coming, &frame, input, screen) {
+        Ok(end) => Ok(end),
+        Err(e) => Err(refusal_of(e)),
     }
 }
 

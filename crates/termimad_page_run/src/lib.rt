@@ -2,13 +2,20 @@
 //!
 //! 1. [`blocks`]: what a block of keys does.
 //! 2. [`program`]: a run.
-//! 3. [`plain`]: a skin without a style.
+//! 3. [`coming`]: a text that comes; [`wishes`]: what a block wants of it; [`stretches`], [`growing`]: a run over it.
+//! 4. [`plain`]: a skin without a style.
 #![tactic(auto)]
 
 mod blocks;
+mod coming;
+mod growing;
 mod plain;
 mod program;
+mod stretches;
+mod wishes;
 
+pub use coming::Coming;
+pub use growing::{Frame, run_growing};
 pub use mad_pager::{End, Files};
 pub use plain::plain_skin;
 pub use program::{Grammar, Sheet, run};

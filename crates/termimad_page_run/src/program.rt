@@ -211,8 +211,8 @@ fn turn_page<I: Source, O: Out>(
     Ok(turn)
 }
 
-// A name as it is shown: what is printable of it, steady, in one row.
-fn name_row(alloc: Global, name: &str) -> Result<String, AllocError>
+/// A name as it is shown: what is printable of it, steady, in one row.
+pub(crate) fn name_row(alloc: Global, name: &str) -> Result<String, AllocError>
     ensures { IfOk result (λ row. string_bytes row ≡ name_row name.now) }
 {
     let printed = printable(alloc, name)?;

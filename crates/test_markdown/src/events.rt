@@ -92,6 +92,10 @@ fn draw_target(picture: &mut String, source: &str, target: LinkTarget) -> Result
             scheme_word(scheme),
             part(source, at, len)
         ),
+        LinkTarget::Attribute(at, value) => {
+            let begin = at.saturating_add(value.start);
+            write!(picture, " to {}", part(source, begin, value.len))
+        }
     }
 }
 

@@ -120,5 +120,9 @@ fn draw_link(
             scheme_word(*scheme),
             part(text, *at, *len)
         ),
+        LinkTarget::Attribute(at, value) => {
+            let begin = at.saturating_add(value.start);
+            write!(picture, "{number} to {}\n", part(text, begin, value.len))
+        }
     }
 }

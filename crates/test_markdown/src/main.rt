@@ -6,7 +6,8 @@
 //! 2. [`lines`]: `lines`, what each line of a text does.
 //! 3. [`inlines`]: `inlines`, the inlines of a text.
 //! 4. [`pieces`]: `pieces`, the inlines of a text's leaves.
-//! 5. [`shown`]: `sections`, the sections that are shown of a text; `links`, its links; `marks`, those of the characters that belong to links.
+//! 5. [`shown`]: `sections`, the sections that are shown of a text; `links`, its links; `marks`, those of the characters that belong to links;
+//!    `anchors`, the names that links go to.
 //! 6. [`events`]: `events`, what begins and ends of a text's blocks; `walk`, the inlines of its paragraphs and headings as events.
 //! 7. [`pages`]: `page W`, the rows of a text at a width; `page none`, without one. `boxes W`, the same where code has a background,
 //!    `ascii W`, where bullets are ASCII, and `plain W`, the page without styles. `linked W`: that page with its links.
@@ -42,6 +43,7 @@ impl Calls for MarkdownCalls {
             "walk" => events::draw_walk(alloc, text),
             "pieces" => pieces::draw_leaves(alloc, text),
             "links" => shown::draw_links(alloc, text),
+            "anchors" => shown::draw_anchors(alloc, text),
             "sections" => shown::draw_sections(alloc, text),
             "marks" => shown::draw_marks(alloc, text),
             _ => answer_at(alloc, call, text),

@@ -3,7 +3,7 @@
 
 use mad_md::{Alignment, Composite, CompositeStyle, Compound, Line};
 use mad_sections::{Alert, Gutter, Section};
-use markdown_reader::Markdown;
+use markdown_reader::{Markdown, read_anchors};
 use std::alloc::{AllocError, Global};
 use std::fmt::Write;
 
@@ -167,6 +167,21 @@ pub(crate) fn draw_links(alloc: Global, text: &str) -> Result<String, AllocError
         let section = link.section;
         write!(picture, "{section} ")?;
         for c in link.address.chars() {
+            draw_character(&mut picture, c)?;
+        }
+        picture.push('\n')?;
+    }
+    Ok(picture)
+}
+
+/// The names that links go to: the number of a section, and a name.
+pub(crate) fn draw_anchors(alloc: Global, text: &str) -> Result<String, AllocError> {
+    let anchors = read_anchors(alloc, text)?;
+    let mut picture = String::new(alloc);
+    for anchor in &anchors {
+        let section = anchor.section;
+        write!(picture, "{section} ")?;
+        for c in anchor.name.chars() {
             draw_character(&mut picture, c)?;
         }
         picture.push('\n')?;

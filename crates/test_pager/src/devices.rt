@@ -39,6 +39,83 @@ impl Source for Blocks<'_> {
     }
 }
 
+/// A text that comes in parts, between which a line `++` stands: one each time that it is read up to where it ends by then. A part has less than 4 KiB.
+#[derive(Drop)]
+pub struct Parts<'s> {
+    left: &'s str,
+    pauses: bool,
+}
+
+impl<'s> Parts<'s> {
+    /// A source of these parts.
+    pub fn new(parts: &'s str) -> Self {
+        Parts {
+            left: parts,
+            pauses: false,
+        }
+    }
+}
+
+impl Source for Parts<'_> {
+    ghost seen = { λ _. record { bytes = None; faults = 0; flushes = 0 } };
+
+    #[tactic(auto, unfolding(mad_term::specs::Trace::ahead))]
+    fn get(&mut self) -> io::Result<Option<u8>> {
+        let mut byte = [0];
+        let count = self.fill(&mut byte)?;
+        Ok(if count == 0 { None } else { Some(byte[0]) })
+    }
+
+    #[tactic(auto, unfolding(mad_term::specs::Trace::ahead_all))]
+    fn fill(&mut self, buffer: &mut [u8]) -> io::Result<usize> {
+        if self.pauses {
+            self.pauses = false;
+            return Ok(0);
+        }
+        let (part, rest) = self.left.split_once("++\n").unwrap_or((self.left, ""));
+        let count = part.len().min(buffer.len());
+        buffer[..count].copy_from_slice(&part.as_bytes()[..count]);
+        self.left = rest;
+        self.pauses = count > 0;
+        Ok(count)
+    }
+}
+
+/// A mark that has its byte after so many looks.
+#[derive(Drop)]
+pub struct Mark {
+    looks: usize,
+    byte: u8,
+}
+
+impl Mark {
+    /// One that has this byte after so many looks.
+    pub fn new(looks: usize, byte: u8) -> Self {
+        Mark { looks, byte }
+    }
+}
+
+impl Source for Mark {
+    ghost seen = { λ _. record { bytes = None; faults = 0; flushes = 0 } };
+
+    #[tactic(auto, unfolding(mad_term::specs::Trace::ahead))]
+    fn get(&mut self) -> io::Result<Option<u8>> {
+        let mut byte = [0];
+        let count = self.fill(&mut byte)?;
+        Ok(if count == 0 { None } else { Some(byte[0]) })
+    }
+
+    #[tactic(auto, unfolding(mad_term::specs::Trace::ahead_all))]
+    fn fill(&mut self, buffer: &mut [u8]) -> io::Result<usize> {
+        if self.looks > 0 || buffer.is_empty() {
+            self.looks = self.looks.saturating_sub(1);
+            return Ok(0);
+        }
+        buffer[0] = self.byte;
+        Ok(1)
+    }
+}
+
 /// A device that keeps what it takes up to each flush apart. Its faults are out of memory.
 #[derive(Drop)]
 pub struct Pictures {

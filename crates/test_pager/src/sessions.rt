@@ -1,12 +1,12 @@
 //! What a session shows: a picture at its start, and one after each block.
 
-use crate::devices::{Blocks, Pictures};
+use crate::devices::{Blocks, Mark, Parts, Pictures};
 use mad_layout::MadSkin;
 use mad_page_skin::PageSkin;
 use mad_screen::{NotPlain, Screen};
 use mad_term::Error;
 use std::alloc::{AllocError, Global};
-use termimad_page_run::{End, Files, Grammar, Sheet, plain_skin, run};
+use termimad_page_run::{Coming, End, Files, Frame, Grammar, Sheet, plain_skin, run, run_growing};
 
 // What is put where the size is asked for.
 const SIZE_QUESTION: &[u8] = b"\x1b[999;999H\x1b[6n";
@@ -15,8 +15,9 @@ const SIZE_QUESTION: &[u8] = b"\x1b[999;999H\x1b[6n";
 /// people write Markdown, and after `colors` or `bare` where it is read as no Markdown, in its styles or without. Before the columns stands what files
 /// there are beside it, if there are some: `first`, `between` or `last`, and after that `+N`, where the row of this number is on top at first. With the
 /// word `plain` before these the skin has no style; with `dark`, `light`, `sixteen` or `none` it is that of a page. With `pens` before that each picture is
-/// shown once more as letters of its pens. The text comes first, then a line `==`, and a block a line.
+/// shown once more as letters of its pens. With `grows` or `cut` before all of them the text comes in parts, and is cut off at its end or not. The text comes first, then a line `==`, and a block a line.
 pub fn shown(alloc: Global, call: &str, text: &str) -> Result<String, AllocError> {
+    let (coming, call) = coming_in(call);
     let (pens, call) = match call.strip_prefix("pens ") {
         Some(call) => (true, call),
         None => (false, call),
@@ -33,18 +34,17 @@ pub fn shown(alloc: Global, call: &str, text: &str) -> Result<String, AllocError
     let name = words.next().unwrap_or("");
     let (text, blocks) = text_and_blocks(alloc, text)?;
     let blocks = blocks.as_str();
-    let sheet = Sheet {
+    let frame = Frame {
         name,
-        text: text.as_str(),
         grammar,
         skin: &skin,
         columns,
         rows,
-        files,
         start,
+        files,
     };
     let mut out = Pictures::new(alloc);
-    let ended = run(alloc, &sheet, &mut Blocks::new(blocks), &mut out);
+    let ended = end_of(alloc, coming, &frame, text.as_str(), blocks, &mut out);
     let mut answer = String::new(alloc);
     let setting = Setting {
         size: (columns, rows),
@@ -58,6 +58,44 @@ pub fn shown(alloc: Global, call: &str, text: &str) -> Result<String, AllocError
         Err(_) => answer.push_str("a fault\n")?,
     }
     Ok(answer)
+}
+
+// How a session ends over a text that is there, or over one that comes, whose mark has this byte after its last part.
+fn end_of(
+    alloc: Global,
+    coming: Option<u8>,
+    frame: &Frame,
+    text: &str,
+    blocks: &str,
+    out: &mut Pictures,
+) -> Result<End, Error> {
+    let mut input = Blocks::new(blocks);
+    if let Some(byte) = coming {
+        let looks = text.split("++\n").count().saturating_sub(1);
+        let mut coming = Coming::new(Parts::new(text), Mark::new(looks, byte));
+        return run_growing(alloc, &mut coming, frame, &mut input, out);
+    }
+    let sheet = Sheet {
+        name: frame.name,
+        text,
+        grammar: frame.grammar,
+        skin: frame.skin,
+        columns: frame.columns,
+        rows: frame.rows,
+        files: frame.files,
+        start: frame.start,
+    };
+    run(alloc, &sheet, &mut input, out)
+}
+
+// Whether a call says that the text comes, and the byte of its mark then, and the rest of the call.
+fn coming_in(call: &str) -> (Option<u8>, &str) {
+    let (word, rest) = call.split_once(' ').unwrap_or((call, ""));
+    match word {
+        "grows" => (Some(b'w'), rest),
+        "cut" => (Some(b'c'), rest),
+        _ => (None, call),
+    }
 }
 
 // The text and the blocks, with the characters that signs mean.

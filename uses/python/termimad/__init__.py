@@ -29,7 +29,7 @@
     table                  a table of lists, of dicts or of a CSV file
     Lines, text, area      a text of the small grammar: at a width, in an area of the screen
     inline, fit, rows      a line, a line that is cut, how many rows a text takes
-    pieces, live           Markdown that comes in pieces: its rows as they are complete, and a `with` block that prints them
+    pieces, live           Markdown that comes in pieces: its rows as they are complete, and a `with` block that shows it as it grows
     text_of_pieces         the same of a text of the small grammar
     printable              a text without what a terminal obeys
     background             the terminal's background, which it is asked for

@@ -66,7 +66,7 @@ class _Answer(ctypes.Structure):
     _fields_ = [("count", ctypes.c_size_t), ("status", ctypes.c_uint32)]
 
 
-class _Stream(ctypes.Structure):
+class _Pointer(ctypes.Structure):
     _fields_ = [("text", ctypes.c_void_p)]
 
 
@@ -76,7 +76,7 @@ class _Progress(ctypes.Structure):
 
 _library = ctypes.CDLL(os.environ.get("TERMIMAD_LIBRARY", "libtermimad.so"))
 _BYTES = [ctypes.c_char_p, ctypes.c_size_t]
-_POINTER_TO_STREAM = ctypes.POINTER(_Stream)
+_KEPT = ctypes.POINTER(_Pointer)
 _PARAMETERS = {
     "termimad_area": _BYTES * 2 + [ctypes.c_size_t] * 4 + _BYTES,
     "termimad_text": _BYTES * 2 + [ctypes.c_size_t] + _BYTES,
@@ -85,16 +85,20 @@ _PARAMETERS = {
     "termimad_links": _BYTES * 2,
     "termimad_headings": _BYTES * 2,
     "termimad_parts": _BYTES * 2 + [ctypes.c_size_t] * 3 + _BYTES,
-    "termimad_stream_begin": [_POINTER_TO_STREAM, *_BYTES, ctypes.c_size_t],
-    "termimad_stream_take": [_POINTER_TO_STREAM, *_BYTES, ctypes.c_size_t, *_BYTES],
-    "termimad_stream_end": [_POINTER_TO_STREAM],
+    "termimad_stream_begin": [_KEPT, *_BYTES, ctypes.c_size_t],
+    "termimad_stream_take": [_KEPT, *_BYTES, ctypes.c_size_t, *_BYTES],
+    "termimad_stream_end": [_KEPT],
+    "termimad_live_begin": [_KEPT, *_BYTES, ctypes.c_size_t, ctypes.c_size_t],
+    "termimad_live_take": [_KEPT, *_BYTES, ctypes.c_size_t, *_BYTES],
+    "termimad_live_resize": [_KEPT, ctypes.c_size_t, ctypes.c_size_t, *_BYTES],
+    "termimad_live_end": [_KEPT],
     "termimad_inline": _BYTES * 3,
     "termimad_rows": _BYTES * 2 + [ctypes.c_size_t],
     "termimad_fit": _BYTES * 2 + [ctypes.c_size_t] * 2 + _BYTES,
     "termimad_printable": _BYTES * 2,
     "termimad_table": _BYTES + [ctypes.POINTER(ctypes.c_size_t), ctypes.c_size_t] * 2 + _BYTES + [ctypes.c_size_t] * 2 + _BYTES,
 }
-_RESULTS: Dict[str, Any] = {"termimad_parts": _Progress, "termimad_stream_end": None}
+_RESULTS: Dict[str, Any] = {"termimad_parts": _Progress, "termimad_stream_end": None, "termimad_live_end": None}
 for _name, _parameters in _PARAMETERS.items():
     _call = getattr(_library, _name)
     _call.argtypes, _call.restype = _parameters, _RESULTS.get(_name, _Answer)
@@ -111,37 +115,66 @@ def rows_of_parts(left: bytes, skin: Skin, width: int, fenced: int, last: int) -
     return made, answer.used, answer.fenced
 
 
-class Stream:
+class _Kept:
     """A text of Markdown that comes in pieces, which the library keeps until it is closed."""
 
-    def __init__(self, width: SupportsIndex, skin: Skin) -> None:
+    _kind = ""
+
+    def __init__(self, skin: Skin, numbers: Mapping[str, SupportsIndex]) -> None:
         self.is_open = False
-        self._kept = _Stream()
-        texts, numbers = _raw_texts({"skin": skin_word(skin)}), _sizes({"width": width})
-        _checked(_library.termimad_stream_begin(ctypes.byref(self._kept), *_handed(texts), *numbers.values()), texts, numbers)
+        self._kept = _Pointer()
+        texts, sizes = _raw_texts({"skin": skin_word(skin)}), _sizes(numbers)
+        _checked(self._called("begin", *_handed(texts), *sizes.values()), texts, sizes)
         self.is_open = True
 
     def take(self, piece: bytes, is_last: bool = False) -> str:
-        """The rows that are complete with the next piece, or with the last one, and weren't before."""
+        """What the next piece, or the last one, adds."""
         if not self.is_open:
             raise ValueError("a piece comes behind the end of its text")
-        rows, capacity, left = b"", _FIRST_CAPACITY, piece
+        found, capacity, left = b"", _FIRST_CAPACITY, piece
         while True:
             buffer = ctypes.create_string_buffer(capacity)
-            answer = _checked(_library.termimad_stream_take(ctypes.byref(self._kept), left, len(left), int(is_last), buffer, capacity), {"a piece": piece}, {})
-            rows += buffer.raw[: min(answer.count, capacity)]
+            answer = _checked(self._called("take", left, len(left), int(is_last), buffer, capacity), {"a piece": piece}, {})
+            found += buffer.raw[: min(answer.count, capacity)]
             if answer.status == _DONE:
-                return rows.decode()
+                return found.decode()
             left, capacity = b"", answer.count - capacity
 
     def close(self) -> None:
-        """Gives its memory back. There are no more rows."""
+        """Gives its memory back. Nothing more comes."""
         if self.is_open:
             self.is_open = False
-            _library.termimad_stream_end(ctypes.byref(self._kept))
+            self._called("end")
 
     def __del__(self) -> None:
         self.close()
+
+    def _called(self, name: str, *given: object) -> Any:
+        return getattr(_library, f"termimad_{self._kind}_{name}")(ctypes.byref(self._kept), *given)
+
+
+class Stream(_Kept):
+    """A text whose rows come as they are complete."""
+
+    _kind = "stream"
+
+    def __init__(self, width: SupportsIndex, skin: Skin) -> None:
+        super().__init__(skin, {"width": width})
+
+
+class Growth(_Kept):
+    """A text that grows on a terminal."""
+
+    _kind = "live"
+
+    def __init__(self, width: SupportsIndex, height: SupportsIndex, skin: Skin) -> None:
+        super().__init__(skin, {"width": width, "height": height})
+
+    def resize(self, width: SupportsIndex, height: SupportsIndex) -> str:
+        """What begins a new row, below which it goes on."""
+        sizes, buffer = _sizes({"width": width, "height": height}), ctypes.create_string_buffer(_FIRST_CAPACITY)
+        answer = _checked(self._called("resize", *sizes.values(), buffer, _FIRST_CAPACITY), {}, sizes)
+        return buffer.raw[: answer.count].decode()
 
 
 def lines_of(name: str, source: bytes) -> List[List[str]]:

@@ -7,9 +7,9 @@ import select
 import shutil
 import sys
 import time
-from typing import Any, Dict, Iterable, Iterator, List, NamedTuple, Optional, TextIO, Union
+from typing import Any, Dict, Iterable, Iterator, List, NamedTuple, Optional, TextIO, Tuple, Union
 
-from ._calls import Skin, Stream, Words, lines_of, raw, result, skin_word
+from ._calls import Growth, Skin, Stream, Words, lines_of, raw, result, skin_word
 
 _WIDEST = 65535
 _SECONDS_TO_ANSWER = 1.0
@@ -192,7 +192,7 @@ class Markdown(_Shown):
 
     @property
     def links(self) -> List[Link]:
-        """Its links, in the order in which they end: no images. An address has no escapes and entities, and no character that a terminal obeys.
+        """Its links, in the order of the text: no images. An address has no escapes and entities, and no character that a terminal obeys.
 
         >>> [link.address for link in Markdown("[a](b.md), <https://c.org> and ![an image](d.png)").links]
         ['b.md', 'https://c.org']
@@ -262,16 +262,37 @@ def code(text: Words, language: str = "") -> Code:
     return Code(text, language)
 
 
-class Live:
-    """What `live` answers: a text of Markdown whose rows are printed as they are complete."""
+def _screen_of(out: TextIO) -> Optional[os.terminal_size]:
+    """The size of the terminal that is written on, if it is one that moves its cursor."""
+    if os.environ.get("TERM") == "dumb" or not out.isatty():
+        return None
+    try:
+        size = os.get_terminal_size(out.fileno())
+    except OSError:
+        return None
+    return size if size.columns > 1 and size.lines > 0 else None
 
-    def __init__(self, width: Optional[int], skin: Skin, file: Optional[TextIO]) -> None:
+
+class Live:
+    """What `live` answers: a text of Markdown that is shown as it comes."""
+
+    def __init__(self, width: Optional[int], skin: Skin, file: Optional[TextIO], height: Optional[int]) -> None:
         self._out = sys.stdout if file is None else file
-        self._stream = Stream(columns_of(width), skin_for(skin, self._out.isatty()))
+        self._width = width
+        self._screen = _screen_of(self._out) if height is None else None
+        dress = skin_for(skin, self._out.isatty())
+        self._growth: Optional[Growth] = None
+        if height is not None:
+            self._growth = Growth(max(terminal_width() - 1, 1) if width is None else width, height, dress)
+        elif self._screen is not None:
+            self._growth = Growth(*self._room(self._screen), dress)
+        self._text = self._growth or Stream(columns_of(width), dress)
 
     def write(self, piece: Union[str, bytes]) -> None:
-        """Takes the next piece, cut anywhere, and prints the rows that are complete with it."""
-        self._print(raw(piece, "a piece"), False)
+        """Takes the next piece, cut anywhere, and shows what came with it."""
+        taken = raw(piece, "a piece")
+        self._follow()
+        self._print(self._text.take(taken))
 
     def __enter__(self) -> "Live":
         return self
@@ -280,17 +301,33 @@ class Live:
         """At the end of the text the rest of its rows is printed. After an exception it isn't."""
         try:
             if kind is None:
-                self._print(b"", True)
+                self._follow()
+                self._print(self._text.take(b"", True))
+            elif self._growth is not None:
+                self._print("\x1b[0m\n")
         finally:
-            self._stream.close()
+            self._text.close()
 
-    def _print(self, piece: bytes, is_last: bool) -> None:
-        rows = self._stream.take(piece, is_last)
-        if rows:
-            print(rows, end="", file=self._out, flush=True)
+    def _room(self, screen: os.terminal_size) -> Tuple[int, int]:
+        """The columns and rows of the text on a terminal, whose last column stays free."""
+        columns = screen.columns - 1
+        return columns if self._width is None else min(self._width, columns), screen.lines
+
+    def _follow(self) -> None:
+        """Goes on below what is shown, where the terminal has another size now."""
+        if self._growth is None or self._screen is None:
+            return
+        now = _screen_of(self._out)
+        if now is not None and now != self._screen:
+            self._screen = now
+            self._print(self._growth.resize(*self._room(now)))
+
+    def _print(self, shown: str) -> None:
+        if shown:
+            print(shown, end="", file=self._out, flush=True)
 
 
-def live(width: Optional[int] = None, skin: Skin = "auto", file: Optional[TextIO] = None) -> Live:
+def live(width: Optional[int] = None, skin: Skin = "auto", file: Optional[TextIO] = None, height: Optional[int] = None) -> Live:
     """Prints Markdown as people write it that comes in pieces: the rows of each paragraph, heading, table or block of code as soon as it ends.
 
     >>> with live(width=20) as out:
@@ -302,9 +339,13 @@ def live(width: Optional[int] = None, skin: Skin = "auto", file: Optional[TextIO
     • one
     • two
 
+    On a terminal what still grows is shown too, and redrawn in place, in one column less than it has at most. Nothing else may be printed there
+    within the block. Where its size changes, the text goes on below. With a `height` it is so on any `file`, for a terminal of so many rows and of
+    more columns than `width`.
+
     A link is told by a definition that came before it or with it. For the rest the rows are those that `Markdown(..).show()` prints of the whole.
     """
-    return Live(width, skin, file)
+    return Live(width, skin, file, height)
 
 
 def pieces(source: Iterable[Union[str, bytes]], width: Optional[int] = None, skin: Skin = "none") -> Iterator[str]:

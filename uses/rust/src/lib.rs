@@ -22,7 +22,7 @@ struct Progress {
     status: u32,
 }
 
-// A text in pieces, which the library keeps.
+// A text in pieces or a live one, which the library keeps.
 #[repr(C)]
 struct Kept {
     text: *mut c_void,
@@ -111,6 +111,29 @@ extern "C" {
         capacity: usize,
     ) -> Answer;
     fn termimad_stream_end(stream: *mut Kept);
+    fn termimad_live_begin(
+        live: *mut Kept,
+        skin: *const u8,
+        skin_length: usize,
+        width: usize,
+        height: usize,
+    ) -> Answer;
+    fn termimad_live_take(
+        live: *mut Kept,
+        text: *const u8,
+        text_length: usize,
+        last: usize,
+        buffer: *mut u8,
+        capacity: usize,
+    ) -> Answer;
+    fn termimad_live_resize(
+        live: *mut Kept,
+        width: usize,
+        height: usize,
+        buffer: *mut u8,
+        capacity: usize,
+    ) -> Answer;
+    fn termimad_live_end(live: *mut Kept);
     fn termimad_inline(
         text: *const u8,
         text_length: usize,
@@ -451,31 +474,39 @@ impl MarkdownStream {
     }
 
     fn taken(&mut self, piece: &[u8], is_last: bool) -> io::Result<String> {
-        let (mut piece, mut rows, mut buffer) = (piece, Vec::new(), vec![0; 4096]);
-        loop {
-            let answer = unsafe {
-                termimad_stream_take(
-                    &mut self.kept,
-                    piece.as_ptr(),
-                    piece.len(),
-                    is_last.into(),
-                    buffer.as_mut_ptr(),
-                    buffer.len(),
-                )
-            };
-            match answer.status {
-                DONE => {
-                    rows.extend_from_slice(&buffer[..answer.count]);
-                    return Ok(String::from_utf8(rows).expect("rows are UTF-8"));
-                }
-                SHORT => {
-                    rows.extend_from_slice(&buffer);
-                    buffer.resize(answer.count - buffer.len(), 0);
-                    piece = b"";
-                }
-                3 => return Err(io::ErrorKind::InvalidData.into()),
-                status => return Err(io::Error::other(refusal(status))),
+        drained(piece, |piece, buffer| unsafe {
+            termimad_stream_take(
+                &mut self.kept,
+                piece.as_ptr(),
+                piece.len(),
+                is_last.into(),
+                buffer.as_mut_ptr(),
+                buffer.len(),
+            )
+        })
+    }
+}
+
+// All that waits after a piece, by further calls with an empty one where the buffer is too small.
+fn drained(
+    piece: &[u8],
+    mut call: impl FnMut(&[u8], &mut [u8]) -> Answer,
+) -> io::Result<String> {
+    let (mut piece, mut found, mut buffer) = (piece, Vec::new(), vec![0; 4096]);
+    loop {
+        let answer = call(piece, &mut buffer);
+        match answer.status {
+            DONE => {
+                found.extend_from_slice(&buffer[..answer.count]);
+                return Ok(String::from_utf8(found).expect("rows are UTF-8"));
             }
+            SHORT => {
+                found.extend_from_slice(&buffer);
+                buffer.resize(answer.count - buffer.len(), 0);
+                piece = b"";
+            }
+            3 => return Err(io::ErrorKind::InvalidData.into()),
+            status => return Err(io::Error::other(refusal(status))),
         }
     }
 }
@@ -483,6 +514,82 @@ impl MarkdownStream {
 impl Drop for MarkdownStream {
     fn drop(&mut self) {
         unsafe { termimad_stream_end(&mut self.kept) }
+    }
+}
+
+/// Markdown as people write it that comes in pieces and grows on a terminal that scrolls: what has come so far is shown, and what still changes is
+/// redrawn in place.
+///
+/// All that is answered is written on the terminal, in its order, and until the end nothing else is. In the beginning the cursor stands in a blank row,
+/// below which all is blank. At the end the terminal has the rows of [`MarkdownStream`].
+///
+/// ```
+/// let mut live = termimad_proved::LiveMarkdown::new(79, 24, "none").unwrap();
+/// print!("{}", live.take(b"one *tw").unwrap());
+/// print!("{}", live.take(b"o*\n\nthree").unwrap());
+/// print!("{}", live.finish().unwrap());
+/// ```
+pub struct LiveMarkdown {
+    kept: Kept,
+}
+
+impl LiveMarkdown {
+    /// A text of which nothing has come, to be laid out at a width, in columns, on a screen of so many rows. The width is at most the terminal's
+    /// columns less one.
+    pub fn new(width: usize, height: usize, skin: &str) -> Result<LiveMarkdown, Refused> {
+        let mut kept = Kept {
+            text: ptr::null_mut(),
+        };
+        let answer =
+            unsafe { termimad_live_begin(&mut kept, skin.as_ptr(), skin.len(), width, height) };
+        match answer.status {
+            DONE => Ok(LiveMarkdown { kept }),
+            status => Err(refusal(status)),
+        }
+    }
+
+    /// Takes the next piece, cut anywhere, also inside a character, and answers what shows the text as far as it has come.
+    ///
+    /// Bytes that aren't UTF-8 are an error of the kind `InvalidData`. Then nothing of the piece was taken.
+    pub fn take(&mut self, piece: &[u8]) -> io::Result<String> {
+        self.taken(piece, false)
+    }
+
+    /// Goes on below whatever stands on the terminal, where its size has changed. The next piece, also an empty one, shows there what grows.
+    pub fn resize(&mut self, width: usize, height: usize) -> Result<String, Refused> {
+        filled(|buffer| unsafe {
+            termimad_live_resize(
+                &mut self.kept,
+                width,
+                height,
+                buffer.as_mut_ptr(),
+                buffer.len(),
+            )
+        })
+    }
+
+    /// The text is at its end: what shows all of it.
+    pub fn finish(mut self) -> io::Result<String> {
+        self.taken(b"", true)
+    }
+
+    fn taken(&mut self, piece: &[u8], is_last: bool) -> io::Result<String> {
+        drained(piece, |piece, buffer| unsafe {
+            termimad_live_take(
+                &mut self.kept,
+                piece.as_ptr(),
+                piece.len(),
+                is_last.into(),
+                buffer.as_mut_ptr(),
+                buffer.len(),
+            )
+        })
+    }
+}
+
+impl Drop for LiveMarkdown {
+    fn drop(&mut self) {
+        unsafe { termimad_live_end(&mut self.kept) }
     }
 }
 
@@ -664,7 +771,7 @@ pub struct Heading {
     pub section: usize,
 }
 
-/// The links of a text of Markdown as people write it, in the order in which they end. Images aren't among them, nor is html.
+/// The links of a text of Markdown as people write it, in the order of the text. Images aren't among them.
 ///
 /// ```
 /// let links = termimad_proved::links("see [the disks](disks.md)").unwrap();
@@ -727,7 +834,7 @@ fn heading_of(line: &str) -> Heading {
 }
 
 // What the call makes, by a second call where the first buffer is too small.
-fn filled(call: impl Fn(&mut [u8]) -> Answer) -> Result<String, Refused> {
+fn filled(mut call: impl FnMut(&mut [u8]) -> Answer) -> Result<String, Refused> {
     let mut buffer = vec![0; 4096];
     loop {
         let answer = call(&mut buffer);

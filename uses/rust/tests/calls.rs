@@ -2,7 +2,7 @@
 
 use termimad_proved::{
     code, fit, headings, links, markdown, markdown_as_read, printable, rows, rows_as_read, table, text,
-    Align, MarkdownStream, Page, Refused,
+    Align, LiveMarkdown, MarkdownStream, Page, Refused,
 };
 
 #[test]
@@ -70,6 +70,27 @@ fn markdown_in_pieces_is_refused() {
     let mut refused = markdown_as_read("a".as_bytes(), 20, "nothing");
     assert!(refused.next().is_some_and(|made| made.is_err()));
     assert!(refused.next().is_none());
+}
+
+#[test]
+fn live_markdown_is_redrawn() {
+    let mut live = LiveMarkdown::new(20, 24, "none").unwrap();
+    assert_eq!(live.take(b"one tw").unwrap(), "\u{1b}[?7lone tw\u{1b}[?7h");
+    assert_eq!(live.take(b"").unwrap(), "");
+    assert_eq!(live.resize(9, 24).unwrap(), "\u{1b}[0m\n");
+    let rest = live.take(b"o three\n\n").unwrap();
+    assert_eq!(rest, "\u{1b}[?7lone two\nthree\n\u{1b}[?7h");
+    assert_eq!(live.finish().unwrap(), "");
+}
+
+#[test]
+fn live_markdown_is_refused() {
+    assert_eq!(LiveMarkdown::new(20, 65536, "").err(), Some(Refused::Number));
+    assert_eq!(LiveMarkdown::new(20, 24, "nothing").err(), Some(Refused::Skin));
+    let mut live = LiveMarkdown::new(20, 24, "none").unwrap();
+    assert!(live.take(b"a\xff").is_err());
+    assert_eq!(live.resize(65536, 24), Err(Refused::Number));
+    assert_eq!(live.take(b"b\n\n").unwrap(), "\u{1b}[?7lb\n\u{1b}[?7h");
 }
 
 #[test]

@@ -1,8 +1,14 @@
-use Rattle.std.proofs.Common.{◌∙◌}
-use Rattle.mad_hits.proofs.PartLemmas.{parts_put}
+use Rattle.std.proofs.Common.{ℕ, ap, ◌++◌, map, ◌∙◌}
+use Rattle.mad_hits.specs.Hits.{marked_of}
+use Rattle.mad_hits.specs.Parts.{marked_bytes, part_of}
+use Rattle.mad_hits.proofs.LineLemmas.{put_more}
 use Rattle.mad_hits.proofs.parts.push_parts.Goals as goal
 
-pub returns : goal.returns
-returns c = λ n at.
-    parts_put n c.args.count c.args.end _ c.as_slice.result.now c.as_slice-2.result.now c.args.above.now c.args.below.now _ _ _ (c.as_slice.ensures.value ∙ c.in_ok-text.ensures) (c.as_slice-2.ensures.value ∙ c.in_ok-text.ensures)
-    (c.in_ok-push_below.ensures n at) (c.in_ok-push_above.ensures n at)
+pub loop-hit-preserved : goal.loop-hit-preserved
+loop-hit-preserved c = λ n at.
+    let text = c.args.text.now in
+    let bytes = c.args.bytes.now in
+    let own = c.args.own in
+    put_more (λ (hit : ℕ × ℕ). marked_bytes n text bytes (part_of own hit)) c.args.found.now c.loop-hit.hit-index (0, 0) _ _ _ c.loop-hit-test.true (c.loop-hit.invariant n at)
+    (c.in_ok-push_part.ensures n at
+    ∙ ap (λ (part : ℕ × ℕ). map marked_of c.loop-hit.hits.items ++ marked_bytes n text bytes part) c.part_of.ensures)

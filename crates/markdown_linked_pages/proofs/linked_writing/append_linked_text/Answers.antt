@@ -4,7 +4,6 @@ use Rattle.mad_dressing.specs.Dressed.{dressed, dressed_page}
 use Rattle.mad_dressing.specs.declared.page_marks.PageMarks.{PageMarks}
 use Rattle.mad_page_rows.specs.Faces.{has_ascii_boxes}
 use Rattle.mad_page_skin.specs.PageSkins.{page_marks, page_row_skin}
-use Rattle.mad_pages.specs.PageLayouts.{IsPageAt}
 use Rattle.mad_pages.specs.PageRows.{RowContent}
 use Rattle.mad_rows.specs.RowStyles.{line_rules}
 use Rattle.mad_rows.specs.declared.row_skin.RowSkin.{RowSkin}
@@ -14,7 +13,7 @@ use Rattle.markdown_reader.specs.Mapping.{LinkSaid}
 use Rattle.markdown_reader.specs.SectionsSaid.{link_said}
 use Rattle.markdown_reader.specs.SectionsLeft.{sections_left}
 use Rattle.markdown_reader.specs.NumbersIn.{link_marks_said}
-use Rattle.markdown_linked_pages.specs.LinkedPages.{linked_from, links_before, linked_row_bytes, linked_rows_bytes, numbered, with_link_marks}
+use Rattle.markdown_linked_pages.specs.LinkedPages.{IsLinkedPageAt, linked_from, links_before, linked_row_bytes, linked_rows_bytes, numbered, with_link_marks}
 use Rattle.markdown_linked_pages.proofs.LinkMarkLemmas.{ArePassed, linked_step, none_passed, passed_here, passed_on}
 use Rattle.markdown_linked_pages.proofs.WrittenLemmas.{WrittenSoFar, dressed_on, first_left, none_left, shorter_left, written_none, written_whole}
 use Rattle.markdown_linked_pages.proofs.linked_writing.append_linked_text.Goals as goal
@@ -56,9 +55,9 @@ sections-preserved c =
     let here = passed_here links n c.sections.passed c.links_before-passed.result passed counted in
     let joins = linked_step links marks n c.links_before-passed.result c.in_ok-found.found.items made left after s shown (first_left left after s got c.in_ok-section.ensures.rest) c.in_ok-found.ensures.marks made_is here refl in
     let laid =
-    subst (λ (k : RowSkin). (own : List RowContent) × IsPageAt (line_rules k) (has_ascii_boxes k) c.args.width (dressed c.marks.result shown) own × (now ≡ before ++ linked_rows_bytes c.args.addresses.now k c.args.width own)) c.row_skin-row_skin.ensures c.in_ok-append_marked_section.ensures in
+    subst (λ (k : RowSkin). (own : List RowContent) × IsLinkedPageAt (line_rules k) (has_ascii_boxes k) c.args.width (dressed c.marks.result shown) own × (now ≡ before ++ linked_rows_bytes c.args.addresses.now k c.args.width own)) c.row_skin-row_skin.ensures c.in_ok-append_marked_section.ensures in
     let done =
-    subst (λ (m : PageMarks). (own : List RowContent) × IsPageAt (line_rules skin) (has_ascii_boxes skin) c.args.width (dressed m shown) own × (now ≡ before ++ linked_rows_bytes c.args.addresses.now skin c.args.width own)) c.marks.ensures laid in
+    subst (λ (m : PageMarks). (own : List RowContent) × IsLinkedPageAt (line_rules skin) (has_ascii_boxes skin) c.args.width (dressed m shown) own × (now ≡ before ++ linked_rows_bytes c.args.addresses.now skin c.args.width own)) c.marks.ensures laid in
     record {
       passed = subst (λ (k : ℕ). ArePassed links k c.links_before-passed.result) (sym c.in_ok-number.ensures) (passed_on links n c.sections.passed c.links_before-passed.result passed counted);
       so_far = subst (λ (k : ℕ). WrittenSoFar f skin c.args.width (dressed_page headings all) (dressed_page headings (linked_from links marks k after)) (string_bytes c.args.rows.now) now) (sym c.in_ok-number.ensures)

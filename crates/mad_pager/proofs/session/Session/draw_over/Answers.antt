@@ -1,25 +1,38 @@
-use Rattle.std.proofs.Common.{OnOk, subst, sym}
-use Rattle.mad_term.specs.Trace.{TookWith}
+use Rattle.std.proofs.Common.{◌≡◌, ◌==◌, ◌&&◌, not, true, false, List, ℕ, ap, length, refl, subst, sym, ◌∙◌}
+use Rattle.mad_hits.proofs.TookLemmas.{took_so}
+use Rattle.mad_patterns.specs.Readings.{reading_of, IsReadingOf}
 use Rattle.mad_outline.specs.Sources.{content_of}
-use Rattle.mad_outline.specs.declared.sources.Source.{Source}
-use Rattle.mad_pager.specs.Screens.{AreDrawnOver, own_rows}
+use Rattle.mad_pager.specs.Screens.{AreDrawnOver, AreHitsDrawn, marks_typed, own_rows}
 use Rattle.mad_pager.specs.Sessions.{state_of}
 use Rattle.mad_pager.proofs.session.Session.draw_over.Goals as goal
 
-pub returns-in-Text : goal.returns-in-Text
-returns-in-Text g c =
-    let self = c.args.self.now in
-    subst (λ (o : Source). OnOk c.draw_over_text.result (TookWith (g.O.Out.seen c.args.out.now) (g.O.Out.seen c.draw_over_text.new.out) (AreDrawnOver self.skin.now (own_rows self.skin.now (content_of o) (state_of self)) (state_of self))))
-    (sym c.in-Text.is) c.draw_over_text.ensures
+pub returns-then-marks_typed : goal.returns-then-marks_typed
+returns-then-marks_typed g c =
+    let s = state_of c.args.self.now in
+    let skin = c.args.self.now.skin.now in
+    let rows = own_rows skin (content_of c.args.self.now.source) s in
+    let is : marks_typed s ≡ true = ap (λ (t : List ℕ). s.is_typing && not (length t == 0)) (sym (c.as_str.ensures.value ∙ c.in_ok-typed.ensures)) ∙ (sym c.marks_typed-marks_typed.ensures ∙ c.if-marks_typed.true) in
+    took_so (g.O.Out.seen c.args.out.now) (g.O.Out.seen c.draw_read.new.out) (AreDrawnOver skin rows s (reading_of c.in_ok-reading.reading).pattern) (AreHitsDrawn skin rows s)
+    (λ text marks. record {
+      reading = reading_of c.in_ok-reading.reading;
+      is = record {
+        typed = λ e. subst (λ (t : List ℕ). IsReadingOf t (reading_of c.in_ok-reading.reading)) (c.as_str-then-marks_typed.ensures.value ∙ c.in_ok-typed.ensures) c.in_ok-reading.ensures;
+        sought = λ e. let never : true ≡ false = sym is ∙ e in absurd (cc);
+      };
+      marks = marks;
+    })
+    c.in_ok-draw_read.ensures
 
-pub returns-in-Links : goal.returns-in-Links
-returns-in-Links g c =
-    let self = c.args.self.now in
-    subst (λ (o : Source). OnOk c.draw_hits.result (TookWith (g.O.Out.seen c.args.out.now) (g.O.Out.seen c.draw_hits.new.out) (AreDrawnOver self.skin.now (own_rows self.skin.now (content_of o) (state_of self)) (state_of self))))
-    (sym c.in-Links.is) c.draw_hits.ensures
-
-pub returns-in-Contents : goal.returns-in-Contents
-returns-in-Contents g c =
-    let self = c.args.self.now in
-    subst (λ (o : Source). OnOk c.draw_hits-in-Contents.result (TookWith (g.O.Out.seen c.args.out.now) (g.O.Out.seen c.draw_hits-in-Contents.new.out) (AreDrawnOver self.skin.now (own_rows self.skin.now (content_of o) (state_of self)) (state_of self))))
-    (sym c.in-Contents.is) c.draw_hits-in-Contents.ensures
+pub returns : goal.returns
+returns g c =
+    let s = state_of c.args.self.now in
+    let skin = c.args.self.now.skin.now in
+    let rows = own_rows skin (content_of c.args.self.now.source) s in
+    let is : marks_typed s ≡ false = ap (λ (t : List ℕ). s.is_typing && not (length t == 0)) (sym (c.as_str.ensures.value ∙ c.in_ok-typed.ensures)) ∙ (sym c.marks_typed-marks_typed.ensures ∙ c.if-marks_typed.false) in
+    took_so (g.O.Out.seen c.args.out.now) (g.O.Out.seen c.draw_read-2.new.out) (AreDrawnOver skin rows s s.reading.pattern) (AreHitsDrawn skin rows s)
+    (λ text marks. record {
+      reading = s.reading;
+      is = record { typed = λ e. let never : false ≡ true = sym is ∙ e in absurd (cc); sought = λ e. refl };
+      marks = marks;
+    })
+    c.in_ok-draw_read-2.ensures

@@ -11,6 +11,7 @@ returns-clause-start c = record {
   is_typing = refl;
   types_back = refl;
   sought = search rules;
+  reading = refl;
   is_backward = refl;
   past = search rules;
   back = refl;

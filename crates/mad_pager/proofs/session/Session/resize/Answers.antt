@@ -17,6 +17,7 @@ returns-clause-step c =
       is_typing = refl;
       types_back = refl;
       sought = refl;
+      reading = refl;
       is_backward = refl;
       past = refl;
       back = refl;

@@ -1,0 +1,12 @@
+pub mod EntityLemmas
+pub mod TextLemmas
+pub mod HtmlLemmas
+pub mod LineLemmas
+pub mod NumberLemmas
+pub mod ReadingLemmas
+pub mod SectionLemmas
+pub mod DressLemmas
+pub mod PieceLemmas
+pub mod BeginLemmas
+pub mod RowLemmas
+pub mod FitLemmas
