@@ -1,7 +1,8 @@
 -- The rows of each text fit a terminal in which the skin and the width have room.
-use Rattle.std.proofs.Common.{ℕ, List, [], ◌∷◌, take, Some, refl, sym, subst}
-use Rattle.std.specs.List.{AllByRecursion, flat_map}
-use Rattle.mad_dressing.specs.Dressed.{dressed_page}
+use Rattle.std.proofs.Common.{◌≡◌, ℕ, ◌^◌, ◌-◌, ◌<◌, ◌≤◌, List, [], ◌∷◌, ◌++◌, take, Option, Some, refl, sym, ap, subst, ◌∙◌}
+use Rattle.std.specs.List.{AllByRecursion}
+use Rattle.std.specs.Str.{IsUtf8}
+use Rattle.mad_dressing.specs.Dressed.{dressed, dressed_page}
 use Rattle.mad_dressing.specs.declared.page_marks.PageMarks.{PageMarks}
 use Rattle.mad_live.specs.LiveRows.{AreRows, AreWhole}
 use Rattle.mad_measure.proofs.AllLemmas.{all_joined}
@@ -14,18 +15,20 @@ use Rattle.mad_sections.specs.Sections.{SectionContent}
 use Rattle.mad_stream.specs.LiveTexts.{joined_pieces}
 use Rattle.markdown_blocks.specs.Lines.{text_lines}
 use Rattle.markdown_definitions.specs.Definitions.{part_defined}
+use Rattle.markdown_lines.specs.Links.{Defined}
 use Rattle.markdown_leaves.specs.Parts.{PartContent}
 use Rattle.markdown_leaves.specs.Told.{parts_of}
 use Rattle.markdown_lines.specs.Texts.{behind_mark}
 use Rattle.markdown_live.specs.LiveMarkdowns.{ArePageRows, Fit, FitsSoFar}
 use Rattle.markdown_live.specs.ShownLines.{shown_line}
 use Rattle.markdown_live.proofs.PageRowLemmas.{rows_whole}
-use Rattle.markdown_reader.specs.Mapping.{Mapping, leaves_in}
+use Rattle.markdown_reader.specs.Mapping.{Mapping, leaves_in, nothing_shown, shown_parts}
 use Rattle.markdown_reader.specs.Steady.{steady_section, steady_sections}
 use Rattle.markdown_stream.specs.Come.{lines_streamed}
 use Rattle.markdown_stream.specs.OpenSections.{after_lines, open_sections}
-use Rattle.markdown_stream.specs.Readings.{handed_on, lines_read, nothing_read, parts_at_end, parts_read}
-use Rattle.markdown_stream.specs.Streamed.{Streamed, nothing_streamed, part_streamed, parts_streamed, streamed_sections}
+use Rattle.markdown_stream.specs.Readings.{Reading, handed_on, lines_read, nothing_read, parts_at_end, parts_read}
+use Rattle.markdown_stream.specs.Provisional.{part_provided}
+use Rattle.markdown_stream.specs.Streamed.{Streamed, nothing_streamed, part_streamed, parts_provided, parts_streamed, streamed_sections}
 use Rattle.markdown_stream.specs.Streaming.{Streaming, taken}
 use Rattle.markdown_stream.specs.Streams.{streamed_page}
 use Rattle.markdown_stream.proofs.ReadingLemmas.{parts_come_in_turn}
@@ -35,7 +38,7 @@ use Rattle.markdown_live_laws.proofs.DressLemmas.{dressed_typed}
 use Rattle.markdown_live_laws.proofs.NumberLemmas.{AreSmallParts}
 use Rattle.markdown_live_laws.proofs.ReadingLemmas.{IsSmallReading, end_small, handed_small, lines_small, nothing_small}
 use Rattle.markdown_live_laws.proofs.RowLemmas.{rows_fit}
-use Rattle.markdown_live_laws.proofs.SectionLemmas.{AreSoundSections, IsSound, all_leaves_small, leaves_small, nothing_is, parts_are, plain_are, printed_are, sections_are}
+use Rattle.markdown_live_laws.proofs.SectionLemmas.{AreSoundSections, IsSound, leaves_small, nothing_is, parts_are, plain_are, printed_are, sections_are}
 
 -- ---- sections that are sound fit
 
@@ -61,7 +64,14 @@ sections_fit keep columns width skin (section ∷ sections) shown room sound =
 streamed_are : PiecesArePlaced → (parts : List PartContent) (s : Streamed) → AreSmallParts parts → IsSound s.mapping → IsSound (parts_streamed parts s).mapping
 unfolding parts_streamed
 streamed_are placed [] s k h = h
-streamed_are placed (part ∷ parts) s k h = streamed_are placed parts (part_streamed part s) k.1 (parts_are placed (part_defined s.defined part) (leaves_in part) s.mapping (leaves_small part k.0) h)
+streamed_are placed (part ∷ parts) s k h = streamed_are placed parts (part_streamed part s) k.1 (parts_are placed (part_provided (part_defined s.defined part) part) (leaves_in part) s.mapping (leaves_small part k.0) h)
+
+provided_are : PiecesArePlaced → (defined : Defined) (parts : List PartContent) (m : Mapping) → AreSmallParts parts → IsSound m → IsSound (parts_provided defined parts m)
+unfolding parts_provided
+provided_are placed defined [] m k h = h
+provided_are placed defined (part ∷ parts) m k h =
+    let own : Defined = part_provided defined part in
+    provided_are placed defined parts (shown_parts own (leaves_in part) m) k.1 (parts_are placed own (leaves_in part) m (leaves_small part k.0) h)
 
 read_small : (lines : List (List ℕ)) → IsSmallReading (lines_read nothing_read lines)
 read_small lines = lines_small nothing_read lines nothing_small
@@ -77,7 +87,7 @@ open_are placed end lines =
     let s : Streaming = after_lines lines in
     let rest : IsSmallReading (lines_read s.reading (text_lines end)) = lines_small s.reading (text_lines end) (handed_small (lines_read nothing_read lines) (read_small lines)) in
     let parts : List PartContent = parts_at_end (lines_read s.reading (text_lines end)) in
-    (parts_are placed s.streamed.defined (flat_map leaves_in parts) (taken s.streamed.mapping) (all_leaves_small parts (end_small (lines_read s.reading (text_lines end)) rest)) (taken_is s.streamed.mapping (complete_are placed lines))).sections
+    (provided_are placed s.streamed.defined parts (taken s.streamed.mapping) (end_small (lines_read s.reading (text_lines end)) rest) (taken_is s.streamed.mapping (complete_are placed lines))).sections
 
 parts_small : (text : List ℕ) → AreSmallParts (parts_of text)
 unfolding lines_read

@@ -3,7 +3,7 @@ use Rattle.std.proofs.Common.{◌≡◌, ℕ, zero, suc, ◌+◌, ◌-◌, ◌<�
 use Rattle.std.specs.Prelude.{chars, codes, min, IfSome}
 use Rattle.std.specs.Char.{IsScalar}
 use Rattle.std.specs.Int.{is_in_range}
-use Rattle.std.specs.List.{AllByRecursion, flat_map, list_all}
+use Rattle.std.specs.List.{AllByRecursion, list_all}
 use Rattle.std.specs.Str.{IsUtf8, NonePass}
 use Rattle.std.proofs.Math.Utf8.{scalar, scalars}
 use Rattle.std.proofs.lemmas.Bool.{and_parts, and_from}
@@ -303,11 +303,6 @@ pub leaves_small : (part : PartContent) → IsSmallPart part → AreSmallParts (
 leaves_small (begins container apart) h = (h, tt)
 leaves_small ends h = (tt, tt)
 leaves_small (block leaf) h = block_leaves_small leaf.kind leaf
-
--- so do those of parts
-pub all_leaves_small : (parts : List PartContent) → AreSmallParts parts → AreSmallParts (flat_map leaves_in parts)
-all_leaves_small [] h = tt
-all_leaves_small (part ∷ parts) h = all_joined IsSmallPart (leaves_in part) (flat_map leaves_in parts) (leaves_small part h.0) (all_leaves_small parts h.1)
 
 -- ---- steady sections
 

@@ -1,4 +1,5 @@
 pub mod Readings
+pub mod Provisional
 pub mod Streamed
 pub mod Streaming
 pub mod Known
