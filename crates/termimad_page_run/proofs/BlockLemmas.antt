@@ -1,5 +1,5 @@
 -- Bytes that are read one after the other, and what is heard of them.
-use Rattle.std.proofs.Common.{◌≡◌, ℕ, ◌+◌, ◌<◌, ◌≤◌, ◌==◌, ◌||◌, Bool, true, false, List, [], ◌∷◌, ◌++◌, take, drop, length, get_or, Option, Some, None, option_map, refl, ap, sym, ◌∙◌, subst, append_assoc, if◌then◌else◌}
+use Rattle.std.proofs.Common.{◌≡◌, ℕ, ◌+◌, ◌<◌, ◌≤◌, ◌==◌, ◌||◌, ◌&&◌, nat_lt, Bool, true, false, List, [], ◌∷◌, ◌++◌, take, drop, length, get_or, Option, Some, None, option_map, refl, ap, sym, ◌∙◌, subst, append_assoc, if◌then◌else◌}
 use Rattle.std.proofs.lemmas.List.{append-nil, take_more, take_all, take-append-drop}
 use Rattle.mad_term.specs.declared.events.Event.{Event}
 use Rattle.mad_term.specs.declared.events.Event.TheVariants.{Key}
@@ -13,8 +13,11 @@ use Rattle.mad_input.specs.declared.input.Mode.TheVariants.{Types, Pastes, Drops
 use Rattle.mad_input.specs.declared.input.TerminalInput.{TerminalInput}
 use Rattle.mad_page.specs.PageKeys.{after_key}
 use Rattle.mad_page.specs.declared.page.Page.{Page}
-use Rattle.mad_pager.proofs.PagerSteps.{key_answer, turn_after}
-use Rattle.mad_pager.specs.Pagers.{Leaf, View, has_choice, turn_answered, turn_at}
+use Rattle.mad_pager.proofs.PagerSteps.{turn_after}
+use Rattle.mad_pager.specs.Following.{chosen_link, has_numbers, is_numbered}
+use Rattle.mad_pager.specs.Pagers.{Leaf, View, answer_or, has_choice, key_over, number_answer, turn_answered, turn_at}
+use Rattle.mad_pager.specs.declared.over.Answer.{Answer}
+use Rattle.mad_pager.specs.declared.over.Answer.TheVariants.{Lists, Passes}
 use Rattle.mad_pager.specs.Sessions.{State, asks_size, end_of, turn_asked}
 use Rattle.mad_pager.specs.declared.session.End.{End}
 use Rattle.mad_pager.specs.declared.session.Turn.{Turn}
@@ -119,15 +122,33 @@ key_goes : (typing : Bool) (p : Page) → (if typing then Goes else turn_asked (
 key_goes true p = refl
 key_goes false p = colon_goes p.has_colon p
 
--- nor does it on a page over the text
-over_goes : (busy choice : Bool) (s : State) → turn_answered (key_answer escape_key busy choice) (Key escape_key) s ≡ Goes
-over_goes true choice s = key_goes s.is_typing s.page
-over_goes false true s = refl
-over_goes false false s = refl
+-- it says nothing of links
+abbrev no_answer : Bool → Bool → Bool → Option ℕ → Option Answer
+no_answer has some stands link = if has && (some && false) then Some (number_answer link) else if stands && false then Some Lists else None
+
+says_nothing : (has some stands : Bool) (link : Option ℕ) → no_answer has some stands link ≡ None
+says_nothing true true true link = refl
+says_nothing true true false link = refl
+says_nothing true false true link = refl
+says_nothing true false false link = refl
+says_nothing false some true link = refl
+says_nothing false some false link = refl
+
+closes_it : (choice : Bool) (over text : Leaf) → turn_answered (key_over escape_key choice) (Key escape_key) over text ≡ Goes
+closes_it true over text = refl
+closes_it false over text = refl
+
+-- nor does it end a session on a page over the text
+over_goes : (busy has some stands choice : Bool) (link : Option ℕ) (over text : Leaf)
+    → turn_answered (if busy then Passes else answer_or (no_answer has some stands link) (key_over escape_key choice)) (Key escape_key) over text ≡ Goes
+over_goes true has some stands choice link over text = key_goes over.state.is_typing over.state.page
+over_goes false has some stands choice link over text =
+    ap (λ (o : Option Answer). turn_answered (answer_or o (key_over escape_key choice)) (Key escape_key) over text) (says_nothing has some stands link) ∙ closes_it choice over text
 
 escape_goes : (over : Option Leaf) (text : Leaf) → turn_at over (Key escape_key) text ≡ Goes
 escape_goes None text = key_goes text.state.is_typing text.state.page
-escape_goes (Some over) text = over_goes (over.state.is_typing || over.state.page.has_colon) (has_choice over.content) over.state
+escape_goes (Some over) text =
+    over_goes (over.state.is_typing || over.state.page.has_colon) (has_numbers over.content) (nat_lt 0 over.state.page.count) (is_numbered over.content) (has_choice over.content) (chosen_link over.content over.state) over text
 
 -- what a lone ESC tells doesn't end a session
 lone_goes : (w : List ℕ) (v : View) → turn_told (option_map Typed (lone_escape w)) v ≡ Goes
