@@ -41,6 +41,14 @@ def rows_on_a_terminal(written):
     return rows[:-1]
 
 
+def said(device, count):
+    """What a terminal was told, at least `count` bytes: it may come in several parts."""
+    told = b""
+    while len(told) < count:
+        told += os.read(device, 4096)
+    return told
+
+
 def resize(terminal, rows, columns):
     fcntl.ioctl(terminal, termios.TIOCSWINSZ, struct.pack("HHHH", rows, columns, 0, 0))
 
@@ -251,10 +259,10 @@ class Texts(unittest.TestCase):
             resize(theirs, 24, 21)
             with termimad.live(skin="none", file=file) as out:
                 out.write("one tw")
-                self.assertEqual(os.read(ours, 4096), b"\x1b[?7lone tw\x1b[?7h")
+                self.assertEqual(said(ours, 16), b"\x1b[?7lone tw\x1b[?7h")
                 resize(theirs, 24, 9)
                 out.write("o three\n\n")
-                self.assertEqual(os.read(ours, 4096), b"\x1b[0m\r\n\x1b[?7lone two\r\nthree\r\n\x1b[?7h")
+                self.assertEqual(said(ours, 32), b"\x1b[0m\r\n\x1b[?7lone two\r\nthree\r\n\x1b[?7h")
         os.close(ours)
 
     def test_random_calls(self):
