@@ -69,6 +69,13 @@ typedef struct {
     uint32_t status; /* TERMIMAD_DONE to TERMIMAD_MEMORY */
 } termimad_progress;
 
+/* Where a link goes within a text. */
+typedef struct {
+    size_t section;  /* the number of the section; 0 where there is none, and where the call was refused */
+    uint32_t found;  /* 1 where there is one, else 0 */
+    uint32_t status; /* TERMIMAD_DONE, TERMIMAD_NOT_UTF8 or TERMIMAD_MEMORY */
+} termimad_place;
+
 /* A text of Markdown that comes in pieces, from termimad_stream_begin to termimad_stream_end. */
 typedef struct {
     void *text; /* where it is kept: no caller reads or changes it */
@@ -139,6 +146,21 @@ termimad_answer termimad_links(const char *text, size_t text_length, char *buffe
  *   termimad_headings("# Disks\n\n## Two *large* ones", 28, buffer, sizeof buffer);
  */
 termimad_answer termimad_headings(const char *text, size_t text_length, char *buffer, size_t capacity);
+
+/* Where `[..](#NAME)` goes in the text, read as termimad_markdown reads it: SECTION is the number of a section, as termimad_headings tells them. There is no
+ * buffer.
+ *
+ * It is the section of the first tag of html that has the name as its id, or is an a of that name. Tags in tables don't count. Without such a tag it is that
+ * of the first heading of the name, or else of the first that has it in small letters. Of a tag it may be the blank row before the one where it stands; and
+ * where that one shows nothing, the next, also behind the last.
+ *
+ * NAME is what comes behind the number sign. Percent signs in it are signs. It is UTF-8, else TERMIMAD_NOT_UTF8.
+ *
+ *   termimad_place place = termimad_find_section("# Disks", 7, "disks", 5);
+ *   if (place.found)
+ *       printf("section %zu\n", place.section);
+ */
+termimad_place termimad_find_section(const char *text, size_t text_length, const char *name, size_t name_length);
 
 /* The text as it comes: the rows of the parts at its front that are complete, laid out in WIDTH columns.
  *

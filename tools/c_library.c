@@ -62,7 +62,7 @@ static uint64_t next(uint64_t below)
 }
 
 static const char *const parts[] = {
-    "", "# head\n", "[a](b.md) ", "* item of *some* words\n", "|a|b|\n|:-|-:|\n|1|**2**|\n", "```\ncode\n```\n", "> quote\n", "---\n", "plain words ",
+    "", "# head\n", "# rust\n\n", "<a id=c>c</a> ", "[a](b.md) ", "* item of *some* words\n", "|a|b|\n|:-|-:|\n|1|**2**|\n", "```\ncode\n```\n", "> quote\n", "---\n", "plain words ",
     "\xff", "\xe6\x97", "\xe6\x97\xa5\xe6\x9c\xac", "\xf0\x9f\x98\x80", "\xed\xa0\x80", "\x1b[2J", "\t", "\r\n", "**bo", "`", "\xc2\x85", "\xe2\x80\xae",
 };
 
@@ -132,7 +132,7 @@ static sizes random_aligns(void)
 
 static call random_call(void)
 {
-    call it = { .kind = (unsigned)next(12), .text = random_text() };
+    call it = { .kind = (unsigned)next(13), .text = random_text() };
     it.lengths = random_lengths(it.text.length);
     it.aligns = random_aligns();
     const char *skin = skins[next(COUNT(skins))];
@@ -163,6 +163,23 @@ static termimad_answer parts_of(const call *c, char *buffer, size_t capacity)
     return (termimad_answer){ it.count, it.status };
 }
 
+/* The section of a name as the count of an answer: one more than its number, and 0 where there is none. The word of the language is the name. */
+static termimad_answer section_of(const call *c)
+{
+    termimad_place it = termimad_find_section(c->text.bytes, c->text.length, c->language.bytes, c->language.length);
+    if (it.found > 1 || (it.found == 0 && it.section != 0) || (it.found && it.status != TERMIMAD_DONE)) {
+        fprintf(stderr, "section %zu, found %u, status %u\n", it.section, (unsigned)it.found, (unsigned)it.status);
+        exit(1);
+    }
+    return (termimad_answer){ it.found ? it.section + 1 : 0, it.status };
+}
+
+/* Whether a call has a buffer. */
+static int has_buffer(const call *c)
+{
+    return c->kind != 3 && c->kind != 11;
+}
+
 static termimad_answer answer_of(const call *c, char *buffer, size_t capacity)
 {
     const char *text = c->text.bytes, *skin = c->skin.bytes;
@@ -182,6 +199,7 @@ static termimad_answer answer_of(const call *c, char *buffer, size_t capacity)
     case 8: return termimad_links(text, length, buffer, capacity);
     case 9: return termimad_headings(text, length, buffer, capacity);
     case 10: return termimad_code(text, length, c->language.bytes, c->language.length, skin, skin_length, n[0], buffer, capacity);
+    case 11: return section_of(c);
     default: return termimad_printable(text, length, buffer, capacity);
     }
 }
@@ -193,7 +211,7 @@ static const char *fault_of(const call *c, termimad_answer whole, const char *by
         return "a refused call has bytes";
     if (answer.count != whole.count)
         return "the count depends on the buffer";
-    if (whole.status != TERMIMAD_DONE || c->kind == 3) {
+    if (whole.status != TERMIMAD_DONE || !has_buffer(c)) {
         if (answer.status != whole.status)
             return "the refusal depends on the buffer";
         whole.count = 0;
@@ -233,7 +251,7 @@ static int try_call(unsigned number, char *room, unsigned *counted)
         return 0;
     }
     counted[whole.status]++;
-    size_t fits = c.kind == 3 || whole.count == 0 ? next(9) : whole.count;
+    size_t fits = !has_buffer(&c) || whole.count == 0 ? next(9) : whole.count;
     size_t capacities[] = { 0, next(fits + 1), fits, fits + 1 + next(9) };
     size_t capacity = capacities[next(4)];
     char *buffer = taken(capacity);

@@ -11,8 +11,10 @@ from dataclasses import dataclass, field, replace
 
 from .blocks import Node, cells_of, lines_of, read_blocks, runs_of
 from .html import define, definitions, text_of_leaf
+from .inlines import Definitions
 from .leaves import cell_runs, compounds, expanded, html_leaves, links_of, runs_of_leaf
 from .lines import CODE, EMPTY, PARAGRAPH, Align, Composite, Compound, HorizontalRule, Line, Normal, TableRow, TableRule, header, paragraph
+from .provisional import provided
 from .steady import steady
 
 ALIGN = {"": Align.UNSPECIFIED, "left": Align.LEFT, "center": Align.CENTER, "right": Align.RIGHT}
@@ -95,7 +97,8 @@ class Open:
 @dataclass
 class Mapping:
     """`open` are the containers that are open; of the last `fresh` nothing is shown yet. `last` is the leaf that was shown last, and the containers that
-    it was in. With `streamed`, a leaf knows the definitions up to it alone, as in a text that comes in pieces."""
+    it was in. With `streamed`, a leaf knows the definitions up to it alone, as in a text that comes in pieces, and for now those that it names by
+    their shape."""
 
     source: str
     streamed: bool = False
@@ -166,7 +169,7 @@ class Mapping:
         """What a leaf shows: none where it isn't shown."""
         if node.kind in ("para", "head"):
             kind = PARAGRAPH if node.kind == "para" else header(node.level)
-            return [Normal(Composite(kind, compounds(r))) for r in runs_of_leaf(text_of_leaf(node), self.defs)]
+            return [Normal(Composite(kind, compounds(r))) for r in runs_of_leaf(text_of_leaf(node), self.known(node))]
         if node.kind in ("fence", "code"):
             return [Normal(Composite(CODE, [Compound(expanded(x))] if x else [])) for x in node.lines]
         if node.kind == "table":
@@ -175,11 +178,16 @@ class Mapping:
 
     def table_lines(self, node: Node) -> list[Line]:
         rule = TableRule([ALIGN[a] for a in node.aligns])
-        head, *rows = [self.table_row(line, len(node.aligns), k == 0) for k, line in enumerate(node.lines)]
+        defs = self.known(node)
+        head, *rows = [self.table_row(line, len(node.aligns), k == 0, defs) for k, line in enumerate(node.lines)]
         return [rule, head, *([rule] if rows else []), *rows, rule]
 
-    def table_row(self, line: str, most: int, bold: bool) -> TableRow:
-        return TableRow([Composite(PARAGRAPH, compounds(cell_runs(runs_of_leaf(t, self.defs), bold))) for t in cells_of(line)[:most]])
+    def table_row(self, line: str, most: int, bold: bool, defs: Definitions) -> TableRow:
+        return TableRow([Composite(PARAGRAPH, compounds(cell_runs(runs_of_leaf(t, defs), bold))) for t in cells_of(line)[:most]])
+
+    def known(self, node: Node) -> Definitions:
+        """The definitions by which a leaf is shown."""
+        return provided(self.defs, "\n".join(node.lines)) if self.streamed else self.defs
 
     # ---- sections
 
@@ -193,7 +201,7 @@ class Mapping:
             while both and both[-1].hangs:
                 both.pop()
             self.sections.append(Section(both, 0, [EMPTY]))
-        self.links += [(len(self.sections), x) for x in (links_of(node, self.defs) if links is None else links)]
+        self.links += [(len(self.sections), x) for x in (links_of(node, self.known(node)) if links is None else links)]
         sides = [CODE_SIDES] if node.kind in ("fence", "code") else []
         fence = (node.info, *node.lines) if node.kind == "fence" else ()
         self.sections.append(Section([x.gutter for x in self.open] + sides, self.fresh + len(sides), lines, fence=fence))

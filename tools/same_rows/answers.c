@@ -204,6 +204,16 @@ static made rows_of(const request *it)
     return number;
 }
 
+/* The section to which a name leads, as a number; nothing, where there is none. */
+static made section_of(const request *it)
+{
+    termimad_place place = termimad_find_section(it->texts[0], it->lengths[0], it->texts[1], it->lengths[1]);
+    made number = { room_of(NULL, 32), 0, place.status };
+    if (place.found)
+        number.count = (size_t)sprintf(number.bytes, "%zu", place.section);
+    return number;
+}
+
 /* What any other call makes. The first buffer is empty, so that it is told to be short. */
 static made whole_of(const request *it)
 {
@@ -224,6 +234,8 @@ static made made_of(const request *it)
         return pieces_of(it);
     if (strcmp(it->call, "markdown-pieces") == 0 || strcmp(it->call, "live") == 0)
         return stream_of(it);
+    if (strcmp(it->call, "section") == 0)
+        return section_of(it);
     return strcmp(it->call, "rows") == 0 ? rows_of(it) : whole_of(it);
 }
 

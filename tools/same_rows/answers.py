@@ -76,6 +76,12 @@ def lines_of(found: Iterable[tuple[object, ...]]) -> str:
     return "".join("\t".join(map(str, parts)) + "\n" for parts in found)
 
 
+def section_of(text: bytes, name: str) -> str:
+    """The section to which a name leads; nothing, where there is none."""
+    found = termimad.Markdown(text).find_section(name)
+    return "" if found is None else str(found)
+
+
 def made_by(call: str, numbers: list[int], texts: list[bytes]) -> str:
     """What a call makes."""
     if call == "table":
@@ -94,6 +100,7 @@ def made_by(call: str, numbers: list[int], texts: list[bytes]) -> str:
         "fit": lambda: termimad.fit(text, *numbers, skin),
         "printable": lambda: termimad.printable(text),
         "links": lambda: lines_of((it.section, it.address) for it in termimad.Markdown(text).links),
+        "section": lambda: section_of(text, texts[1].decode()),
         "headings": lambda: lines_of((it.level, it.section, it.name, it.text) for it in termimad.Markdown(text).headings),
     }
     return calls[call]()

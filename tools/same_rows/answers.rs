@@ -2,8 +2,8 @@
 
 use std::io::{self, BufRead, Read, Write};
 use termimad_proved::{
-    area, code, fit, headings, inline, links, markdown, markdown_as_read, printable, rows, rows_as_read, table,
-    text, Align, Area, Heading, Link, LiveMarkdown, Page, Refused,
+    area, code, find_section, fit, headings, inline, links, markdown, markdown_as_read, printable, rows,
+    rows_as_read, table, text, Align, Area, Heading, Link, LiveMarkdown, Page, Refused,
 };
 
 const NOT_UTF8: u32 = 3;
@@ -168,6 +168,8 @@ fn made_by(request: &Request) -> Result<String, u32> {
         "printable" => printable(texts[0]),
         "links" => links(texts[0]).map(|found| lines_of_links(&found)),
         "headings" => headings(texts[0]).map(|found| lines_of_headings(&found)),
+        "section" => find_section(texts[0], texts[1])
+            .map(|found| found.map_or(String::new(), |it| it.to_string())),
         "table" => {
             let lines: Vec<Vec<&str>> = texts[1..]
                 .chunks(numbers[1])

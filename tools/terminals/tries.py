@@ -229,10 +229,33 @@ def from_pipe_cut_in_a_character(w: Tmux) -> None:
 
 @tried
 def from_empty_pipe(w: Tmux) -> None:
+    """Alone it is no page. Among others it is one."""
     for line in (f"true | {PAGE}", f"false | {PAGE} -", f"{PAGE} /dev/null", f"{PAGE} <(exit 3)"):
         w.run(line)
-        assert w.paging(), (line, w.shown())
-        end(w, what=line)
+        same(w.ended(8.0), 0, line)
+    w.run(f"true | {PAGE} - text.md")
+    assert w.paging(), w.shown()
+    end(w)
+
+
+@tried
+def long_names(w: Tmux) -> None:
+    """The last row leaves out a name's first folders, and not its end."""
+    folders = "/".join(["a long folder"] * 8)
+    (w.folder / folders).mkdir(parents=True)
+    (w.folder / folders / "text.md").write_text("# A text\n")
+    w.run(f"{PAGE} '{folders}/text.md'")
+    assert w.paging(), w.shown()
+    assert until(lambda: w.shown()[23].endswith("%  …/a long folder/a long folder/a long folder/text.md")), w.shown()
+    end(w)
+
+
+@tried
+def named_by_man(w: Tmux) -> None:
+    w.run(f"cat text.md | MAN_PN='ls(1)' {PAGE}")
+    assert w.paging(), w.shown()
+    assert until(lambda: "%  ls(1)" in w.shown()[23]), w.shown()
+    end(w)
 
 
 @tried
@@ -308,6 +331,47 @@ def files_that_fail(w: Tmux) -> None:
     same(w.ended(), 3)
     assert until(lambda: "page: that is latin.txt" in w.shown()), w.shown()
     same([row for row in w.shown() if "not UTF-8" in row][1:], [], "said once")
+
+
+@tried
+def links(w: Tmux) -> None:
+    """An address is opened as one word, which no shell reads. A file is shown next, and `:p` goes back to the row that was on top. Others are named."""
+    notes = w.folder / "notes"
+    notes.mkdir()
+    (notes / "README.md").write_text("# Notes\n")
+    (notes / "other page.md").write_text("# The other\n")
+    (notes / "code.rs").write_text("// *one*\n")
+    opener = w.folder / "opener"
+    opener.write_text("#!/bin/sh\nprintf '<%s>' \"$@\" >opened\n")
+    opener.chmod(0o755)
+    (w.folder / "linked.md").write_text(
+        "# Linked\n\nOne row.\n\n[address](<https://a.example/$(touch made);b c>), [page](notes/other%20page.md), [code](notes/code.rs#L1), [folder](notes),"
+        " [gone](gone.md), [scheme](ftp://a.example/), [name](#the-end)\n" + "\nA row.\n" * 40 + "\n## The end\n"
+    )
+    begin(w, "linked.md", "TERMIMAD_OPEN=./opener ")
+    w.type("2j")
+    assert until(lambda: "One row." in w.shown()[0]), w.shown()
+    first = w.still()
+    w.type("l")
+    assert until(lambda: w.shown()[2].startswith("  1ddress, 2age, 3ode, 4older, 5one, 6cheme, 7ame")), w.shown()
+    w.type("l")
+    assert until(lambda: "links" in w.shown()[23] and "1. address" in w.shown()[0]), w.shown()
+    w.type("q")
+    same(w.still(), first)
+    w.type("l1\r")
+    assert until(lambda: (w.folder / "opened").exists()) and w.paging(), w.shown()
+    same((w.folder / "opened").read_text(), "<https://a.example/$(touch made);b c>")
+    same((w.folder / "made").exists(), False)
+    same(w.still()[:23], first[:23])
+    for keys, text, row in (("l2\r", "The other", "notes/other page.md (2 of 2)"), (":p", "One row.", "linked.md (1 of 2)"),
+                            ("l3\r", "// *one*", "notes/code.rs (2 of 3)"), (":p", "One row.", "linked.md (1 of 3)"),
+                            ("l4\r", "Notes", "notes/README.md (2 of 4)"), (":p", "One row.", "linked.md (1 of 4)"),
+                            ("l5\r", "One row.", "linked.md (1 of 4); there is no file gone.md"),
+                            ("l6\r", "One row.", "linked.md (1 of 4); ftp://a.example/ isn't opened"),
+                            ("l8\r", "One row.", "linked.md (1 of 4); ftp://a.example/ isn't opened"), ("l7\r", "The end", "100%")):
+        w.type(keys)
+        assert until(lambda: text in w.shown()[0] and row in w.shown()[23]), (row, w.shown())
+    end(w)
 
 
 def in_shell(w: Tmux, line: str) -> tuple[bytes, bytes]:

@@ -112,6 +112,18 @@ class Texts(unittest.TestCase):
         with self.assertRaisesRegex(termimad.NotUtf8, "source is not UTF-8"):
             termimad.Markdown(b"# \xff").headings
 
+    def test_a_name_leads_to_a_section(self):
+        page = termimad.Markdown("# Disks\n\nwords\n\n## Disks\n\n<p id='Here'>a</p>\n\nsee [there](#disks-1), [that](#Disks) and [this](#Here)")
+        first, second = (heading.section for heading in page.headings)
+        self.assertEqual([page.find_section(link.address[1:]) for link in page.links[:2]], [second, first])
+        self.assertGreater(page.find_section("Here"), second)
+        for name in ("", "here", "#disks", "disks-2"):
+            self.assertIsNone(page.find_section(name))
+        with self.assertRaisesRegex(termimad.NotUtf8, "source is not UTF-8"):
+            termimad.Markdown(b"# \xff").find_section("a")
+        with self.assertRaisesRegex(termimad.NotUtf8, "name is not UTF-8"):
+            page.find_section("\ud800")
+
     def test_lines_stand_for_themselves(self):
         self.assertEqual(termimad.Lines("a\nb").rows(20), ["a", "b"])
         self.assertEqual(termimad.Markdown("a\nb").rows(20), ["a b"])

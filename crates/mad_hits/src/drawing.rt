@@ -103,8 +103,8 @@ fn draw_row<O: Out>(
     draw_each(alloc, out, hits.as_slice(), style, front, room.end, y)
 }
 
-// The columns before a row's line: those before its room, and those of its front.
-fn columns_before(skin: &RowSkin, room: RowRoom, gutters: &[Gutter]) -> usize
+/// The columns before a row's line: those before its room, and those of its front.
+pub fn columns_before(skin: &RowSkin, room: RowRoom, gutters: &[Gutter]) -> usize
     ensures { result ≡ capped (room.left + fronts skin.now gutters.now) }
 {
     columns_in_front(skin, gutters).saturating_add(usize::from(room.left))
@@ -149,8 +149,12 @@ fn draw_hit<O: Out>(
     draw_chars(alloc, out, chars.as_slice(), column, width, y)
 }
 
-/// Draws characters from a column on, where they are within the columns.
-pub(crate) fn draw_chars<O: Out>(
+/// Draws characters in row y of the screen, from a column on, where they are within the columns. Nothing is flushed.
+///
+/// # Errors
+///
+/// A fault of the device, or out of memory. What went out by then is a beginning of the whole.
+pub fn draw_chars<O: Out>(
     alloc: Global,
     out: &mut O,
     chars: &[StyledChar],

@@ -22,9 +22,10 @@ mod rows;
 mod styled;
 
 pub use columns::columns_in_front;
-pub use drawing::draw_row_hits;
+pub use drawing::{columns_before, draw_chars, draw_row_hits};
 pub use hits::{Hit, row_hits};
 pub use own_rows::draw_own_rows;
 pub use panes::{draw_page_rows, left_columns};
+pub use places::column_in_row;
 pub use rooms::RowRoom;
 pub use rows::FrontRows;

@@ -14,7 +14,7 @@ use mad_rows::{
 };
 
 /// The column in which the text of a line begins in a row of `width` columns, after its blanks and its prefix.
-pub(crate) fn column_in_row(skin: &RowSkin, composite: &FmtComposite, width: usize) -> usize
+pub fn column_in_row(skin: &RowSkin, composite: &FmtComposite, width: usize) -> usize
     ensures { result ≡ capped (text_column skin.now (Some width) (margins_of skin.now (Some width) composite.now) composite.now) }
 {
     let place = RowPlace {

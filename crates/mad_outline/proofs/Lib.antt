@@ -1,1 +1,4 @@
+pub mod LinkLemmas
+pub mod NumberLemmas
+pub mod RangeLemmas
 pub mod SourceLemmas

@@ -3,7 +3,7 @@ use Rattle.std.proofs.Common.{◌≡◌, ℕ, ◌+◌, List, [], ◌∷◌, ◌+
 use Rattle.std.proofs.lemmas.List.{length-map}
 use Rattle.mad_md.specs.Lines.{LineContent, content_of}
 use Rattle.mad_md.specs.declared.line.Line.{Line}
-use Rattle.mad_outline.specs.Sources.{items_by}
+use Rattle.mad_outline.specs.LinkLists.{items_by}
 
 -- so many lines more
 pub longer : (a b : List Line) (s : List LineContent) → map content_of b ≡ map content_of a ++ s → length b ≡ length a + length s

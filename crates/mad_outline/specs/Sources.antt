@@ -1,12 +1,11 @@
 -- What a session shows: a text, the addresses of links, or the headers of a text, and the lines of each.
-use Rattle.std.specs.Prelude.{ℕ, ◌+◌, ◌*◌, ◌-◌, ◌^◌, ◌==◌, ◌&&◌, nat_le, nat_lt, min, Bool, true, false, List, [], ◌∷◌, ◌++◌, map, length, count_by, Option, Some, None, if◌then◌else◌, codes}
+use Rattle.std.specs.Prelude.{ℕ, ◌+◌, ◌*◌, ◌-◌, ◌^◌, ◌==◌, nat_lt, min, Bool, true, false, List, [], ◌∷◌, ◌++◌, map, count_by, Option, Some, None, if◌then◌else◌, codes}
 use Rattle.mad_md.specs.Flagged.{Run}
 use Rattle.mad_md.specs.Lines.{LineContent, normal}
-use Rattle.mad_md.specs.ReadRaw.{raw_runs}
 use Rattle.mad_md.specs.Reading.{unread_text}
 use Rattle.mad_md.specs.Scan.{lines_of}
 use Rattle.mad_md.specs.declared.composite.CompositeStyle.{CompositeStyle}
-use Rattle.mad_md.specs.declared.composite.CompositeStyle.TheVariants.{Paragraph, Header, ListItem, ListItemFollowUp, OrderedListItem}
+use Rattle.mad_md.specs.declared.composite.CompositeStyle.TheVariants.{Header, ListItem, ListItemFollowUp}
 use Rattle.mad_plain.specs.Runs.{StyledChar}
 use Rattle.mad_plain_page.specs.PlainTexts.{lines_kept, painted_rows}
 use Rattle.mad_style.specs.declared.styled_chars.StyledChar.{StyledChar as PaintedChar}
@@ -14,47 +13,13 @@ use Rattle.mad_search.specs.PagedTexts.{grouped, paged_groups, paged_sections, p
 use Rattle.mad_sections.specs.Sections.{SectionContent}
 use Rattle.mad_search.specs.declared.paged.PagedText.{PagedText}
 use Rattle.mad_search.specs.declared.paged.PagedText.TheVariants.{Lines, Markdown, Plain}
-use Rattle.markdown_reader.specs.MarkdownSays.{LinkSaid, links_said}
+use Rattle.markdown_reader.specs.Anchors.{markdown_anchors}
+use Rattle.markdown_reader.specs.MarkdownSays.{links_said, markdown_says}
+use Rattle.markdown_reader.specs.NumbersIn.{link_marks_said}
+use Rattle.markdown_reader.specs.declared.markdown.Markdown.{Markdown as MarkdownText}
+use Rattle.mad_outline.specs.LinkLists.{LinksIn, TextLinks, items_by, links_listed, or_said}
 use Rattle.mad_outline.specs.declared.sources.Source.{Source}
-use Rattle.mad_outline.specs.declared.sources.Source.TheVariants.{Text, Links, Contents}
-
--- a line of this kind that has a text without flags, or none where it is empty
-abbrev pub raw_line : CompositeStyle → List ℕ → LineContent
-raw_line style text = normal (record { style = style; runs = raw_runs text })
-
--- what is said of each of these, one after the other, by how many lines come before
-abbrev pub items_by : {A : Type 0} → (ℕ → A → List LineContent) → ℕ → List A → List LineContent
-items_by said n [] = []
-items_by said n (x ∷ xs) = said n x ++ items_by said (n + length (said n x)) xs
-
--- these lines, or one that says that there are none
-abbrev pub or_said : List ℕ → List LineContent → List LineContent
-or_said none [] = raw_line Paragraph none ∷ []
-or_said none (l ∷ ls) = l ∷ ls
-
--- ---- links
-
--- the links of a text that its sections from one on up to another have
-pub record LinksIn : Type 0 where
-  pub links : List LinkSaid
-  pub from : ℕ
-  pub to : ℕ
-
--- the section of a link is one of those from one on up to another
-abbrev pub is_in : ℕ → ℕ → LinkSaid → Bool
-is_in from to link = nat_le from link.section && nat_lt link.section to
-
--- the number, in 32 bits, of an item after so many others
-abbrev pub number_after : ℕ → ℕ
-number_after n = min (n + 1) (2 ^ 32 - 1)
-
--- the address of a link, if its section is one of those, as an item with its number
-abbrev pub link_listed : ℕ → ℕ → ℕ → LinkSaid → List LineContent
-link_listed from to n link = if is_in from to link then raw_line (OrderedListItem 0 (number_after n)) link.address ∷ [] else []
-
--- the addresses of these links as items, or a line that says that there are none
-abbrev pub links_listed : LinksIn → List LineContent
-links_listed l = or_said (codes "No link is on the screen.") (items_by (link_listed l.from l.to) 0 l.links)
+use Rattle.mad_outline.specs.declared.sources.Source.TheVariants.{Text, Numbered, Links, Contents}
 
 -- ---- headers
 
@@ -123,7 +88,7 @@ pub record TextSaid : Type 0 where
   pub page : List SectionContent
   pub shown : PageAt
   pub drawn : Option (ℕ → List (List PaintedChar))
-  pub links : Option (List LinkSaid)
+  pub links : Option TextLinks
 
 -- what a text says whose lines stand for themselves
 abbrev pub plain_said : List ℕ → TextSaid
@@ -136,29 +101,44 @@ abbrev pub rows_said : Bool → List (List StyledChar) → TextSaid
 rows_said is_styled lines =
     record { page = []; shown = λ width. alone_each (row_sections width lines); drawn = Some (λ width. painted_rows is_styled width lines); links = None }
 
+-- what Markdown that was read says of its links, with the text that it was read from
+abbrev pub links_of : MarkdownText → List ℕ → TextLinks
+links_of markdown source = record { links = links_said markdown; marks = link_marks_said markdown; names = markdown_anchors source }
+
+-- the links that the sections of Markdown have from one on up to another
+abbrev pub links_between : MarkdownText → List ℕ → ℕ → ℕ → LinksIn
+links_between markdown source from to = record { page = markdown_says markdown; of = links_of markdown source; from = from; to = to }
+
 -- what a text says that is paged
 abbrev pub text_said : PagedText → TextSaid
 text_said (Lines source) = plain_said source.now
-text_said (Markdown markdown dressings) =
-    record { page = paged_sections (Markdown markdown dressings); shown = paged_groups (Markdown markdown dressings); drawn = None; links = Some (links_said markdown.now) }
+text_said (Markdown markdown dressings source) = record {
+  page = paged_sections (Markdown markdown dressings source);
+  shown = paged_groups (Markdown markdown dressings source);
+  drawn = None;
+  links = Some (links_of markdown.now source.now);
+}
 text_said (Plain text) = rows_said text.now.is_styled (lines_kept text.now)
 
--- a text, the addresses of links, or the headers of a page, one of which is chosen, by its index
+-- a text, one whose links have numbers where they stand, links in lines, or the headers of a page, one of which is chosen, by its index
 pub data Content : Type 0 where
   a_text : TextSaid → Content
+  numbered : TextSaid → Content
   addresses : LinksIn → Content
   headers : List SectionContent → ℕ → Content
 
 -- the sections of what is shown at a width, in groups
 abbrev pub content_page : Content → PageAt
 content_page (a_text text) = text.shown
+content_page (numbered text) = text.shown
 content_page (addresses links) = λ width. alone_each (plain_sections (links_listed links))
 content_page (headers page chosen) = λ width. alone_each (plain_sections (headers_listed page chosen))
 
 -- what a session shows, whatever its address
 abbrev pub content_of : Source → Content
 content_of (Text text) = a_text (text_said text)
-content_of (Links markdown from to) = addresses (record { links = links_said markdown.now; from = from; to = to })
+content_of (Numbered text) = numbered (text_said text)
+content_of (Links markdown source from to) = addresses (links_between markdown.now source.now from to)
 content_of (Contents text chosen) = headers (paged_sections text) chosen
 
 -- the sections of what a session shows at a width, in groups
@@ -168,11 +148,13 @@ source_page source = content_page (content_of source)
 -- the rows that are shown in styles of their own at a width, if some are
 abbrev pub content_drawn : Content → Option (ℕ → List (List PaintedChar))
 content_drawn (a_text text) = text.drawn
+content_drawn (numbered text) = text.drawn
 content_drawn content = None
 
 -- the text that is shown; where none is, an empty one
 abbrev pub said_of : Content → TextSaid
 said_of (a_text text) = text
+said_of (numbered text) = text
 said_of content = plain_said []
 
 -- ---- numbers of sections

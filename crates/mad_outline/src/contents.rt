@@ -3,7 +3,8 @@
 ghost use Rattle.std.specs.Prelude.{◌≡◌, ◌++◌, ◌==◌, length, IfOk, OnOk, map};
 ghost use Rattle.mad_md.specs.Flagged.{run_of};
 ghost use Rattle.mad_md.specs.Lines.{content_of, contents, normal, styled_runs};
-ghost use Rattle.mad_outline.specs.Sources.{bold_run, header_item, header_of, header_said, headers_listed, item_runs, item_style, items_by};
+ghost use Rattle.mad_outline.specs.LinkLists.{items_by};
+ghost use Rattle.mad_outline.specs.Sources.{bold_run, header_item, header_of, header_said, headers_listed, item_runs, item_style};
 ghost use Rattle.mad_search.specs.PagedTexts.{paged_sections};
 ghost use Rattle.mad_sections.specs.Sections.{page_content, section_content};
 

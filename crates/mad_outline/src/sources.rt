@@ -5,7 +5,8 @@ ghost use Rattle.mad_dressing.specs.Dressed.{sections_dressed};
 ghost use Rattle.mad_md.specs.Lines.{content_of};
 ghost use Rattle.mad_pages.specs.PagedPages.{IsPagedAt};
 ghost use Rattle.mad_md.specs.Lines.{contents};
-ghost use Rattle.mad_outline.specs.Sources.{alone_each, raw_line, source_page};
+ghost use Rattle.mad_outline.specs.LinkLists.{raw_line};
+ghost use Rattle.mad_outline.specs.Sources.{alone_each, source_page};
 ghost use Rattle.mad_search.specs.PagedTexts.{plain_sections};
 
 use crate::contents::contents_text;
@@ -23,8 +24,10 @@ use std::alloc::{AllocError, Global};
 pub enum Source<'s> {
     /// A text.
     Text(PagedText<'s>),
-    /// The addresses of the links that a text's sections have, from the one of one index on, up to that of another.
-    Links(&'s Markdown, usize, usize),
+    /// A text whose links on the screen have numbers where they stand.
+    Numbered(PagedText<'s>),
+    /// The links in lines that sections have of Markdown, which was read from this text, from the section of one index on, up to that of another.
+    Links(&'s Markdown, &'s str, usize, usize),
     /// The headers of a text. The one of this index, from 0, is chosen.
     Contents(PagedText<'s>, usize),
 }
@@ -39,8 +42,12 @@ impl<'s> Source<'s> {
                 let dressed = text.dressed(alloc, width)?;
                 Ok(dressed)
             }
-            Source::Links(markdown, from, to) => {
-                let text = links_text(alloc, markdown.links(), from, to)?;
+            Source::Numbered(text) => {
+                let dressed = text.dressed(alloc, width)?;
+                Ok(dressed)
+            }
+            Source::Links(markdown, _, from, to) => {
+                let text = links_text(alloc, markdown, from, to)?;
                 let dressed = undressed(alloc, text)?;
                 Ok(dressed)
             }

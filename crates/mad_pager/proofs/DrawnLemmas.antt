@@ -1,5 +1,5 @@
 -- What is shown of what was drawn in turn, and what goes out of it.
-use Rattle.std.proofs.Common.{◌≡◌, ℕ, ◌-◌, ◌<◌, ◌^◌, ◌≤◌, ◌||◌, ◌&&◌, ◌==◌, eq-eqb, nat_lt, Bool, true, false, List, [], ◌∷◌, ◌++◌, Option, Some, None, Result, Ok, Err, OnOk, inl, refl, ap, sym, ◌∙◌, subst, arith, take, length, min}
+use Rattle.std.proofs.Common.{◌≡◌, ℕ, ◌-◌, ◌<◌, ◌^◌, ◌≤◌, ◌||◌, ◌&&◌, ◌==◌, eq-eqb, nat_lt, Bool, true, false, List, [], ◌∷◌, ◌++◌, Option, Some, None, Result, Ok, Err, OnOk, inl, refl, ap, sym, ◌∙◌, subst, append_assoc, arith, take, length, min}
 use Rattle.std.proofs.lemmas.List.{append-nil}
 use Rattle.std.specs.List.{range_with_len}
 use Rattle.std.specs.Result.{IsErrAnd}
@@ -45,7 +45,7 @@ use Rattle.mad_pager.proofs.PageFills.{text_fills}
 use Rattle.std.proofs.lemmas.Bool.{ltb-false}
 use Rattle.std.proofs.lemmas.Bool.Decides.{nat_tests}
 use Rattle.regex.specs.Patterns.{Re}
-use Rattle.mad_pager.specs.Screens.{status_skin, is_small, area_of, bar_of, text_pane, field_pane, prompt_pane, prompt_row, status_pane, status_words, AreHitsDrawn, ArePanesDrawn, IsFieldShown, IsLineIn, IsStatusLine, AreLinesShown, IsFieldRow, IsLastRow, IsStatus, IsDrawing, IsPicture, IsTypingShown, IsStatusShown, IsFieldInRow, IsShowing, IsShown, IsUnshown, WritesStatus, own_rows, question, room_of}
+use Rattle.mad_pager.specs.Screens.{status_skin, is_small, area_of, bar_of, text_pane, field_pane, prompt_pane, prompt_row, status_pane, status_words, AreHitsDrawn, AreNumbersDrawn, ArePanesDrawn, IsFieldShown, IsLineIn, IsStatusLine, AreLinesShown, IsFieldRow, IsLastRow, IsStatus, IsDrawing, IsPicture, IsTypingShown, IsStatusShown, IsFieldInRow, IsShowing, IsShown, IsUnshown, WritesStatus, own_rows, question, room_of}
 use Rattle.mad_pager.specs.Sessions.{State, paged_skin, field_row, last_row, prompt_cell, text_area}
 
 -- ---- what is shown
@@ -152,9 +152,29 @@ screen_shown skin name s large a b lines row =
       status = λ is. status_shown skin name s a b lines (row.status is);
     }
 
+-- these bytes show the text and the last row, and what is drawn over the text
+pub record IsDrawnOver (skin : PageSkin) (name : List ℕ) (content : Content) (s : State) (bytes : List ℕ) : Type 0 where
+  pub panes : List ℕ
+  pub hits : List ℕ
+  pub are : bytes ≡ panes ++ hits
+  pub drawn : ArePanesDrawn skin name s panes
+  pub marked : AreHitsDrawn skin (own_rows skin content s) s hits
+
 -- and then what is drawn over them
-pub over_shown : (skin : PageSkin) (name : List ℕ) (content : Content) (s : State) (a b : List ℕ) → ArePanesDrawn skin name s a → AreHitsDrawn skin (own_rows skin content s) s b → IsDrawing skin name content s (a ++ b)
+pub over_shown : (skin : PageSkin) (name : List ℕ) (content : Content) (s : State) (a b : List ℕ) → ArePanesDrawn skin name s a → AreHitsDrawn skin (own_rows skin content s) s b → IsDrawnOver skin name content s (a ++ b)
 over_shown skin name content s a b panes over = record { panes = a; hits = b; are = refl; drawn = panes; marked = over }
+
+-- and last numbers
+pub numbers_over : (skin : PageSkin) (name : List ℕ) (content : Content) (s : State) (a b : List ℕ) → IsDrawnOver skin name content s a → AreNumbersDrawn skin content s b → IsDrawing skin name content s (a ++ b)
+numbers_over skin name content s a b over numbers = record {
+  panes = over.panes;
+  hits = over.hits;
+  numbers = b;
+  are = ap (λ (l : List ℕ). l ++ b) over.are ∙ append_assoc over.panes over.hits b;
+  drawn = over.drawn;
+  marked = over.marked;
+  numbered = numbers;
+}
 
 -- a line that was drawn in an area of one row
 pub line_drawn : (dress : MadSkin) (line : FmtLine) (items : List FmtLine) (area : Area) (bytes : List ℕ) (old new : Trace)

@@ -1,4 +1,5 @@
 pub mod DrawnLemmas
+pub mod FollowLemmas
 pub mod OrderLemmas
 pub mod OwnRowLemmas
 pub mod PageFills

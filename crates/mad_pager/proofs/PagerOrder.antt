@@ -7,11 +7,12 @@ use Rattle.mad_term.specs.declared.events.Event.TheVariants.{Key, Mouse, Resize,
 use Rattle.mad_term.specs.declared.keys.KeyEvent.{KeyEvent}
 use Rattle.mad_page.specs.declared.page.Files.{Files}
 use Rattle.mad_pager.specs.Screens.{IsOrderly}
-use Rattle.mad_pager.specs.Sessions.{State, HasSameText, IsEventStep, IsSettled, hears_size, pasted, state_of}
-use Rattle.mad_outline.specs.Sources.{Content, PageAt, TextSaid, a_text, addresses, headers, content_page, content_of, said_of, source_page}
-use Rattle.mad_pager.specs.Pagers.{Leaf, View, IsAnswered, IsChoice, IsCovered, IsLeafSettled, IsLeafStep, IsOpened, IsOrderlyLeaf, IsOrderlyOver, IsOrderlyView, IsOverSettled, IsOverStart, IsPageStart, IsSameLeaf, IsStep, IsStepIn, IsViewSettled, contents_name, contents_page, header_row, help_name, help_page, hearing, leaf_page, leaf_of, links_name, links_page, over_answer, sighted, begun, pasted_at, pasted_in, pasted_leaf}
+use Rattle.mad_pager.specs.Sessions.{State, HasSameText, IsEventStep, IsSettled, at_row_or, hears_size, pasted, state_of}
+use Rattle.mad_outline.specs.Sources.{Content, PageAt, TextSaid, a_text, addresses, headers, numbered, content_page, content_of, said_of, source_page}
+use Rattle.mad_pager.specs.Pagers.{Leaf, View, IsAnswered, IsChoice, IsCovered, IsLeafSettled, IsLeafStep, IsOpened, IsOrderlyLeaf, IsOrderlyOver, IsOrderlyView, IsOverSettled, IsOverStart, IsPageStart, IsSameLeaf, IsStep, IsStepIn, IsViewSettled, contents_name, contents_page, header_row, help_name, help_page, hearing, leaf_page, leaf_of, links_name, links_opened, links_page, opened_name, over_answer, sighted, begun, pasted_at, pasted_in, pasted_leaf, with_top}
+use Rattle.mad_pager.specs.Following.{address_of, at_name, name_within, target_row}
 use Rattle.mad_pager.specs.declared.over.Answer.{Answer}
-use Rattle.mad_pager.specs.declared.over.Answer.TheVariants.{Closes, Takes, Chooses, Passes}
+use Rattle.mad_pager.specs.declared.over.Answer.TheVariants.{Closes, Takes, Chooses, Lists, Follows, Passes}
 use Rattle.mad_pager.specs.declared.session.Overlay.{Overlay}
 use Rattle.mad_pager.specs.declared.session.Overlay.TheVariants as overlay
 use Rattle.mad_pager.specs.declared.session.Session.{Session}
@@ -82,9 +83,26 @@ page_start_order name content below over start =
     let begun = start_order below.skin (content_page content) below.state.page.columns below.state.page.rows below.state.page.files s start.start in
     order_at below.skin content over start.skin start.made (record { laid = begun.laid; field = record { area = begun.field.area; typed = begun.field.typed } })
 
+-- with another row on top it is so too
+top_order : (name : List ℕ) (content : Content) (below begun over : Leaf) (row : ℕ) → IsPageStart name content below begun → over ≡ with_top row begun → IsOrderlyLeaf over
+top_order name content below begun over row start is =
+    let h : IsOrderlyLeaf begun = page_start_order name content below begun start in
+    subst IsOrderlyLeaf (sym is) (record { laid = h.laid; field = record { area = h.field.area; typed = h.field.typed } })
+
+row_or_order : (row : Option ℕ) (l : Leaf) → IsOrderlyLeaf l → IsOrderlyLeaf (record l { state = at_row_or row l.state })
+row_or_order None l h = h
+row_or_order (Some row) l h = record { laid = h.laid; field = record { area = h.field.area; typed = h.field.typed } }
+
+-- a link that leads to a name leaves the text orderly
+named_order : (name : Option (List ℕ)) (text : TextSaid) (l : Leaf) → IsOrderlyLeaf l → IsOrderlyLeaf (record l { state = at_name name text l.state })
+named_order None text l h = h
+named_order (Some name) text l h = row_or_order (target_row text name l.state.laid.starts.items) l h
+
 over_start_order : (overlay : Overlay) (below over : Leaf) → IsOverStart overlay below over → IsOrderlyLeaf over
 over_start_order overlay.Help below over start = page_start_order help_name help_page below over start
-over_start_order overlay.Links below over start = page_start_order links_name (links_page (said_of below.content) below.state) below over start
+over_start_order overlay.Links below over start =
+    let opened : Content = links_opened (said_of below.content) below.state in
+    top_order (opened_name opened) opened below start.start over _ start.is start.over_is
 over_start_order overlay.Contents below over start = page_start_order contents_name (contents_page (said_of below.content).page below.state) below over start
 
 covered_order : (opened : Option Overlay) (below : Leaf) (over : Option Leaf) → IsCovered opened below over → IsOrderlyOver over
@@ -104,6 +122,14 @@ answered_order Takes event over text new step h k = record {
 answered_order (Chooses key) event over text new step h k = record {
   text = subst IsOrderlyLeaf (sym step.text) h;
   over = subst IsOrderlyOver (sym step.over) (choice_order key over step.after step.choice k);
+}
+answered_order Lists event over text new step h k = record {
+  text = subst IsOrderlyLeaf (sym step.text) h;
+  over = subst IsOrderlyOver (sym step.over) (page_start_order links_name (links_page (said_of over.content) over.state) text step.start step.is);
+}
+answered_order (Follows index) event over text new step h k = record {
+  text = subst IsOrderlyLeaf (sym step.text) (named_order (name_within (address_of (said_of text.content).links index)) (said_of text.content) text h);
+  over = subst IsOrderlyOver (sym step.over) tt;
 }
 answered_order Passes event over text new step h k = record {
   text = subst IsOrderlyLeaf (sym step.text) (hearing_order event text h);
@@ -135,6 +161,7 @@ settled_leaf_order old new h k = order_at old.skin old.content new h.same.skin h
 sighted_order : (skin : PageSkin) (text : PageAt) (content : Content) (s : State) → IsOrderly skin text s → IsOrderly skin text (sighted content s)
 sighted_order skin text (headers of chosen) s h = sight_order skin text (slice_index s.laid.starts.items chosen) s h
 sighted_order skin text (a_text said) s h = h
+sighted_order skin text (numbered said) s h = h
 sighted_order skin text (addresses links) s h = h
 
 settled_over_order : (old new : Option Leaf) → IsOverSettled old new → IsOrderlyOver old → IsOrderlyOver new

@@ -8,12 +8,12 @@ use Rattle.mad_page.specs.PageKeys as page
 use Rattle.mad_page.specs.PageKeys.{after_command, command_of, file_ask}
 use Rattle.mad_page.specs.declared.page.Page.{Page}
 use Rattle.mad_search.specs.KeptRows.{part_of}
-use Rattle.markdown_reader.specs.MarkdownSays.{LinkSaid}
+use Rattle.mad_outline.specs.LinkLists.{TextLinks}
+use Rattle.mad_pager.specs.Following.{last_row_of, links_in, sections_shown}
 use Rattle.mad_pager.specs.Sessions.{State, HasSameText, IsResized, IsStart, state_of, turn_of}
-use Rattle.mad_outline.specs.Sources.{Content, addresses, content_page, content_of, next, source_page}
-use Rattle.mad_pager.specs.Pagers.{Leaf, View, IsAnswered, IsChoice, IsOverStep, IsPageStart, IsStepIn, IsTextStep, content_chosen, key_over, last_row_of, leaf_of, links_in, over_answer, size_to_lay, turn_answered, turn_at, turn_over, uncounted_state}
+use Rattle.mad_outline.specs.Sources.{Content, TextSaid, addresses, content_page, content_of, next, source_page}
+use Rattle.mad_pager.specs.Pagers.{Leaf, View, IsAnswered, IsChoice, IsOverStep, IsPageStart, IsStepIn, IsTextStep, content_chosen, leaf_of, over_answer, size_to_lay, turn_answered, turn_at, turn_over, uncounted_state}
 use Rattle.mad_pager.specs.declared.over.Answer.{Answer}
-use Rattle.mad_pager.specs.declared.over.Answer.TheVariants.{Passes}
 use Rattle.mad_pager.specs.declared.session.Session.{Session}
 use Rattle.mad_pager.specs.declared.session.Turn.{Turn}
 use Rattle.mad_pager.specs.declared.sizes.ScreenSize.{ScreenSize}
@@ -29,7 +29,7 @@ pub step_below : (event : Event) (over : Option Session) (text : Leaf) (new : Vi
 step_below event over text new is h = subst (λ (o : Option Session). IsStepIn (option_map leaf_of o) event text new) (sym is) h
 
 -- the pager goes on as the page over the text says, while one is open
-pub turn_at_over : (event : Event) (over : Option Session) (page : Session) (text : Leaf) (turn : Turn) → over ≡ Some page → turn ≡ turn_over event (leaf_of page) → turn ≡ turn_at (option_map leaf_of over) event text
+pub turn_at_over : (event : Event) (over : Option Session) (page : Session) (text : Leaf) (turn : Turn) → over ≡ Some page → turn ≡ turn_over event (leaf_of page) text → turn ≡ turn_at (option_map leaf_of over) event text
 turn_at_over event over page text turn is h = h ∙ ap (λ (o : Option Session). turn_at (option_map leaf_of o) event text) (sym is)
 
 -- it goes on as the text says, while none is open
@@ -43,12 +43,8 @@ pub answered : (answer made : Answer) (event : Event) (over text : Leaf) (new : 
 answered answer made event over text new e is h = subst (λ (a : Answer). IsAnswered a event over text new) (sym is ∙ e) h
 
 -- the pager goes on after it as the answer says
-pub turn_so : (answer made : Answer) (event : Event) (over : Leaf) (turn : Turn) → made ≡ over_answer event over → made ≡ answer → turn ≡ turn_answered answer event over.state → turn ≡ turn_over event over
-turn_so answer made event over turn e is h = h ∙ ap (λ (a : Answer). turn_answered a event over.state) (sym is ∙ e)
-
--- what a key says on a page over the text, by whether something is being typed there or a colon was, and whether a header is chosen
-abbrev pub key_answer : KeyEvent → Bool → Bool → Answer
-key_answer key typing choice = if typing then Passes else key_over key choice
+pub turn_so : (answer made : Answer) (event : Event) (over text : Leaf) (turn : Turn) → made ≡ over_answer event over → made ≡ answer → turn ≡ turn_answered answer event over text → turn ≡ turn_over event over text
+turn_so answer made event over text turn e is h = h ∙ ap (λ (a : Answer). turn_answered a event over text) (sym is ∙ e)
 
 -- a page after a key, by whether a colon was typed
 abbrev pub turn_after : Bool → KeyEvent → Page → page.Turn
@@ -74,6 +70,10 @@ page_started name content below over new skin named made start e =
       told = refl;
     })
 
+-- the same, along what is equal
+pub start_along : (name : List ℕ) (made content : Content) (below over : Leaf) → made ≡ content → IsPageStart name made below over → IsPageStart name content below over
+start_along name made content below over is h = subst (λ (k : Content). IsPageStart name k below over) is h
+
 -- ---- choices
 
 -- another header is chosen, and all is laid out anew
@@ -92,10 +92,16 @@ chosen key old mid new size skin name content state is same laid = record {
 
 -- ---- links
 
--- the links of the sections that are on the screen
-pub links_shown : (links : List LinkSaid) (s : State) (starts : List ℕ) (row first last after : ℕ) → starts ≡ s.laid.starts.items → first ≡ part_of starts s.page.top → row ≡ last_row_of s.page → last ≡ part_of starts row → after ≡ next last
-    → addresses (record { links = links; from = first; to = after }) ≡ addresses (links_in links s)
-links_shown links s starts row first last after begin f r l t =
+-- the sections that are on the screen
+pub shown_sections : (s : State) (starts : List ℕ) (row first last after : ℕ) → starts ≡ s.laid.starts.items → first ≡ part_of starts s.page.top → row ≡ last_row_of s.page → last ≡ part_of starts row → after ≡ next last
+    → (first, after) ≡ sections_shown s
+shown_sections s starts row first last after begin f r l t =
     let end : last ≡ part_of s.laid.starts.items (last_row_of s.page) = l ∙ ap (λ (z : List ℕ). part_of z row) begin ∙ ap (λ (m : ℕ). part_of s.laid.starts.items m) r in
-    ap (λ (m : ℕ). addresses (record { links = links; from = m; to = after })) (f ∙ ap (λ (z : List ℕ). part_of z s.page.top) begin)
-    ∙ ap (λ (m : ℕ). addresses (record { links = links; from = part_of s.laid.starts.items s.page.top; to = m })) (t ∙ ap next end)
+    ap (λ (m : ℕ). (m, after)) (f ∙ ap (λ (z : List ℕ). part_of z s.page.top) begin) ∙ ap (λ (m : ℕ). (part_of s.laid.starts.items s.page.top, m)) (t ∙ ap next end)
+
+-- the links of Markdown from one section on up to another, along what is equal
+pub links_along : (text : TextSaid) (of : TextLinks) (s : State) (page : List SectionContent) (shown : ℕ × ℕ) → page ≡ text.page → shown ≡ sections_shown s
+    → addresses (record { page = page; of = of; from = shown.0; to = shown.1 }) ≡ addresses (links_in text of s)
+links_along text of s page shown same is =
+    ap (λ (p : List SectionContent). addresses (record { page = p; of = of; from = shown.0; to = shown.1 })) same
+    ∙ ap (λ (n : ℕ × ℕ). addresses (record { page = text.page; of = of; from = n.0; to = n.1 })) is

@@ -1,3 +1,4 @@
+pub mod Following
 pub mod Pagers
 pub mod Pictures
 pub mod Rooms

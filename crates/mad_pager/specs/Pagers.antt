@@ -1,10 +1,10 @@
 -- A pager: a text, and a page over it while one is open.
-use Rattle.std.specs.Prelude.{◌≡◌, ℕ, ◌+◌, ◌-◌, ◌^◌, ◌==◌, ◌&&◌, ◌||◌, min, Bool, true, false, List, [], ◌∷◌, ◌++◌, codes, length, Option, Some, None, option_map, slice_get, slice_index, if◌then◌else◌}
+use Rattle.std.specs.Prelude.{◌≡◌, ℕ, ◌-◌, ◌==◌, ◌&&◌, ◌||◌, nat_lt, is_some, Bool, true, false, List, [], ◌∷◌, ◌++◌, codes, length, Option, Some, None, option_map, slice_get, slice_index, if◌then◌else◌}
 use Rattle.std.specs.List.{flat_map}
 use Rattle.mad_sections.specs.Sections.{SectionContent}
 use Rattle.mad_page_skin.specs.declared.page_skin.PageSkin.{PageSkin}
 use Rattle.mad_page.specs.PageKeys.{after_key, command_of, is_break, uncounted}
-use Rattle.mad_page.specs.Pages.{begun_at, body_rows, in_sight}
+use Rattle.mad_page.specs.Pages.{begun_at, in_sight}
 use Rattle.mad_page.specs.declared.commands.Ask.TheVariants.{Forget, Help, Links, Contents, Reload, Edit, Quit}
 use Rattle.mad_page.specs.declared.commands.Command.{Command}
 use Rattle.mad_page.specs.declared.commands.Command.TheVariants.{Asks, Moves}
@@ -18,12 +18,13 @@ use Rattle.mad_term.specs.declared.events.Event.TheVariants.{Key}
 use Rattle.mad_term.specs.declared.keys.KeyCode.{KeyCode}
 use Rattle.mad_term.specs.declared.keys.KeyCode.TheVariants.{Enter}
 use Rattle.mad_term.specs.declared.keys.KeyEvent.{KeyEvent}
-use Rattle.markdown_reader.specs.MarkdownSays.{LinkSaid}
+use Rattle.mad_outline.specs.LinkLists.{TextLinks}
+use Rattle.mad_pager.specs.Following.{chosen_link, followed, followed_turn, has_numbers, is_links, is_numbered, link_on_screen, links_in, top_of}
 use Rattle.mad_pager.specs.Screens.{IsOrderly, IsShown, IsUnshown}
 use Rattle.mad_pager.specs.Sessions.{State, IsEventStep, IsResized, IsSettled, IsStart, at_header, hears, opens, pasted, state_of, turn_of}
-use Rattle.mad_outline.specs.Sources.{Content, LinksIn, PageAt, TextSaid, a_text, addresses, headers, content_page, content_of, count_below, header_numbers, next, plain_said, said_of}
+use Rattle.mad_outline.specs.Sources.{Content, PageAt, TextSaid, a_text, addresses, headers, numbered, content_page, content_of, count_below, header_numbers, next, plain_said, said_of}
 use Rattle.mad_pager.specs.declared.over.Answer.{Answer}
-use Rattle.mad_pager.specs.declared.over.Answer.TheVariants.{Closes, Takes, Chooses, Passes}
+use Rattle.mad_pager.specs.declared.over.Answer.TheVariants.{Closes, Takes, Chooses, Lists, Follows, Passes}
 use Rattle.mad_pager.specs.declared.pager.Pager.{Pager}
 use Rattle.mad_pager.specs.declared.session.Overlay.{Overlay}
 use Rattle.mad_pager.specs.declared.session.Overlay.TheVariants as overlay
@@ -98,9 +99,12 @@ hearing event l = record l { state = hears event l.state }
 
 -- ---- pages over a text
 
--- the names of the pages over a text: of help, of links, and of contents
+-- the names of the pages over a text: of help, of links where they stand and in lines, and of contents
 abbrev pub help_name : List ℕ
 help_name = codes "help"
+
+abbrev pub numbers_name : List ℕ
+numbers_name = codes "links: a number and Enter opens one, l lists them"
 
 abbrev pub links_name : List ℕ
 links_name = codes "links"
@@ -140,7 +144,7 @@ help_lines =
     codes "|/; ?|seeks a text, on or back: Enter, Esc; Up: earlier ones|" ∷
     codes "|n, N|the next row that has it; the one before|" ∷
     codes "|Esc, Alt-U|forgets it|" ∷
-    codes "|l|the addresses of the links on the screen|" ∷
+    codes "|l|numbers at links: one and Enter opens it, l lists them|" ∷
     codes "|:n, :p|the next file; the one before|" ∷
     codes "|R; v|reads the file again; opens an editor of it here|" ∷
     codes "|h, F1|this page|" ∷
@@ -161,26 +165,36 @@ help_text = flat_map (λ line. line ++ 10 ∷ []) help_lines
 abbrev pub help_page : Content
 help_page = a_text (plain_said help_text)
 
--- the row of a text that is in the last row which the screen has for it
-abbrev pub last_row_of : Page → ℕ
-last_row_of page = min (page.top + (body_rows page - 1)) (2 ^ 64 - 1)
-
--- the links of the sections that are on the screen
-abbrev pub links_in : List LinkSaid → State → LinksIn
-links_in links s = record { links = links; from = part_of s.laid.starts.items s.page.top; to = next (part_of s.laid.starts.items (last_row_of s.page)) }
-
 -- what is said of a text that can't have some
 abbrev pub never_links : List ℕ
 never_links = codes "No links are read of this text."
 
 -- what the page of links is made of, over a text that has these links, if it can have some
-abbrev pub links_page_of : Option (List LinkSaid) → State → Content
-links_page_of None s = a_text (plain_said never_links)
-links_page_of (Some links) s = addresses (links_in links s)
+abbrev pub links_page_of : Option TextLinks → TextSaid → State → Content
+links_page_of None text s = a_text (plain_said never_links)
+links_page_of (Some of) text s = addresses (links_in text of s)
 
 -- the page of links over a text: those on the screen, or that the text can't have some
 abbrev pub links_page : TextSaid → State → Content
-links_page text s = links_page_of text.links s
+links_page text s = links_page_of text.links text s
+
+-- what the key for links opens over a text: the text with numbers, where a link is on the screen, and else that page
+abbrev pub links_opened : TextSaid → State → Content
+links_opened text s = if is_some (link_on_screen text s 1) then numbered text else links_page text s
+
+-- its name
+abbrev pub opened_name : Content → List ℕ
+opened_name content = if is_numbered content then numbers_name else links_name
+
+-- what is shown, with this row on top
+abbrev pub with_top : ℕ → Leaf → Leaf
+with_top row l = record l { state = record l.state { page = record l.state.page { top = row } } }
+
+-- A page of this content over a text at its start: a text with numbers stays where it is.
+pub record IsLinksStart (content : Content) (below over : Leaf) : Type 0 where
+  pub start : Leaf
+  pub is : IsPageStart (opened_name content) content below start
+  pub over_is : over ≡ with_top (top_of content below.state.page.top) start
 
 -- the page of contents over a text: the last header is chosen that the top row has, or that is above
 abbrev pub contents_page : List SectionContent → State → Content
@@ -189,7 +203,7 @@ contents_page page s = headers page (count_below (header_numbers 0 page) (next (
 -- a page over a text, at its start
 abbrev pub IsOverStart : Overlay → Leaf → Leaf → Type 0
 IsOverStart overlay.Help below over = IsPageStart help_name help_page below over
-IsOverStart overlay.Links below over = IsPageStart links_name (links_page (said_of below.content) below.state) below over
+IsOverStart overlay.Links below over = IsLinksStart (links_opened (said_of below.content) below.state) below over
 IsOverStart overlay.Contents below over = IsPageStart contents_name (contents_page (said_of below.content).page below.state) below over
 
 -- a page is opened over a text, or not
@@ -234,9 +248,30 @@ command_over key choice command = Passes
 abbrev pub key_over : KeyEvent → Bool → Answer
 key_over key choice = if is_break key then Passes else if choice && is_enter key then Takes else command_over key choice (command_of key)
 
+-- what a number says: to follow the link that has it, or to close the page, where none has it
+abbrev pub number_answer : Option ℕ → Answer
+number_answer None = Closes
+number_answer (Some index) = Follows index
+
+-- What a key says of links that have numbers: Enter behind one follows it, and the key for links lists those that have numbers where they stand.
+abbrev pub link_answer : KeyEvent → Leaf → Option Answer
+link_answer key over =
+    if has_numbers over.content && (nat_lt 0 over.state.page.count && is_enter key) then Some (number_answer (chosen_link over.content over.state))
+    else if is_numbered over.content && is_links key then Some Lists
+    else None
+
+-- the first answer, if there is one
+abbrev pub answer_or : Option Answer → Answer → Answer
+answer_or None other = other
+answer_or (Some answer) other = answer
+
+-- what a key says there of links, or else as on any page
+abbrev pub key_answer : KeyEvent → Leaf → Answer
+key_answer key over = answer_or (link_answer key over) (key_over key (has_choice over.content))
+
 -- what an event says there; while something is being typed, and after a colon, what it says of any text
 abbrev pub over_answer : Event → Leaf → Answer
-over_answer (Key key) over = if over.state.is_typing || over.state.page.has_colon then Passes else key_over key (has_choice over.content)
+over_answer (Key key) over = if over.state.is_typing || over.state.page.has_colon then Passes else key_answer key over
 over_answer event over = Passes
 
 -- the header that is chosen after a key: each has one row of a page that shows one row
@@ -295,6 +330,18 @@ pub record IsChosen (key : KeyEvent) (page below : Leaf) (new : View) : Type 0 w
   pub over : new.over ≡ Some after
   pub text : new.text ≡ below
 
+-- What lists the links of the text that is shown.
+pub record IsListed (page below : Leaf) (new : View) : Type 0 where
+  pub start : Leaf
+  pub is : IsPageStart links_name (links_page (said_of page.content) page.state) below start
+  pub over : new.over ≡ Some start
+  pub text : new.text ≡ below
+
+-- What follows the link of an index in the text: the page is closed.
+pub record IsFollowed (index : ℕ) (below : Leaf) (new : View) : Type 0 where
+  pub text : new.text ≡ record below { state = followed index (said_of below.content) below.state }
+  pub over : new.over ≡ None
+
 -- What does on it what it does on any text; the text below hears a size.
 pub record IsDoneOver (event : Event) (page below : Leaf) (new : View) : Type 0 where
   pub after : Leaf
@@ -307,6 +354,8 @@ abbrev pub IsAnswered : Answer → Event → Leaf → Leaf → View → Type 0
 IsAnswered Closes event over text new = IsClosed text new
 IsAnswered Takes event over text new = IsTaken over text new
 IsAnswered (Chooses key) event over text new = IsChosen key over text new
+IsAnswered Lists event over text new = IsListed over text new
+IsAnswered (Follows index) event over text new = IsFollowed index text new
 IsAnswered Passes event over text new = IsDoneOver event over text new
 
 -- what an event does while this page is open over a text
@@ -324,19 +373,20 @@ IsStepIn (Some over) event text new = IsOverStep event over text new
 abbrev pub IsStep : Event → View → View → Type 0
 IsStep event old new = IsStepIn old.over event old.text new
 
--- how the pager goes on after it
-abbrev pub turn_answered : Answer → Event → State → Turn
-turn_answered Passes event s = turn_of event s
-turn_answered answer event s = Goes
+-- how the pager goes on after it: it ends for a link that leads elsewhere
+abbrev pub turn_answered : Answer → Event → Leaf → Leaf → Turn
+turn_answered Passes event over text = turn_of event over.state
+turn_answered (Follows index) event over text = followed_turn index (said_of text.content) text.state
+turn_answered answer event over text = Goes
 
 -- how the pager goes on after an event on this page over the text
-abbrev pub turn_over : Event → Leaf → Turn
-turn_over event over = turn_answered (over_answer event over) event over.state
+abbrev pub turn_over : Event → Leaf → Leaf → Turn
+turn_over event over text = turn_answered (over_answer event over) event over text
 
 -- how it goes on after an event on the text, or on the page over it, while one is open
 abbrev pub turn_at : Option Leaf → Event → Leaf → Turn
 turn_at None event text = turn_of event text.state
-turn_at (Some over) event text = turn_over event over
+turn_at (Some over) event text = turn_over event over text
 
 -- how it goes on after an event
 abbrev pub turn_in : Event → View → Turn

@@ -19,6 +19,7 @@ use Rattle.mad_wrap.specs.WrapLines.{capped}
 use Rattle.mad_hits.specs.FrontHits.{AreRowsMarked}
 use Rattle.mad_hits.specs.OwnRows.{AreRowsDrawn}
 use Rattle.mad_hits.specs.Panes.{page_rows}
+use Rattle.mad_link_places.specs.Numbers.{AreNumbersShown}
 use Rattle.mad_hits.specs.declared.rooms.RowRoom.{RowRoom}
 use Rattle.mad_page_rows.specs.FaceLaws.{AreFacesShown}
 use Rattle.mad_page_rows.specs.PageFits.{KeepsRoom, sections_at}
@@ -52,6 +53,7 @@ use Rattle.mad_page_skin.specs.declared.page_skin.PageSkin.{PageSkin}
 use Rattle.mad_rows.specs.declared.row_skin.RowSkin.{RowSkin}
 use Rattle.std.specs.List.{AllByRecursion}
 use Rattle.mad_characters.specs.Columns.{char_columns}
+use Rattle.mad_pager.specs.Following.{numbers_shown}
 use Rattle.mad_pager.specs.Rooms.{room_on}
 use Rattle.mad_pager.specs.Sessions.{State, IsLaidFor, paged_skin, field_row, last_row, layout_width, prompt_cell, text_area, typed_text}
 
@@ -279,14 +281,20 @@ pub record AreHitsDrawn (skin : PageSkin) (rows : Option (List (List StyledChar)
   pub is : IsMarked s reading
   pub marks : AreDrawnOver skin rows s reading.pattern bytes
 
--- These bytes show a session: first the text and the last row, and then what is drawn over the text. Each byte of a hit is written in the cells of the hit
--- alone.
+-- these bytes show the numbers of links that have some where they stand, each over the first cells of its link's text
+abbrev pub AreNumbersDrawn : PageSkin → Content → State → List ℕ → Type 0
+AreNumbersDrawn skin content s bytes = AreNumbersShown (paged_skin skin) skin.number (room_of skin s) s.laid.lines.items s.laid.fronts.items s.page.top (numbers_shown content s) bytes
+
+-- These bytes show a session: first the text and the last row, then what is drawn over the text, and last numbers of links. Each byte of a hit is written in
+-- the cells of the hit alone.
 pub record IsDrawing (skin : PageSkin) (name : List ℕ) (content : Content) (s : State) (bytes : List ℕ) : Type 0 where
   pub panes : List ℕ
   pub hits : List ℕ
-  pub are : bytes ≡ panes ++ hits
+  pub numbers : List ℕ
+  pub are : bytes ≡ panes ++ (hits ++ numbers)
   pub drawn : ArePanesDrawn skin name s panes
   pub marked : AreHitsDrawn skin (own_rows skin content s) s hits
+  pub numbered : AreNumbersDrawn skin content s numbers
 
 -- the picture of a session; on a screen that shows nothing it has no byte
 pub record IsPicture (skin : PageSkin) (name : List ℕ) (content : Content) (s : State) (bytes : List ℕ) : Type 0 where

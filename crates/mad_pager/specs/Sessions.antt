@@ -22,7 +22,7 @@ use Rattle.mad_page_skin.specs.declared.text_room.TextRoom.{TextRoom}
 use Rattle.mad_rows.specs.RowStyles.{line_rules}
 use Rattle.mad_rows.specs.declared.row_skin.RowSkin.{RowSkin}
 use Rattle.mad_page.specs.PageKeys.{after_key, after_mouse, is_break}
-use Rattle.mad_page.specs.Pages.{in_sight, row_number, shows_row}
+use Rattle.mad_page.specs.Pages.{at_row, in_sight, row_number, shows_row}
 use Rattle.mad_page.specs.declared.commands.Ask.{Ask}
 use Rattle.mad_page.specs.declared.commands.Ask.TheVariants.{Search, SearchBack, Next, Previous, NextHeader, PreviousHeader, Forget, Help, Links, Contents, NextFile, PreviousFile, Reload, Edit, Size, Quit}
 use Rattle.mad_page.specs.declared.page.Files.{Files}
@@ -160,6 +160,11 @@ at_found (Some row) s = record s { page = in_sight s.page row; found = Some row;
 abbrev pub at_header : Option ℕ → State → State
 at_header None s = s
 at_header (Some row) s = record s { page = record s.page { top = row } }
+
+-- the same with this row on top, or the text's last one, if one is to be
+abbrev pub at_row_or : Option ℕ → State → State
+at_row_or None s = s
+at_row_or (Some row) s = record s { page = at_row s.page row }
 
 -- nothing is sought any more
 abbrev pub forgotten : State → State

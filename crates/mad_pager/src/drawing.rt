@@ -6,7 +6,7 @@ ghost use Rattle.mad_patterns.specs.Readings.{reading_of};
 ghost use Rattle.mad_pager.specs.Pictures.{picture_trace};
 ghost use Rattle.mad_pager.specs.Sessions.{state_of};
 ghost use Rattle.mad_outline.specs.Sources.{content_of};
-ghost use Rattle.mad_pager.specs.Screens.{AreLinesShown, AreMarks, ArePanesDrawn, IsDrawing, IsFieldRow, IsFieldShown, IsLastRow, IsPicture, IsShown, IsUnshown, bar_of, is_small, question, room_of};
+ghost use Rattle.mad_pager.specs.Screens.{AreLinesShown, AreMarks, AreNumbersDrawn, ArePanesDrawn, IsDrawing, IsFieldRow, IsFieldShown, IsLastRow, IsPicture, IsShown, IsUnshown, bar_of, is_small, question, room_of};
 
 use crate::picture::Picture;
 use crate::places::{field_row, prompt_cell, room_on, text_area};
@@ -14,6 +14,7 @@ use crate::session::Session;
 use crate::sizes::{height_of, paged_skin};
 use mad_draw::{Rows, ScrollBar, draw_rows};
 use mad_hits::{RowRoom, draw_page_rows, draw_row_hits, left_columns};
+use mad_link_places::draw_numbers;
 use mad_patterns::Sought;
 use mad_style::StyledChar;
 use mad_term::{Error, Out, put_all};
@@ -69,13 +70,14 @@ impl Session<'_> {
         self.page.columns < LEAST_COLUMNS || self.page.rows < LEAST_ROWS
     }
 
-    // Draws the text beside its bar, in the last row what is typed or the status, and last what comes over the text.
+    // Draws the text beside its bar, in the last row what is typed or the status, and last what comes over the text: hits, and then numbers of links.
     fn draw<O: Out>(&self, alloc: Global, out: &mut O) -> Result<(), Error>
         requires { is_small (state_of self.now) ≡ false }
         ensures { OnOk result (TookWith (O.seen out.old) (O.seen out.new) (IsDrawing self.now.skin.now self.now.name.now (content_of self.now.source) (state_of self.now))) }
     {
         self.draw_panes(alloc, out)?;
         self.draw_over(alloc, out)?;
+        self.draw_link_numbers(alloc, out)?;
         Ok(())
     }
 
@@ -113,6 +115,25 @@ impl Session<'_> {
             self.room(),
             self.page.body_rows(),
             pattern,
+        )?;
+        Ok(())
+    }
+
+    // Draws the numbers of links that have some where they stand.
+    fn draw_link_numbers<O: Out>(&self, alloc: Global, out: &mut O) -> Result<(), Error>
+        ensures { OnOk result (TookWith (O.seen out.old) (O.seen out.new) (AreNumbersDrawn self.now.skin.now (content_of self.now.source) (state_of self.now))) }
+    {
+        let places = self.numbers_shown(alloc)?;
+        draw_numbers(
+            alloc,
+            out,
+            &paged_skin(self.skin),
+            self.skin.number,
+            self.laid.lines.as_slice(),
+            self.laid.fronts.as_slice(),
+            self.page.top,
+            self.room(),
+            places.as_slice(),
         )?;
         Ok(())
     }

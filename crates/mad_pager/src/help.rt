@@ -25,7 +25,7 @@ pub const HELP: &str = "# Keys
 |/; ?|seeks a text, on or back: Enter, Esc; Up: earlier ones|
 |n, N|the next row that has it; the one before|
 |Esc, Alt-U|forgets it|
-|l|the addresses of the links on the screen|
+|l|numbers at links: one and Enter opens it, l lists them|
 |:n, :p|the next file; the one before|
 |R; v|reads the file again; opens an editor of it here|
 |h, F1|this page|

@@ -7,12 +7,13 @@
 //! 3. [`typing`], [`finding`]: what is sought, and the rows that have it.
 //! 4. [`places`]: where all is on the screen; [`status`]: its last row.
 //! 5. [`picture`]: bytes that are drawn in memory; [`own_rows`]: what comes over the text; [`drawing`]: the whole screen.
-//! 6. [`help`]: the page of help; [`pager`]: a text, and a page over it while one is open.
+//! 6. [`help`]: the page of help; [`following`]: links that have numbers; [`pager`]: a text, and a page over it while one is open.
 //! 7. [`laws`]: what marking hits changes, and what Up brings.
 #![tactic(auto)]
 
 mod drawing;
 mod finding;
+mod following;
 mod help;
 pub mod laws;
 mod over;

@@ -1,7 +1,8 @@
 //! A page over a text: what it shows, and what keys say there.
 
 ghost use Rattle.std.specs.Prelude.{◌≡◌, IfOk, OnOk, slice_index};
-ghost use Rattle.mad_pager.specs.Pagers.{choice_after, content_chosen, contents_page, has_choice, header_row, is_enter, key_over, last_row_of, leaf_of, links_page, over_answer, row_at, sighted, size_to_lay, IsChoice};
+ghost use Rattle.mad_pager.specs.Following.{last_row_of, sections_shown};
+ghost use Rattle.mad_pager.specs.Pagers.{choice_after, content_chosen, contents_page, has_choice, header_row, is_enter, key_answer, key_over, leaf_of, links_page, over_answer, row_at, sighted, size_to_lay, IsChoice};
 ghost use Rattle.mad_pager.specs.Sessions.{at_header, state_of, HasSameText};
 ghost use Rattle.mad_outline.specs.Sources.{content_of, said_of, text_said};
 
@@ -22,6 +23,10 @@ pub(crate) enum Answer {
     Takes,
     /// To choose another header.
     Chooses(KeyEvent),
+    /// To list the links of the text that is shown.
+    Lists,
+    /// To follow the link of this index among those of the text.
+    Follows(usize),
     /// What it says of any text.
     Passes,
 }
@@ -46,8 +51,8 @@ fn key_over(key: KeyEvent, has_choice: bool) -> Answer
     }
 }
 
-// Whether a key is Enter, without modifiers.
-fn is_enter(key: KeyEvent) -> bool
+/// Whether a key is Enter, without modifiers.
+pub(crate) fn is_enter(key: KeyEvent) -> bool
     ensures { result ≡ is_enter key }
 {
     key.modifiers == KeyModifiers::NONE && key.code == KeyCode::Enter
@@ -59,10 +64,18 @@ impl<'s> Session<'s> {
         ensures { result ≡ over_answer event (leaf_of self.now) }
     {
         match event {
-            Event::Key(key) if !self.is_typing && !self.page.has_colon => {
-                key_over(key, self.has_choice())
-            }
+            Event::Key(key) if !self.is_typing && !self.page.has_colon => self.key_answer(key),
             _ => Answer::Passes,
+        }
+    }
+
+    // What a key says while this page is over the text, and nothing is being typed: of links, or else as on any page.
+    fn key_answer(&self, key: KeyEvent) -> Answer
+        ensures { result ≡ key_answer key (leaf_of self.now) }
+    {
+        match self.link_answer(key) {
+            Some(answer) => answer,
+            None => key_over(key, self.has_choice()),
         }
     }
 
@@ -142,12 +155,13 @@ impl<'s> Session<'s> {
         }
     }
 
-    // The text that is shown; where none is, an empty one.
-    fn paged(&self) -> PagedText<'s>
+    // The text that is shown, with numbers or without; where none is, an empty one.
+    pub(crate) fn paged(&self) -> PagedText<'s>
         ensures { text_said result ≡ said_of (content_of self.now.source) }
     {
         match self.source {
             Source::Text(text) => text,
+            Source::Numbered(text) => text,
             _ => PagedText::Lines(""),
         }
     }
@@ -159,13 +173,21 @@ impl<'s> Session<'s> {
         match self.paged() {
             PagedText::Lines(_) => Source::Text(PagedText::Lines(NEVER_LINKS)),
             PagedText::Plain(_) => Source::Text(PagedText::Lines(NEVER_LINKS)),
-            PagedText::Markdown(markdown, _) => {
-                let starts = self.laid.starts.as_slice();
-                let first = section_at(starts, self.page.top);
-                let last = section_at(starts, self.last_row());
-                Source::Links(markdown, first, last.saturating_add(1))
+            PagedText::Markdown(markdown, _, source) => {
+                let (from, to) = self.sections_shown();
+                Source::Links(markdown, source, from, to)
             }
         }
+    }
+
+    // The index of the first section on the screen, and of the one behind the last.
+    pub(crate) fn sections_shown(&self) -> (usize, usize)
+        ensures { result ≡ sections_shown (state_of self.now) }
+    {
+        let starts = self.laid.starts.as_slice();
+        let first = section_at(starts, self.page.top);
+        let last = section_at(starts, self.last_row());
+        (first, last.saturating_add(1))
     }
 
     // The text's row in the last row of the screen that it has.

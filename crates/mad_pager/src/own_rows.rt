@@ -49,7 +49,8 @@ impl Session<'_> {
     {
         match self.source {
             Source::Text(text) => self.draw_read_text(alloc, out, text, reading),
-            Source::Links(_, _, _) => self.draw_marks(alloc, out, reading),
+            Source::Numbered(text) => self.draw_read_text(alloc, out, text, reading),
+            Source::Links(_, _, _, _) => self.draw_marks(alloc, out, reading),
             Source::Contents(_, _) => self.draw_marks(alloc, out, reading),
         }
     }
@@ -66,7 +67,7 @@ impl Session<'_> {
     {
         match text {
             PagedText::Lines(_) => self.draw_marks(alloc, out, reading),
-            PagedText::Markdown(_, _) => self.draw_marks(alloc, out, reading),
+            PagedText::Markdown(_, _, _) => self.draw_marks(alloc, out, reading),
             PagedText::Plain(text) => self.draw_plain(alloc, out, text, reading),
         }
     }

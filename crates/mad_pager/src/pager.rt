@@ -1,14 +1,15 @@
 //! A pager: a text, and a page over it while one is open.
 
 ghost use Rattle.std.specs.Prelude.{◌≡◌, IfOk, OnErr, OnOk, MatchResult, None, option_map};
-ghost use Rattle.mad_pager.specs.Pagers.{begun, leaf_of, pasted_in, turn_in, turn_over, view_of, IsDoneOver, IsOpened, IsOverSettled, IsOverStart, IsOverStep, IsPageStart, IsStep, IsTextStep, IsViewSettled, IsViewShown, IsViewUnshown};
+ghost use Rattle.mad_pager.specs.Pagers.{begun, leaf_of, opened_name, pasted_in, turn_in, turn_over, view_of, links_opened, IsDoneOver, IsLinksStart, IsOpened, IsOverSettled, IsOverStart, IsOverStep, IsPageStart, IsStep, IsTextStep, IsViewSettled, IsViewShown, IsViewUnshown};
 ghost use Rattle.mad_pager.specs.Sessions.{state_of, turn_of};
-ghost use Rattle.mad_outline.specs.Sources.{content_of, text_said};
+ghost use Rattle.mad_outline.specs.Sources.{content_of, said_of, text_said};
 
+use crate::following::top_of;
 use crate::help::{HELP, HELP_NAME};
 use crate::over::Answer;
 use crate::session::{Overlay, Session, Turn};
-use mad_outline::{CONTENTS_NAME, LINKS_NAME, Source};
+use mad_outline::{CONTENTS_NAME, LINKS_NAME, NUMBERS_NAME, Source};
 use mad_page::Files;
 use mad_page_skin::PageSkin;
 use mad_search::PagedText;
@@ -170,8 +171,7 @@ impl<'s> Pager<'s> {
                 Ok(over)
             }
             Overlay::Links => {
-                let source = self.text.links();
-                let over = self.page_of(alloc, LINKS_NAME, source)?;
+                let over = self.links_over(alloc)?;
                 Ok(over)
             }
             Overlay::Contents => {
@@ -180,6 +180,16 @@ impl<'s> Pager<'s> {
                 Ok(over)
             }
         }
+    }
+
+    // The start of the page that the key for links opens: a text with numbers stays where it is.
+    fn links_over(&self, alloc: Global) -> Result<Session<'s>, AllocError>
+        ensures { IfOk result (λ over. IsLinksStart (links_opened (said_of (content_of self.now.text.source)) (state_of self.now.text)) (leaf_of self.now.text) (leaf_of over)) }
+    {
+        let source = self.text.links_opened();
+        let mut over = self.page_of(alloc, opened_name(source), source)?;
+        over.page.top = top_of(source, self.text.page.top);
+        Ok(over)
     }
 
     // The start of a page that shows this, on the screen that the text has.
@@ -216,7 +226,7 @@ impl<'s> Pager<'s> {
     ) -> Result<Turn, AllocError>
         requires { self.now.over ≡ None }
         ensures step { OnOk result (IsOverStep event (leaf_of over.entry) (leaf_of self.old.text) (view_of self.new)) }
-        ensures turn { IfOk result (λ turn. turn ≡ turn_over event (leaf_of over.entry)) }
+        ensures turn { IfOk result (λ turn. turn ≡ turn_over event (leaf_of over.entry) (leaf_of self.old.text)) }
         ensures err { OnErr result (self.new.over ≡ None) }
     {
         match over.over_answer(event) {
@@ -230,6 +240,16 @@ impl<'s> Pager<'s> {
                 over.choose(alloc, key)?;
                 self.over = Some(over);
                 Ok(Turn::Goes)
+            }
+            Answer::Lists => {
+                let source = over.links();
+                let listed = self.page_of(alloc, LINKS_NAME, source)?;
+                self.over = Some(listed);
+                Ok(Turn::Goes)
+            }
+            Answer::Follows(index) => {
+                let turn = self.text.follow(alloc, index)?;
+                Ok(turn)
             }
             Answer::Passes => {
                 let turn = self.pass_over(alloc, over, event)?;
@@ -255,5 +275,15 @@ impl<'s> Pager<'s> {
         let turn = over.apply(alloc, event)?;
         self.over = Some(over);
         Ok(turn)
+    }
+}
+
+// The name of what the key for links opens.
+fn opened_name(source: Source<'_>) -> &'static str
+    ensures { result.now ≡ opened_name (content_of source.entry) }
+{
+    match source {
+        Source::Numbered(_) => NUMBERS_NAME,
+        _ => LINKS_NAME,
     }
 }

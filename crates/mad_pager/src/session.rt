@@ -21,7 +21,7 @@ use std::alloc::{AllocError, Global};
 pub enum Overlay {
     /// What keys do.
     Help,
-    /// The addresses of the links on the screen.
+    /// The text with numbers at the links on the screen.
     Links,
     /// The headers of the text, to choose one.
     Contents,
@@ -40,6 +40,8 @@ pub enum End {
     Reload(usize),
     /// An editor of the file is to be opened where this row is, and the text then shown again.
     Edit(usize),
+    /// What a link leads to is to be shown, and the text then from the row of this number on. The link is that of this index among the text's.
+    Follow(usize, usize),
 }
 
 /// How a session goes on after an event.

@@ -1,3 +1,4 @@
 pub mod KnownLemmas
 pub mod PieceLemmas
 pub mod StyleLemmas
+pub mod PlacedLemmas

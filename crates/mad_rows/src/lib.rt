@@ -6,12 +6,13 @@
 //! 2. [`rows`]: where a line is in its row, and the columns that no text fills.
 //! 3. [`composites`], [`tables`], [`lines`]: a composite, a line of a table, and any line or row as displayed values.
 //! 4. [`style_commands`]: the commands of a style, made once.
-//! 5. [`row_writing`]: lines and rows put after a string.
+//! 5. `placed_writing`, [`row_writing`]: lines and rows put after a string.
 #![tactic(auto)]
 
 pub mod composites;
 pub mod lines;
 pub mod page_styles;
+mod placed_writing;
 pub mod row_skin;
 pub mod row_writing;
 pub mod rows;

@@ -7,6 +7,7 @@ ghost use Rattle.mad_rows.specs.Rows.{compound_piece, composite_pieces, line_byt
 
 use crate::composites::PlacedComposite;
 use crate::lines::{PlacedLine, PlacedRow};
+use crate::placed_writing::{append_placed, append_table_row};
 use crate::row_skin::{RowSkin, is_bare};
 use crate::rows::{know_row, line_blanks, row_blanks};
 use crate::style_commands::StyleCommands;
@@ -52,6 +53,10 @@ pub fn append_line(
 {
     match line {
         FmtLine::Normal(composite) => append_composite(rows, composite, width, skin, commands)?,
+        FmtLine::TableRow(row) => {
+            rows.reserve(line_blanks(skin, line, width, false))?;
+            append_table_row(rows, &row.cells, width, skin, commands)?;
+        }
         line => {
             rows.reserve(line_blanks(skin, line, width, false))?;
             let placed = PlacedLine {
@@ -77,12 +82,7 @@ fn append_composite(
     ensures { OnOk result (string_bytes rows.new ≡ string_bytes rows.old ++ pieces_bytes (composite_pieces skin.now width (margins_of skin.now width composite.now) false composite.now)) }
 {
     let placed = PlacedComposite::at(skin, composite, width, false);
-    let style = skin.line_style(composite.kind);
-    let (front, end) = placed.ends(style);
-    rows.reserve(front.columns().saturating_add(end.columns()))?;
-    write!(rows, "{front}")?;
-    append_compounds(rows, &composite.compounds, style, skin, commands)?;
-    write!(rows, "{end}")
+    append_placed(rows, placed, commands)
 }
 
 /// Puts the compounds of a line of that style after the rows that are there.

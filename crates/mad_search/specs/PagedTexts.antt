@@ -32,13 +32,13 @@ row_sections width lines = map (λ (line : List StyledChar). plain_section (row_
 -- those of the lines that the text is read as, or those of the Markdown that was read; of text that isn't Markdown none
 abbrev pub paged_sections : PagedText → List SectionContent
 paged_sections (Lines source) = plain_sections (lines_of (unread_text false source.now))
-paged_sections (Markdown markdown dressings) = markdown_says markdown.now
+paged_sections (Markdown markdown dressings source) = markdown_says markdown.now
 paged_sections (Plain text) = []
 
 -- those that are shown at a width: of text that isn't Markdown its rows, and of another one the same at all widths
 abbrev pub sections_shown : PagedText → ℕ → List SectionContent
 sections_shown (Lines source) width = paged_sections (Lines source)
-sections_shown (Markdown markdown dressings) width = paged_sections (Markdown markdown dressings)
+sections_shown (Markdown markdown dressings source) width = paged_sections (Markdown markdown dressings source)
 sections_shown (Plain text) width = row_sections width (lines_kept text.now)
 
 -- sections in groups: each with what is put into the page with it, in order; those past the last of that stay
@@ -50,7 +50,7 @@ grouped (put ∷ puts) (section ∷ page) = dressed_by put section ∷ grouped p
 -- what is put into the page of a text with each of its sections; only Markdown has such
 abbrev pub puts_of : PagedText → List Put
 puts_of (Lines source) = []
-puts_of (Markdown markdown dressings) = map put_of dressings.now
+puts_of (Markdown markdown dressings source) = map put_of dressings.now
 puts_of (Plain text) = []
 
 -- the sections that are shown of a text at a width, in groups

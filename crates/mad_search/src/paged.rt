@@ -23,8 +23,8 @@ use std::alloc::{AllocError, Global};
 pub enum PagedText<'s> {
     /// A text whose lines stand for themselves, as [`mad_md::parse_text`] reads it.
     Lines(&'s str),
-    /// Markdown as people write it, which was read, and what is put into its page with each of its sections.
-    Markdown(&'s Markdown, &'s [Dressing]),
+    /// Markdown as people write it, which was read, what is put into its page with each of its sections, and the text that it was read from.
+    Markdown(&'s Markdown, &'s [Dressing], &'s str),
     /// A text that isn't Markdown.
     Plain(&'s PlainText<'s>),
 }
@@ -44,7 +44,7 @@ impl<'s> PagedText<'s> {
                 let page = lines_page(alloc, source)?;
                 Ok(page)
             }
-            PagedText::Markdown(markdown, _) => {
+            PagedText::Markdown(markdown, _, _) => {
                 let page = markdown.page(alloc)?;
                 Ok(page)
             }
@@ -76,7 +76,7 @@ impl<'s> PagedText<'s> {
                 let page = lines_page(alloc, source)?;
                 Ok(page)
             }
-            PagedText::Markdown(markdown, _) => {
+            PagedText::Markdown(markdown, _, _) => {
                 let page = markdown.page(alloc)?;
                 Ok(page)
             }
@@ -93,7 +93,7 @@ impl<'s> PagedText<'s> {
     {
         match self {
             PagedText::Lines(_) => &[],
-            PagedText::Markdown(_, dressings) => dressings,
+            PagedText::Markdown(_, dressings, _) => dressings,
             PagedText::Plain(_) => &[],
         }
     }

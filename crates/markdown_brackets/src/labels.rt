@@ -41,6 +41,18 @@ impl Labels {
         }
     }
 
+    /// The same labels, which are owned.
+    ///
+    /// # Errors
+    ///
+    /// Out of memory is the only error.
+    pub fn copied(&self) -> Result<Labels, AllocError>
+        ensures { IfOk result (λ labels. labels ≡ self.now) }
+    {
+        let numbers = self.numbers.clone()?;
+        Ok(Labels { numbers })
+    }
+
     /// The number of a label in the list, from 0 on.
     pub fn number_of(&self, label: &str) -> Option<usize>
         ensures { result ≡ position (bytes_eq label.now) self.now }

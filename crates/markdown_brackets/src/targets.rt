@@ -91,8 +91,8 @@ fn label_len(text: &[u8]) -> Option<usize>
     }
 }
 
-// The same of a label in brackets of its own.
-fn full_label_len(rest: &[u8]) -> Option<usize>
+/// How many bytes a label in brackets of its own has, if one is in front.
+pub fn full_label_len(rest: &[u8]) -> Option<usize>
     ensures value { result ≡ full_label_len rest.now }
     ensures within { IfSome result (λ len. len + 1 ≤ length rest.now) }
 {
@@ -120,7 +120,8 @@ fn shortcut_len(inside: &[u8], rest: usize) -> Option<usize>
     }
 }
 
-fn collapsed_len(rest: &[u8]) -> usize
+/// How many bytes brackets in front have that hold nothing, 0 without such.
+pub fn collapsed_len(rest: &[u8]) -> usize
     ensures { result ≡ collapsed_len rest.now }
 {
     match rest {

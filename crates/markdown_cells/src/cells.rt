@@ -114,7 +114,7 @@ fn push_last(text: &mut Vec<u8>, escaped: bool) -> Result<(), AllocError>
 pub fn cell_text(alloc: Global, cell: &[u8]) -> Result<Vec<u8>, AllocError>
     ensures { IfOk result (λ text. text.items ≡ unbarred [] false cell.now) }
 {
-    let mut text = Vec::new(alloc);
+    let mut text = Vec::with_capacity(alloc, cell.len())?;
     let mut rest = cell;
     let mut escaped = false;
     while let [byte, next @ ..] = rest {

@@ -33,3 +33,7 @@ look_of flags tags code link picture =
       link = link;
       picture = picture;
     }
+
+-- how a text looks that has no flag and belongs to no link, and that no picture says
+abbrev pub plain_look : Look
+plain_look = record { bold = false; italic = false; strikeout = false; code = false; link = None; picture = None }

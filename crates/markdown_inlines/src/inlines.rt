@@ -1,17 +1,18 @@
 //! The inlines of a leaf's text.
 
-ghost use Rattle.std.specs.Prelude.{◌≡◌, ◌<◌, ◌^◌, ◌++◌, List, true, IfOk, OnOk, length};
+ghost use Rattle.std.specs.Prelude.{◌≡◌, ◌<◌, ◌^◌, ◌++◌, [], List, true, IfOk, OnOk, length, map};
 ghost use Rattle.std.specs.List.{All};
 ghost use Rattle.markdown_emphasis.specs.Pairs.{IsWithin};
 ghost use Rattle.markdown_pieces.specs.Places.{AreCut};
 ghost use Rattle.markdown_inlines.specs.declared.inlines.LinkTarget.{LinkTarget};
-ghost use Rattle.markdown_inlines.specs.Looks.{look_of};
+ghost use Rattle.markdown_inlines.specs.Looks.{look_of, plain_look};
+ghost use Rattle.markdown_inlines.specs.Parts.{shown_text};
 ghost use Rattle.markdown_inlines.specs.Inlines.{is_code, target_by, html_target, link_target, with_link, links_from, all_over, shown_from, shown_cut, leaf_text, are_shown, leaf_links};
-ghost use Rattle.markdown_inlines.specs.Styled.{spelled_of, IsStyled};
+ghost use Rattle.markdown_inlines.specs.Styled.{shown_with, spelled_of, IsStyled};
 
 use crate::left::left_of;
 use crate::links::{Over, overs_of};
-use crate::looks::{Look, look_of};
+use crate::looks::{Look, look_of, plain_look};
 use crate::parts::push_piece;
 use crate::styled::Styled;
 use crate::tags::tagged;
@@ -19,7 +20,7 @@ use markdown_addresses::addresses::Scheme;
 use markdown_brackets::labels::Labels;
 use markdown_brackets::targets::Target;
 use markdown_emphasis::{Flags, Pair, flag_pieces};
-use markdown_pieces::cut::cut_text;
+use markdown_pieces::cut::{cut_text, is_quiet};
 use markdown_pieces::pieces::{Kind, Piece};
 use markdown_spans::attributes::{Html, Value};
 use std::alloc::{AllocError, Global};
@@ -188,6 +189,21 @@ pub fn cut_shown(
     Ok(leaf)
 }
 
+// What is shown of a text of which each byte stands for itself.
+fn quiet_text(alloc: Global, text: &str) -> Result<LeafText, AllocError>
+    ensures shown { IfOk result (λ leaf. spelled_of leaf.styled ≡ map (shown_with plain_look) (shown_text text.now)) }
+    ensures styled { IfOk result (λ leaf. IsStyled leaf.styled) }
+    ensures links { IfOk result (λ leaf. leaf.links.items ≡ []) }
+{
+    let mut styled = Styled::with_capacity(alloc, text.len())?;
+    let look = plain_look();
+    styled.push_text(text, &look)?;
+    Ok(LeafText {
+        styled,
+        links: Vec::new(alloc),
+    })
+}
+
 /// What is shown of a leaf's text, with links to these definitions. It has no control character but the newlines that break its lines,
 /// and none that turns the direction of writing.
 ///
@@ -200,6 +216,10 @@ pub fn leaf_text(alloc: Global, labels: &Labels, text: &str) -> Result<LeafText,
     ensures styled { IfOk result (λ leaf. IsStyled leaf.styled) }
     ensures links { IfOk result (λ leaf. leaf.links.items ≡ leaf_links labels.now text.now) }
 {
+    if is_quiet(text) {
+        let quiet = quiet_text(alloc, text)?;
+        return Ok(quiet);
+    }
     let cut = cut_text(alloc, labels, text)?;
     let leaf = cut_shown(alloc, text, &cut.pieces, &cut.pairs)?;
     Ok(leaf)

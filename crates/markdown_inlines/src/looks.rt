@@ -1,7 +1,7 @@
 //! How a text looks.
 
 ghost use Rattle.std.specs.Prelude.{◌≡◌};
-ghost use Rattle.markdown_inlines.specs.Looks.{is_same, is_same_number, is_same_look, look_of};
+ghost use Rattle.markdown_inlines.specs.Looks.{is_same, is_same_number, is_same_look, look_of, plain_look};
 
 use crate::tags::TagFlags;
 use markdown_emphasis::Flags;
@@ -47,6 +47,20 @@ pub fn is_same_look(a: &Look, b: &Look) -> bool
         && is_same(a.code, b.code)
         && is_same_number(a.link, b.link)
         && is_same_number(a.picture, b.picture)
+}
+
+/// The look of a text with no flag, in no link and no picture.
+pub(crate) fn plain_look() -> Look
+    ensures { result ≡ plain_look }
+{
+    Look {
+        bold: false,
+        italic: false,
+        strikeout: false,
+        code: false,
+        link: None,
+        picture: None,
+    }
 }
 
 /// The look of a text with these flags by marks and by tags, which belongs to this link, and which this picture says. What a picture says is of its

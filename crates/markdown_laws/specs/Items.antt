@@ -45,7 +45,8 @@ abbrev pub begins_text : List ℕ → Bool
 begins_text [] = false
 begins_text (b ∷ bs) = not (b == 32) && not (list_all (λ c. (c == 62) || (c == 32)) (b ∷ bs))
 
--- A line with a marker, and lines that are indented as what follows it, are an item, which holds what the lines without the marker and the indent are.
+-- A text of a line with a marker, and of lines that are indented as what follows it, is an item, which holds what the lines without the marker and the indent are.
+-- They have no tabs, and 63 containers at most are in it.
 abbrev pub ItemHoldsItsLines : Type 0
 ItemHoldsItsLines = (text held first one : List ℕ) (lines others : List (List ℕ)) (marker : Marker) (content : ℕ)
     → text_lines text ≡ first ∷ lines → text_lines held ≡ one ∷ others → BeginsItem first one marker content → AreIndented content lines others
@@ -57,7 +58,7 @@ abbrev pub begins_less : ℕ → List (List ℕ) → Bool
 begins_less content [] = true
 begins_less content (line ∷ lines) = not (is_blank line) && not (columns_in_front content (whole line) == content)
 
--- Code in an item that no line closes ends with the item, and what comes after is read as a text of its own.
+-- Code that begins an item, and that no line closes, ends with the item. What comes after is read as a text of its own.
 abbrev pub FenceEndsWithItsItem : Type 0
 FenceEndsWithItsItem = (text after first one fence : List ℕ) (lines others : List (List ℕ)) (marker : Marker) (content sign length : ℕ)
     → text_lines text ≡ first ∷ (lines ++ text_lines after) → BeginsItem first one marker content → AreIndented content lines others

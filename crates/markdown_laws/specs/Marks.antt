@@ -13,12 +13,13 @@ pub record BeginsWith (text : List ℕ) (indent : ℕ) (bytes after : List ℕ) 
   pub few : indent < 4
   pub lines : text_lines text ≡ (replicate indent 32 ++ bytes) ∷ text_lines after
 
--- A line that begins as a heading is one: its text is what is behind the signs #, and what comes after is read as a text of its own.
+-- A line that begins as a heading is one: its text is what is behind the signs #, without blanks at both ends and without
+-- the signs that close it. What comes after is read as a text of its own.
 abbrev pub HeadingIsItsLine : Type 0
 HeadingIsItsLine = (text bytes after : List ℕ) (indent level : ℕ) → BeginsWith text indent bytes after → heading_level bytes ≡ Some level
     → (heading : BlockContent) × (heading.kind ≡ Heading level) × (map text_of heading.lines ≡ heading_text (drop level bytes) ∷ []) × (parts_of text ≡ block heading ∷ parts_of after)
 
--- So is a thematic break, but where a paragraph is open: there hyphens underline it.
+-- So is a thematic break in a text's first line.
 abbrev pub BreakIsItsLine : Type 0
 BreakIsItsLine = (text bytes after : List ℕ) (indent : ℕ) → BeginsWith text indent bytes after → is_rule bytes ≡ true
     → (rule : BlockContent) × (rule.kind ≡ Rule) × (parts_of text ≡ block rule ∷ parts_of after)

@@ -47,7 +47,7 @@ spelled (begins container apart) = begins container apart
 spelled ends = ends
 spelled (block leaf) = block (record leaf { lines = map (λ (line : Remaining). whole (text_of line)) leaf.lines })
 
--- Lines that each have a sign > in front are a quote, which holds what the lines without the signs are.
+-- A text all of whose lines have a sign > in front is a quote, which holds what the lines without the signs are. They have no tabs, and 63 containers at most are in it.
 abbrev pub QuoteHoldsItsLines : Type 0
 QuoteHoldsItsLines = (text held : List ℕ)
     → AreQuoted (text_lines text) (text_lines held) → (length held == 0) ≡ false → list_all has_no_tab (text_lines held) ≡ true → has_room 63 (parts_of held) ≡ true
@@ -58,7 +58,7 @@ abbrev pub begins_outside : List (List ℕ) → Bool
 begins_outside [] = true
 begins_outside (line ∷ lines) = is_none (goes_on Quote false (whole line))
 
--- Code in a quote that no line closes ends with the quote, and what comes after is read as a text of its own.
+-- Code that begins a quote, and that no line closes, ends with the quote. What comes after is read as a text of its own.
 abbrev pub FenceEndsWithItsQuote : Type 0
 FenceEndsWithItsQuote = (text after first fence : List ℕ) (quoted lines : List (List ℕ)) (indent sign length : ℕ)
     → text_lines text ≡ quoted ++ text_lines after → AreQuoted quoted (first ∷ lines) → list_all has_no_tab (first ∷ lines) ≡ true

@@ -39,6 +39,7 @@ lines_told (begins container apart ∷ parts) = lines_told parts
 lines_told (ends ∷ parts) = lines_told parts
 lines_told (block leaf ∷ parts) = map bytes_of leaf.lines ++ lines_told parts
 
--- The parts of a text tell all its lines in their order, each once, but for markup.
+-- The parts of a text tell all its lines in their order, each once, but for characters that signs have, in front of it and behind it. That these are signs isn't said
+-- here.
 abbrev pub PartsTellAllLines : Type 0
 PartsTellAllLines = (text : List ℕ) → AreTold (text_lines text) (lines_told (parts_of text))

@@ -33,7 +33,7 @@ pub fn heading_is_its_line()
     ensures { HeadingIsItsLine }
 {}
 
-/// So is a thematic break where no paragraph is open.
+/// So is a thematic break in a text's first line.
 #[tactic(auto, using(crate::proofs::MarkLemmas::thematic_break))]
 pub fn break_is_its_line()
     ensures { BreakIsItsLine }
@@ -45,29 +45,30 @@ pub fn lines_are_all()
     ensures { LinesAreAll }
 {}
 
-/// Lines that each have a sign > in front are a quote, which holds what the lines without the signs are.
+/// A text all of whose lines have a sign > in front is a quote, which holds what the lines without the signs are: of lines without tabs, and of 63 containers in it at
+/// most.
 #[tactic(auto, using(crate::proofs::QuoteLemmas::quote))]
 pub fn quote_holds_its_lines()
     ensures { QuoteHoldsItsLines }
 {}
 
-/// A line with a marker, and lines that are indented as what follows it, are an item, which holds what these lines are without.
+/// A text of a line with a marker, and of lines that are indented as what follows it, is an item, which holds what these lines are without, under the same conditions.
 pub fn item_holds_its_lines()
     ensures { ItemHoldsItsLines }
 {}
 
-/// Code in a quote that no line closes ends with the quote, and what comes after is read as a text of its own.
+/// Code that begins a quote, and that no line closes, ends with the quote. What comes after is read as a text of its own.
 #[tactic(auto, using(crate::proofs::QuoteLemmas::fence_in_quote))]
 pub fn fence_ends_with_its_quote()
     ensures { FenceEndsWithItsQuote }
 {}
 
-/// Code in an item that no line closes ends with the item, and what comes after is read as a text of its own.
+/// Code that begins an item, and that no line closes, ends with the item. What comes after is read as a text of its own.
 pub fn fence_ends_with_its_item()
     ensures { FenceEndsWithItsItem }
 {}
 
-/// The parts of a text tell all its lines in their order, each once, but for markup.
+/// The parts of a text tell all its lines in their order, each once, but for characters that signs have, in front of it and behind it.
 #[tactic(auto, using(crate::proofs::WholeTextLemmas::whole))]
 pub fn parts_tell_all_lines()
     ensures { PartsTellAllLines }

@@ -508,7 +508,7 @@ page_fine skin width (s ∷ page) h =
     all_joined IsFineSection (unfolded (table_rules (line_rules skin)) ascii (Some width) s) (sections_at skin width page) (shown_fine (table_rules (line_rules skin)) (room_at ascii width s.gutters) s.list s h.0 h.0.list) (page_fine skin width page h.1)
 
 -- steady and printed sections, whose lines have no sign of their own, keep what drawing asks of texts, whatever stands beside headings and in front of pictures
-keep : (marks : PageMarks) (page : List SectionContent) → IsColumnChar marks.sign → ArePrintedSections page → AreSteadySections page → ArePlainSections page → KeepPremises (dressed_page marks page)
+pub keep : (marks : PageMarks) (page : List SectionContent) → IsColumnChar marks.sign → ArePrintedSections page → AreSteadySections page → ArePlainSections page → KeepPremises (dressed_page marks page)
 keep marks page column p s plain typed skin width wide shown =
     let shown_page : List SectionContent = dressed_page marks page in
     sections_keep skin width (sections_at skin width shown_page) wide shown (page_fine skin width shown_page (fine_sections marks page column typed p s plain))

@@ -253,12 +253,12 @@ neat_chars (c ∷ cs) h =
 
 -- ---- the characters of runs
 
-look_chars : (look : Look) (cs : List ℕ) → is_some look.picture ≡ false → map char_of (map (glyph_of false) (map (shown_with look) cs)) ≡ cs
-look_chars look [] h = refl
-look_chars look (c ∷ cs) h =
-    ap (λ (t : Bool). shown_in t c ∷ map char_of (map (glyph_of false) (map (shown_with look) cs))) h ∙ ap (λ (l : List ℕ). c ∷ l) (look_chars look cs h)
+look_chars : (bold : Bool) (look : Look) (cs : List ℕ) → is_some look.picture ≡ false → map char_of (map (glyph_of bold) (map (shown_with look) cs)) ≡ cs
+look_chars bold look [] h = refl
+look_chars bold look (c ∷ cs) h =
+    ap (λ (t : Bool). shown_in t c ∷ map char_of (map (glyph_of bold) (map (shown_with look) cs))) h ∙ ap (λ (l : List ℕ). c ∷ l) (look_chars bold look cs h)
 
-turned_unpictured : (rs : List TextRun) → AreUnpictured rs → AreUnpictured (reverse rs)
+pub turned_unpictured : (rs : List TextRun) → AreUnpictured rs → AreUnpictured (reverse rs)
 turned_unpictured [] h = refl
 turned_unpictured (r ∷ rs) h =
     ap (list_any is_pictured) (reverse-append (r ∷ []) rs) ∙ list_any-append is_pictured (reverse rs) (r ∷ [])
@@ -269,28 +269,30 @@ turned_unpictured (r ∷ rs) h =
 pub none_pictured : (runs seen : List TextRun) (t : Bool) → t ≡ list_any is_pictured seen → t ≡ false → seen ≡ runs → AreUnpictured runs
 none_pictured runs seen t e f is = ap (list_any is_pictured) (sym is) ∙ sym e ∙ f
 
-spelled_chars : (rs : List TextRun) (text : List ℕ) → IsUtf8 text → AreRuns rs text → AreUnpictured rs → map char_of (map (glyph_of false) (spelled rs text)) ≡ chars text
+-- the characters of runs spell the text
+pub spelled_chars : (bold : Bool) (rs : List TextRun) (text : List ℕ) → IsUtf8 text → AreRuns rs text → AreUnpictured rs → map char_of (map (glyph_of bold) (spelled rs text)) ≡ chars text
 unfolding spelled
-spelled_chars [] text utf8 h plain = sym (chars_of_empty text h)
-spelled_chars (r ∷ rs) text utf8 h plain =
+spelled_chars bold [] text utf8 h plain = sym (chars_of_empty text h)
+spelled_chars bold (r ∷ rs) text utf8 h plain =
     let front : IsUtf8 (take r.start text) = IsUtf8-take text r.start utf8 (border_of rs r text h) in
     let before : List Shown = spelled rs (take r.start text) in
     let here : List Shown = map (shown_with r.look) (chars (drop r.start text)) in
-    ap (map char_of) (map-append (glyph_of false) before here) ∙ map-append char_of (map (glyph_of false) before) (map (glyph_of false) here)
-    ∙ ap (λ (cs : List ℕ). cs ++ map char_of (map (glyph_of false) here)) (spelled_chars rs (take r.start text) front h.3 (no_second (is_pictured r) (list_any is_pictured rs) plain))
-    ∙ ap (λ (cs : List ℕ). chars (take r.start text) ++ cs) (look_chars r.look (chars (drop r.start text)) (no_first (is_pictured r) (list_any is_pictured rs) plain))
+    ap (map char_of) (map-append (glyph_of bold) before here) ∙ map-append char_of (map (glyph_of bold) before) (map (glyph_of bold) here)
+    ∙ ap (λ (cs : List ℕ). cs ++ map char_of (map (glyph_of bold) here)) (spelled_chars bold rs (take r.start text) front h.3 (no_second (is_pictured r) (list_any is_pictured rs) plain))
+    ∙ ap (λ (cs : List ℕ). chars (take r.start text) ++ cs) (look_chars bold r.look (chars (drop r.start text)) (no_first (is_pictured r) (list_any is_pictured rs) plain))
     ∙ sym (chars-append (take r.start text) (drop r.start text) front) ∙ ap chars (take-append-drop r.start text)
 
-neat_glyphs : (rs : List TextRun) (text : List ℕ) → IsUtf8 text → AreRuns rs text → AreUnpictured rs → IsNeat text → IsNeatFrom 10 (map char_of (map (glyph_of false) (spelled rs text)))
-neat_glyphs rs text utf8 are plain neat =
-    subst (IsNeatFrom 10) (sym (spelled_chars rs text utf8 are plain)) (neat_chars (chars text) (subst IsNeat (sym (encodes-chars text utf8)) neat))
+-- so those of a neat text are neat
+pub neat_glyphs : (bold : Bool) (rs : List TextRun) (text : List ℕ) → IsUtf8 text → AreRuns rs text → AreUnpictured rs → IsNeat text → IsNeatFrom 10 (map char_of (map (glyph_of bold) (spelled rs text)))
+neat_glyphs bold rs text utf8 are plain neat =
+    subst (IsNeatFrom 10) (sym (spelled_chars bold rs text utf8 are plain)) (neat_chars (chars text) (subst IsNeat (sym (encodes-chars text utf8)) neat))
 
 -- the rows of a neat text without pictures are those that breaks cut
 pub neat_rows : (runs : List TextRun) (text : List ℕ) → IsUtf8 text → AreRuns (reverse runs) text → AreUnpictured runs → IsNeat text
     → rows_of (trimmed (map (glyph_of false) (spelled (reverse runs) text))) ≡ map whole_row (cut_rows (map (glyph_of false) (spelled (reverse runs) text)))
 neat_rows runs text utf8 are plain neat =
     let gs : List Glyph = map (glyph_of false) (spelled (reverse runs) text) in
-    let h : IsNeatFrom 10 (map char_of gs) = neat_glyphs (reverse runs) text utf8 are (turned_unpictured runs plain) neat in
+    let h : IsNeatFrom 10 (map char_of gs) = neat_glyphs false (reverse runs) text utf8 are (turned_unpictured runs plain) neat in
     ap rows_of (neat_trimmed gs h) ∙ rows_all gs h
 
 -- so are the numbers of its links
@@ -298,7 +300,7 @@ pub neat_numbers : (runs : List TextRun) (text : List ℕ) → IsUtf8 text → A
     → rows_numbers (trimmed (map (glyph_of false) (spelled (reverse runs) text))) ≡ cut_numbers (cut_rows (map (glyph_of false) (spelled (reverse runs) text)))
 neat_numbers runs text utf8 are plain neat =
     let gs : List Glyph = map (glyph_of false) (spelled (reverse runs) text) in
-    let h : IsNeatFrom 10 (map char_of gs) = neat_glyphs (reverse runs) text utf8 are (turned_unpictured runs plain) neat in
+    let h : IsNeatFrom 10 (map char_of gs) = neat_glyphs false (reverse runs) text utf8 are (turned_unpictured runs plain) neat in
     ap rows_numbers (neat_trimmed gs h) ∙ numbers_all gs h
 
 -- ---- as a search finds it

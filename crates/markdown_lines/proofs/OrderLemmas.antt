@@ -236,7 +236,8 @@ run_step A B whole runs index r g text piece within is plain are g_is piece_is s
     ∙ ap (λ (x : Glyph). B (map (like x) (chars (slice_range text r.start (end_before behind text))) ++ rest)) g_is
     ∙ ap B (sym (ahead_cons r behind text 32 plain) ∙ ap (λ (l : List TextRun). map (glyph_of false) (ahead l text)) (sym (run_at runs index r within is))) ∙ h
 
-none_ahead : (runs : List TextRun) (index : ℕ) (text : List ℕ) → length runs ≤ index → map (glyph_of false) (ahead (drop index runs) text) ≡ []
+-- past the last run no character is to come
+pub none_ahead : (runs : List TextRun) (index : ℕ) (text : List ℕ) → length runs ≤ index → map (glyph_of false) (ahead (drop index runs) text) ≡ []
 none_ahead runs index text past = ap (λ (l : List TextRun). map (glyph_of false) (ahead l text)) (drop_all index runs past) ∙ ap (map (glyph_of false)) (ahead_nil text)
 
 cut_none : cut_rows [] ≡ [] ∷ []

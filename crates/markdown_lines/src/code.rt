@@ -1,14 +1,16 @@
 //! Lines of code.
 
-ghost use Rattle.std.specs.Prelude.{◌≡◌, ◌++◌, ◌∷◌, [], IfOk, OnOk, map, chars, encode_utf8_all, string_bytes};
+ghost use Rattle.std.specs.Prelude.{◌≡◌, ℕ, ◌==◌, ◌++◌, ◌∷◌, [], false, IfOk, IsTrue, OnOk, get_or, map, chars, encode_utf8_all, string_bytes};
 ghost use Rattle.markdown_marks.specs.Remaining.{remaining};
 ghost use Rattle.markdown_lines.specs.Code.{spaces, expanded_char, next_column, expanded, code_text, code_line, code_lines};
 ghost use Rattle.markdown_lines.specs.Shown.{shown};
 
 use crate::lines::Lines;
 use mad_md::CompositeStyle;
+use markdown_inlines::plain::push_shown;
 use markdown_inlines::printable::shown_char;
 use markdown_marks::rest::Rest;
+use memchr::memchr;
 use std::alloc::{AllocError, Global};
 
 fn push_spaces(text: &mut String, count: usize) -> Result<(), AllocError>
@@ -35,10 +37,21 @@ fn push_expanded(text: &mut String, column: usize, c: char) -> Result<usize, All
     Ok(column % 4 + 1)
 }
 
-// Adds a text after so many columns.
+// Whether a text has no tabs.
+fn is_without_tabs(text: &[u8]) -> bool
+    ensures { IsTrue result → (k : ℕ) → (get_or text.now k 0 == 9) ≡ false }
+{
+    memchr(b'\t', text).is_none()
+}
+
+// Adds a text after so many columns. One without tabs needs no count of them.
 fn push_text(shown: &mut String, column: usize, text: &str) -> Result<(), AllocError>
     ensures { OnOk result (string_bytes shown.new ≡ string_bytes shown.old ++ encode_utf8_all (expanded column (chars text.now))) }
 {
+    if is_without_tabs(text.as_bytes()) {
+        push_shown(shown, text)?;
+        return Ok(());
+    }
     let mut at = column;
     let mut rest = text.chars();
     while let Some(c) = rest.next() {
@@ -51,7 +64,7 @@ fn push_text(shown: &mut String, column: usize, text: &str) -> Result<(), AllocE
 pub fn code_text(alloc: Global, column: usize, line: Rest<'_>) -> Result<String, AllocError>
     ensures { IfOk result (λ text. string_bytes text ≡ code_text column (remaining line.entry)) }
 {
-    let mut shown = String::new(alloc);
+    let mut shown = String::with_capacity(alloc, line.bytes.len())?;
     push_spaces(&mut shown, column)?;
     push_spaces(&mut shown, line.pending)?;
     let text = String::from_utf8_lossy(alloc, line.bytes)?;

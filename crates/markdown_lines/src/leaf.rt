@@ -1,6 +1,6 @@
 //! What is shown of a leaf's text.
 
-ghost use Rattle.std.specs.Prelude.{◌≡◌, ◌<◌, ◌+◌, [], ◌∷◌, ◌++◌, IfOk, OnOk, IsTrue, false, length, map, string_bytes};
+ghost use Rattle.std.specs.Prelude.{◌≡◌, ◌≤◌, ◌<◌, ◌+◌, [], ◌∷◌, ◌++◌, IfOk, OnOk, IsTrue, false, length, map, string_bytes};
 ghost use Rattle.std.specs.List.{list_any};
 ghost use Rattle.markdown_inlines.specs.Styled.{spelled_of, IsStyled};
 ghost use Rattle.markdown_lines.specs.Glyphs.{glyph_of, trimmed};
@@ -12,11 +12,12 @@ ghost use Rattle.markdown_lines.specs.LinksOf.{defined_of};
 ghost use Rattle.markdown_lines.specs.Said.{said};
 ghost use Rattle.markdown_lines.specs.Shown.{shown};
 
-use crate::glyphs::{Glyph, glyphs_of, spaced, trimmed};
+use crate::glyphs::{Glyph, glyphs_of, trimmed};
 use crate::lines::Lines;
 use crate::links::{Definitions, push_addresses};
 use crate::numbers::{push_numbers, sum};
 use crate::runs::Runs;
+use crate::whole_cells::push_cell;
 use markdown_html_text::pieces::html_pieces;
 use markdown_inlines::inlines::{cut_shown, leaf_text};
 use markdown_inlines::printable::shown_char;
@@ -103,7 +104,7 @@ fn is_alone(text: &[u8], at: usize) -> bool
 }
 
 // Whether no row of a text begins or ends with a blank.
-fn is_neat(text: &[u8]) -> bool
+pub(crate) fn is_neat(text: &[u8]) -> bool
     ensures { IsTrue result → IsNeat text.now }
 {
     if text.is_empty() {
@@ -126,7 +127,7 @@ fn is_neat(text: &[u8]) -> bool
 }
 
 // Whether a picture says characters of these runs.
-fn have_pictures(runs: &[TextRun]) -> bool
+pub(crate) fn have_pictures(runs: &[TextRun]) -> bool
     ensures { result ≡ list_any is_pictured runs.now }
 {
     runs.iter().any(|run| run.look.picture.is_some())
@@ -193,8 +194,8 @@ pub fn read_leaf(alloc: Global, definitions: &Definitions, text: &str) -> Result
     })
 }
 
-/// The runs of a cell with this text, in bold or as they are. It also adds where the links of the cell lead, and for each run that belongs to one
-/// its number: so many links come before these addresses.
+/// Adds the runs of a cell with this text, in bold or as they are. It also adds where the links of the cell lead, and for each run that belongs to
+/// one its number: so many links come before these addresses.
 ///
 /// # Errors
 ///
@@ -202,26 +203,24 @@ pub fn read_leaf(alloc: Global, definitions: &Definitions, text: &str) -> Result
 #[tactic(auto, unfolding(crate::specs::Leaf::cell_runs, crate::specs::LinkNumbers::cell_numbers))]
 pub fn read_cell(
     alloc: Global,
+    runs: &mut Runs,
     addresses: &mut Vec<String>,
     numbers: &mut Vec<usize>,
     before: usize,
     definitions: &Definitions,
     bold: bool,
     text: &str,
-) -> Result<Runs, AllocError>
-    ensures runs { IfOk result (λ runs. said runs ≡ cell_runs (defined_of definitions.now).labels bold text.now) }
+) -> Result<(), AllocError>
+    ensures runs { OnOk result (said runs.new ≡ said runs.old ++ cell_runs (defined_of definitions.now).labels bold text.now) }
+    ensures grows { length (said runs.old) ≤ length (said runs.new) }
     ensures addresses { OnOk result (map string_bytes addresses.new.items ≡ map string_bytes addresses.old.items ++ leaf_addresses (defined_of definitions.now) text.now) }
     ensures numbers { OnOk result (numbers.new.items ≡ numbers.old.items ++ after_links (length addresses.old.items + before) (cell_numbers (defined_of definitions.now).labels bold text.now)) }
 {
     let leaf = leaf_text(alloc, &definitions.labels, text)?;
-    let glyphs = glyphs_of(alloc, bold, &leaf.styled)?;
-    let row = spaced(alloc, bold, trimmed(glyphs.as_slice()))?;
-    let mut runs = Runs::new(alloc);
-    runs.push_glyphs(alloc, row.as_slice())?;
     let links = sum(addresses.len(), before)?;
-    push_numbers(numbers, links, row.as_slice())?;
+    push_cell(alloc, runs, numbers, links, bold, &leaf.styled)?;
     push_addresses(alloc, addresses, &definitions.addresses, text, &leaf.links)?;
-    Ok(runs)
+    Ok(())
 }
 
 /// The rows of a leaf of html with this text, where its links lead, and which runs belong to them.

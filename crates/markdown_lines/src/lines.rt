@@ -6,11 +6,13 @@ ghost use Rattle.markdown_lines.specs.Leaf.{cell_runs};
 ghost use Rattle.markdown_lines.specs.LinkNumbers.{after_links, cell_numbers};
 ghost use Rattle.markdown_lines.specs.TableNumbers.{cells_numbers};
 ghost use Rattle.markdown_cells.specs.Cells;
+ghost use Rattle.markdown_cells.specs.Cells.{unbarred};
 ghost use Rattle.markdown_lines.specs.Tables.{cells, cells_addresses};
 ghost use Rattle.markdown_lines.specs.Links.{leaf_addresses};
 ghost use Rattle.markdown_lines.specs.LinksOf.{defined_of};
 ghost use Rattle.markdown_lines.specs.Lines.{line_said, range_of, line_within, all_within};
-ghost use Rattle.std.specs.Prelude.{List, chars, drop};
+ghost use Rattle.std.specs.Prelude.{List, ℕ, IfSome, IsTrue, chars, drop, get_or};
+ghost use Rattle.std.specs.Str.Lossy.{utf8_lossy};
 ghost use Rattle.markdown_inlines.specs.Styled.{spelled_of, IsStyled};
 ghost use Rattle.markdown_lines.specs.CutRows.{AreUnpictured, like, cut_rows, runs_row, whole_row, begun_rows, cut_numbers, piece_runs, piece_numbers, end_before, BeginsApart};
 ghost use Rattle.markdown_lines.specs.declared.glyphs.Glyph.{Glyph};
@@ -52,31 +54,24 @@ pub struct Lines {
     ghost within: { all_within (length (said runs)) lines.items ≡ true },
 }
 
-// The runs of the first cell of a row. It also adds where its links lead, and their numbers.
-fn read_first_cell(
-    alloc: Global,
-    addresses: &mut Vec<String>,
-    numbers: &mut Vec<usize>,
-    before: usize,
-    definitions: &Definitions,
-    bold: bool,
-    row: &[u8],
-) -> Result<Runs, AllocError>
-    ensures runs { IfOk result (λ runs. said runs ≡ cell_runs (defined_of definitions.now).labels bold (Cells.cell_text row.now)) }
-    ensures addresses { OnOk result (map string_bytes addresses.new.items ≡ map string_bytes addresses.old.items ++ leaf_addresses (defined_of definitions.now) (Cells.cell_text row.now)) }
-    ensures numbers { OnOk result (numbers.new.items ≡ numbers.old.items ++ after_links (length addresses.old.items + before) (cell_numbers (defined_of definitions.now).labels bold (Cells.cell_text row.now))) }
+// Whether there is no backslash.
+fn has_no_escape(cell: &[u8]) -> bool
+    ensures { IsTrue result → (k : ℕ) → (get_or cell.now k 0 == 92) ≡ false }
 {
-    let bytes = cell_text(alloc, cell_of(row))?;
-    let text = String::from_utf8_lossy(alloc, bytes.as_slice())?;
-    read_cell(
-        alloc,
-        addresses,
-        numbers,
-        before,
-        definitions,
-        bold,
-        text.as_str(),
-    )
+    memchr(b'\\', cell).is_none()
+}
+
+// The text of a cell as it stands, where that has no backslash and is UTF-8.
+fn plain_cell(cell: &[u8]) -> Option<&str>
+    ensures { IfSome result (λ text. text.now ≡ utf8_lossy (unbarred [] false cell.entry.now)) }
+{
+    if !has_no_escape(cell) {
+        return None;
+    }
+    let Ok(text) = str::from_utf8(cell) else {
+        return None;
+    };
+    Some(text)
 }
 
 // The runs of a row.
@@ -92,7 +87,7 @@ fn range_of(line: &MarkdownLine) -> RunRange
 }
 
 // Where the run before the one of this number ends.
-fn end_of(styled: &Styled, index: usize) -> usize
+pub(crate) fn end_of(styled: &Styled, index: usize) -> usize
     ensures { result ≡ end_before (drop index styled.now.runs.items) (string_bytes styled.now.text) }
 {
     if index < styled.runs.as_slice().len() {
@@ -288,16 +283,85 @@ impl Lines {
         Ok(())
     }
 
-    // Adds the runs of a cell, and says which they are.
-    fn add_runs(&mut self, from: &Runs) -> Result<RunRange, AllocError>
-        ensures runs { OnOk result (said self.new.runs ≡ said self.old.runs ++ said from.now) }
+    // Adds the runs of a cell with this text, and says which they are. It also adds where its links lead, and their numbers.
+    fn push_cell_text(
+        &mut self,
+        alloc: Global,
+        addresses: &mut Vec<String>,
+        numbers: &mut Vec<usize>,
+        before: usize,
+        definitions: &Definitions,
+        bold: bool,
+        text: &str,
+    ) -> Result<RunRange, AllocError>
+        ensures runs { OnOk result (said self.new.runs ≡ said self.old.runs ++ cell_runs (defined_of definitions.now).labels bold text.now) }
         ensures lines { self.new.lines ≡ self.old.lines }
-        ensures range { IfOk result (λ range. range ≡ record { start = length (said self.old.runs); count = length (said from.now) }) }
+        ensures range { IfOk result (λ range. range ≡ record { start = length (said self.old.runs); count = length (cell_runs (defined_of definitions.now).labels bold text.now) }) }
+        ensures addresses { OnOk result (map string_bytes addresses.new.items ≡ map string_bytes addresses.old.items ++ leaf_addresses (defined_of definitions.now) text.now) }
+        ensures numbers { OnOk result (numbers.new.items ≡ numbers.old.items ++ after_links (length addresses.old.items + before) (cell_numbers (defined_of definitions.now).labels bold text.now)) }
     {
         let start = self.runs.count();
-        let count = from.count();
-        self.runs.add(from, RunRange { start: 0, count })?;
+        read_cell(
+            alloc,
+            &mut self.runs,
+            addresses,
+            numbers,
+            before,
+            definitions,
+            bold,
+            text,
+        )?;
+        let end = self.runs.count();
+        let count = end - start;
         Ok(RunRange { start, count })
+    }
+
+    // The same of the first cell of a row.
+    fn push_first_cell(
+        &mut self,
+        alloc: Global,
+        addresses: &mut Vec<String>,
+        numbers: &mut Vec<usize>,
+        before: usize,
+        definitions: &Definitions,
+        bold: bool,
+        row: &[u8],
+    ) -> Result<RunRange, AllocError>
+        ensures runs { OnOk result (said self.new.runs ≡ said self.old.runs ++ cell_runs (defined_of definitions.now).labels bold (Cells.cell_text row.now)) }
+        ensures lines { self.new.lines ≡ self.old.lines }
+        ensures range { IfOk result (λ range. range ≡ record { start = length (said self.old.runs); count = length (cell_runs (defined_of definitions.now).labels bold (Cells.cell_text row.now)) }) }
+        ensures addresses { OnOk result (map string_bytes addresses.new.items ≡ map string_bytes addresses.old.items ++ leaf_addresses (defined_of definitions.now) (Cells.cell_text row.now)) }
+        ensures numbers { OnOk result (numbers.new.items ≡ numbers.old.items ++ after_links (length addresses.old.items + before) (cell_numbers (defined_of definitions.now).labels bold (Cells.cell_text row.now))) }
+    {
+        let cell = cell_of(row);
+        match plain_cell(cell) {
+            Some(plain) => {
+                let found = self.push_cell_text(
+                    alloc,
+                    addresses,
+                    numbers,
+                    before,
+                    definitions,
+                    bold,
+                    plain,
+                )?;
+                Ok(found)
+            }
+            None => {
+                let bytes = cell_text(alloc, cell)?;
+                let text = String::from_utf8_lossy(alloc, bytes.as_slice())?;
+                let range = self.push_cell_text(
+                    alloc,
+                    addresses,
+                    numbers,
+                    before,
+                    definitions,
+                    bold,
+                    text.as_str(),
+                )?;
+                Ok(range)
+            }
+        }
     }
 
     /// Adds a row of a table, and says where its links lead. It also adds the number of its link for each run that belongs to one: so many links of the
@@ -325,7 +389,7 @@ impl Lines {
         let mut rest = row;
         let mut more = columns;
         while more > 0 {
-            let runs = read_first_cell(
+            let range = self.push_first_cell(
                 alloc,
                 &mut addresses,
                 numbers,
@@ -334,7 +398,6 @@ impl Lines {
                 bold,
                 rest,
             )?;
-            let range = self.add_runs(&runs)?;
             ranges.push(range)?;
             rest = after_cell(rest);
             more -= 1;

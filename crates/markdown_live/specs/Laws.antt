@@ -18,7 +18,7 @@ use Rattle.markdown_stream.specs.Streamed.{streamed_sections}
 abbrev pub ShownIsAFront : Type 0
 ShownIsAFront = (open_leaf : Kind) (line : List ℕ) → (kept : List ℕ) × (line ≡ shown_line open_leaf line ++ kept)
 
--- Whatever comes, the sections that are complete are the first ones of the text's page.
+-- Whatever comes, the sections that are complete are the first ones of the text as it is streamed.
 abbrev pub CompleteStays : Type 0
 CompleteStays =
     (text later : List ℕ) (complete growing : List SectionContent) → ShowsSoFar text complete growing

@@ -7,7 +7,7 @@ pub fn shown_is_a_front()
     ensures { ShownIsAFront }
 {}
 
-/// Whatever comes, the sections that are complete are the first ones of the text's page. So rows that are done don't change.
+/// Whatever comes, the sections that are complete are the first ones of the text as it is streamed. So rows that are done don't change.
 pub fn complete_stays()
     ensures { CompleteStays }
 {}

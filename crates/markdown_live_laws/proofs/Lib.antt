@@ -7,6 +7,5 @@ pub mod ReadingLemmas
 pub mod SectionLemmas
 pub mod DressLemmas
 pub mod PieceLemmas
-pub mod BeginLemmas
 pub mod RowLemmas
 pub mod FitLemmas

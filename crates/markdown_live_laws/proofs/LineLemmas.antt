@@ -32,7 +32,6 @@ use Rattle.markdown_lines.specs.declared.glyphs.Glyph.{Glyph}
 use Rattle.markdown_marks.specs.Remaining.{Remaining}
 use Rattle.markdown_marks.specs.Tables as tables
 use Rattle.markdown_reader.specs.PlainLines.{IsPlainStyle}
-use Rattle.markdown_live_laws.specs.Placed.{PiecesArePlaced}
 use Rattle.markdown_live_laws.proofs.HtmlLemmas.{html_chars}
 use Rattle.markdown_live_laws.proofs.TextLemmas.{AreChars, IsShownChar, from_scalars, leaf_chars, lossy_utf8, shown_is_char}
 
@@ -127,8 +126,8 @@ glyphs_are bold (s ∷ ss) h k =
 cut_fine : (bold : Bool) (cut : CutText) (text : List ℕ) → AllByRecursion IsShownChar (shown_cut cut text) → AreFine (map (glyph_of bold) (shown_cut cut text))
 cut_fine bold cut text h = glyphs_are bold (shown_cut cut text) h (from_shown text 0 cut.pieces (flags_of (length cut.pieces) cut.pairs) (left_of cut.pairs cut.pieces) (all_over cut.pieces))
 
-leaf_fine : PiecesArePlaced → (labels : List (List ℕ)) (bold : Bool) (text : List ℕ) → IsUtf8 text → AreFine (leaf_glyphs labels bold text)
-leaf_fine placed labels bold text utf8 = cut_fine bold (cut_text labels text) text (leaf_chars placed labels text utf8)
+leaf_fine : (labels : List (List ℕ)) (bold : Bool) (text : List ℕ) → IsUtf8 text → AreFine (leaf_glyphs labels bold text)
+leaf_fine labels bold text utf8 = cut_fine bold (cut_text labels text) text (leaf_chars labels text utf8)
 
 if_glyphs : (P : Glyph → Type 0) (t : Bool) (a b : List Glyph) → AllByRecursion P a → AllByRecursion P b → AllByRecursion P (if t then a else b)
 if_glyphs P true a b h k = h
@@ -201,9 +200,9 @@ rows_of_are : (gs : List Glyph) → AreFine gs → AreOwnLines (rows_of gs)
 rows_of_are gs h = lines_by (length gs == 0) [] (rows_from [] gs) (λ e. tt) (λ e. rows_are [] gs tt h)
 
 -- the rows of a leaf
-pub leaf_is : PiecesArePlaced → (labels : List (List ℕ)) (text : List ℕ) → IsUtf8 text → AreOwnLines (leaf_rows labels text)
+pub leaf_is : (labels : List (List ℕ)) (text : List ℕ) → IsUtf8 text → AreOwnLines (leaf_rows labels text)
 unfolding leaf_rows
-leaf_is placed labels text utf8 = rows_of_are (trimmed (leaf_glyphs labels false text)) (trimmed_are IsFineGlyph (leaf_glyphs labels false text) (leaf_fine placed labels false text utf8))
+leaf_is labels text utf8 = rows_of_are (trimmed (leaf_glyphs labels false text)) (trimmed_are IsFineGlyph (leaf_glyphs labels false text) (leaf_fine labels false text utf8))
 
 -- the rows of a leaf of html
 pub html_is : (text : List ℕ) → IsUtf8 text → AreOwnLines (html_lines text)
@@ -225,35 +224,35 @@ spaced_are bold shown row (g ∷ gs) s h k =
     (all_joined IsClearGlyph (shown ++ trimmed row) (space bold ∷ []) (all_joined IsClearGlyph shown (trimmed row) s (trimmed_are IsClearGlyph row h)) ((refl, refl), tt)) tt k.1)
     (λ e. spaced_are bold shown (row ++ g ∷ []) gs s (all_joined IsClearGlyph row (g ∷ []) h (clear_of g e k.0, tt)) k.1)
 
-cell_is : PiecesArePlaced → (labels : List (List ℕ)) (bold : Bool) (text : List ℕ) → IsUtf8 text → AreTexts (cell_runs labels bold text)
+cell_is : (labels : List (List ℕ)) (bold : Bool) (text : List ℕ) → IsUtf8 text → AreTexts (cell_runs labels bold text)
 unfolding cell_runs
-cell_is placed labels bold text utf8 =
+cell_is labels bold text utf8 =
     let gs : List Glyph = trimmed (leaf_glyphs labels bold text) in
-    runs_texts (spaced_from bold [] [] gs) (spaced_are bold [] [] gs tt tt (trimmed_are IsFineGlyph (leaf_glyphs labels bold text) (leaf_fine placed labels bold text utf8)))
+    runs_texts (spaced_from bold [] [] gs) (spaced_are bold [] [] gs tt tt (trimmed_are IsFineGlyph (leaf_glyphs labels bold text) (leaf_fine labels bold text utf8)))
 
-cells_are : PiecesArePlaced → (labels : List (List ℕ)) (bold : Bool) (columns : ℕ) (row : List ℕ) → AllByRecursion IsOwnCell (cells labels bold columns row)
+cells_are : (labels : List (List ℕ)) (bold : Bool) (columns : ℕ) (row : List ℕ) → AllByRecursion IsOwnCell (cells labels bold columns row)
 unfolding cells
-cells_are placed labels bold zero row = tt
-cells_are placed labels bold (suc columns) row = (record { style = refl; runs = cell_is placed labels bold (cell_text row) (lossy_utf8 _) }, cells_are placed labels bold columns (after_cell row))
+cells_are labels bold zero row = tt
+cells_are labels bold (suc columns) row = (record { style = refl; runs = cell_is labels bold (cell_text row) (lossy_utf8 _) }, cells_are labels bold columns (after_cell row))
 
 -- ---- tables
 
-body_rows : PiecesArePlaced → (labels : List (List ℕ)) (columns : ℕ) (lines : List Remaining) → AreOwnLines (map (row_said labels false columns) lines)
-body_rows placed labels columns [] = tt
-body_rows placed labels columns (line ∷ lines) = (cells_are placed labels false (shown_cells columns line.bytes) (tables.row_of line.bytes), body_rows placed labels columns lines)
+body_rows : (labels : List (List ℕ)) (columns : ℕ) (lines : List Remaining) → AreOwnLines (map (row_said labels false columns) lines)
+body_rows labels columns [] = tt
+body_rows labels columns (line ∷ lines) = (cells_are labels false (shown_cells columns line.bytes) (tables.row_of line.bytes), body_rows labels columns lines)
 
-body_is : PiecesArePlaced → (labels : List (List ℕ)) (columns : ℕ) (rule : List Alignment) (lines : List Remaining) → AreOwnLines (body labels columns rule lines)
-body_is placed labels columns rule [] = tt
-body_is placed labels columns rule (line ∷ lines) = (tt, body_rows placed labels columns (line ∷ lines))
+body_is : (labels : List (List ℕ)) (columns : ℕ) (rule : List Alignment) (lines : List Remaining) → AreOwnLines (body labels columns rule lines)
+body_is labels columns rule [] = tt
+body_is labels columns rule (line ∷ lines) = (tt, body_rows labels columns (line ∷ lines))
 
 -- the lines of a table
-pub table_is : PiecesArePlaced → (labels : List (List ℕ)) (columns : ℕ) (lines : List Remaining) → AreOwnLines (table_lines labels columns lines)
+pub table_is : (labels : List (List ℕ)) (columns : ℕ) (lines : List Remaining) → AreOwnLines (table_lines labels columns lines)
 unfolding table_lines
-table_is placed labels columns [] = tt
-table_is placed labels columns (head ∷ []) = tt
-table_is placed labels columns (head ∷ delimiters ∷ lines) =
+table_is labels columns [] = tt
+table_is labels columns (head ∷ []) = tt
+table_is labels columns (head ∷ delimiters ∷ lines) =
     let rule : List Alignment = alignments columns (tables.row_of delimiters.bytes) in
-    (tt, (cells_are placed labels true (shown_cells columns head.bytes) (tables.row_of head.bytes), all_joined IsOwnLine (body labels columns rule lines) (table_rule rule ∷ []) (body_is placed labels columns rule lines) (tt, tt)))
+    (tt, (cells_are labels true (shown_cells columns head.bytes) (tables.row_of head.bytes), all_joined IsOwnLine (body labels columns rule lines) (table_rule rule ∷ []) (body_is labels columns rule lines) (tt, tt)))
 
 -- ---- other leaves
 

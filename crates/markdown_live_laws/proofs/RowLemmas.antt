@@ -35,7 +35,7 @@ use Rattle.mad_rows.proofs.KnownLemmas.{overwritten_known}
 use Rattle.mad_sections.specs.Gutters.{columns_of}
 use Rattle.mad_sections.specs.declared.gutters.Alert.{Alert}
 use Rattle.mad_sections.specs.declared.gutters.Alert.TheVariants.{Caution, Important, Note, Tip, Warning}
-use Rattle.markdown_live_laws.proofs.BeginLemmas.{BeginsWith, begins_fifth, line_begins, pieces_row}
+use Rattle.mad_stream.proofs.FittingLemmas.{BeginsWith, begins_fifth, line_begins, pieces_row}
 use Rattle.markdown_layout.specs.RowEnds.{without_end}
 use Rattle.markdown_layout.specs.WrittenPages.{rows_bytes}
 use Rattle.markdown_layout.proofs.EndLemmas.{end_off}

@@ -3,7 +3,7 @@ use Rattle.std.proofs.Common.{◌≡◌, ℕ, zero, suc, ◌+◌, ◌-◌, ◌<�
 use Rattle.std.specs.Prelude.{chars, codes, min, IfSome}
 use Rattle.std.specs.Char.{IsScalar}
 use Rattle.std.specs.Int.{is_in_range}
-use Rattle.std.specs.List.{AllByRecursion, flat_map, list_all}
+use Rattle.std.specs.List.{AllByRecursion, list_all}
 use Rattle.std.specs.Str.{IsUtf8, NonePass}
 use Rattle.std.proofs.Math.Utf8.{scalar, scalars}
 use Rattle.std.proofs.lemmas.Bool.{and_parts, and_from}
@@ -53,7 +53,6 @@ use Rattle.markdown_reader.specs.Steady.{AreSteadySections, steady_sections}
 use Rattle.markdown_tones.specs.Fences.{fence_marks}
 use Rattle.markdown_live_laws.proofs.LineLemmas.{AreClear, AreOwnLines, AreTexts, IsClear, IsClearText, IsOwnCell, IsOwnLine, code_is, html_is, leaf_is, restyled_is, table_is}
 use Rattle.markdown_live_laws.proofs.NumberLemmas.{AreSmallParts, IsSmallContainer, IsSmallPart}
-use Rattle.markdown_live_laws.specs.Placed.{PiecesArePlaced}
 use Rattle.markdown_live_laws.proofs.TextLemmas.{lossy_utf8, to_scalars}
 
 -- ---- sections
@@ -194,15 +193,15 @@ last_is gutter m k h = record { sections = h.sections; gutters = all_joined IsTy
 
 -- ---- leaves
 
-words_are : PiecesArePlaced → (defined : Defined) (bytes : List ℕ) → AreOwnLines (words defined bytes)
-words_are placed defined bytes = leaf_is placed defined.labels (text_of bytes) (lossy_utf8 _)
+words_are : (defined : Defined) (bytes : List ℕ) → AreOwnLines (words defined bytes)
+words_are defined bytes = leaf_is defined.labels (text_of bytes) (lossy_utf8 _)
 
-words_is : PiecesArePlaced → (defined : Defined) (bytes : List ℕ) (m : Mapping) → IsSound m → IsSound (words_shown defined bytes m)
-words_is placed defined bytes m h = put_is Words (words defined bytes) (addresses_in defined bytes) m (words_are placed defined bytes) h
+words_is : (defined : Defined) (bytes : List ℕ) (m : Mapping) → IsSound m → IsSound (words_shown defined bytes m)
+words_is defined bytes m h = put_is Words (words defined bytes) (addresses_in defined bytes) m (words_are defined bytes) h
 
-task_is : PiecesArePlaced → (done : Option Bool) (defined : Defined) (bytes : List ℕ) (m : Mapping) → IsSound m → IsSound (task_by done defined bytes m)
-task_is placed None defined bytes m h = words_is placed defined bytes m h
-task_is placed (Some done) defined bytes m h = words_is placed defined (after_box bytes) (with_last (Task done) m) (last_is (Task done) m tt h)
+task_is : (done : Option Bool) (defined : Defined) (bytes : List ℕ) (m : Mapping) → IsSound m → IsSound (task_by done defined bytes m)
+task_is None defined bytes m h = words_is defined bytes m h
+task_is (Some done) defined bytes m h = words_is defined (after_box bytes) (with_last (Task done) m) (last_is (Task done) m tt h)
 
 word_clear : (alert : Alert) → IsClearText (alert_word alert)
 unfolding lib.Utf8.encode
@@ -212,25 +211,25 @@ word_clear Important = (codes "IMPORTANT", ((refl, refl), ((refl, refl), ((refl,
 word_clear Warning = (codes "WARNING", ((refl, refl), ((refl, refl), ((refl, refl), ((refl, refl), ((refl, refl), ((refl, refl), ((refl, refl), tt))))))), refl)
 word_clear Caution = (codes "CAUTION", ((refl, refl), ((refl, refl), ((refl, refl), ((refl, refl), ((refl, refl), ((refl, refl), ((refl, refl), tt))))))), refl)
 
-alert_is : PiecesArePlaced → (alert : Option Alert) (defined : Defined) (bytes : List ℕ) (m : Mapping) → IsSound m → IsSound (alert_by alert defined bytes m)
-alert_is placed None defined bytes m h = words_is placed defined bytes m h
-alert_is placed (Some alert) defined bytes m h =
+alert_is : (alert : Option Alert) (defined : Defined) (bytes : List ℕ) (m : Mapping) → IsSound m → IsSound (alert_by alert defined bytes m)
+alert_is None defined bytes m h = words_is defined bytes m h
+alert_is (Some alert) defined bytes m h =
     let rows : List LineContent = restyled Paragraph Paragraph (words defined (after_line bytes)) in
-    let own : AreOwnLines rows = restyled_is Paragraph (words defined (after_line bytes)) tt (words_are placed defined (after_line bytes)) in
+    let own : AreOwnLines rows = restyled_is Paragraph (words defined (after_line bytes)) tt (words_are defined (after_line bytes)) in
     put_is Words (alert_line alert ∷ rows) (addresses_in defined (after_line bytes)) (with_last (AlertBar alert) m)
     (record { style = tt; runs = (word_clear alert, tt) }, own)
     (last_is (AlertBar alert) m tt h)
 
-paragraph_is : PiecesArePlaced → (gutter : Option Gutter) (defined : Defined) (bytes : List ℕ) (m : Mapping) → IsSound m → IsSound (paragraph_by gutter defined bytes m)
-paragraph_is placed (Some Bullet) defined bytes m h = task_is placed (box_of bytes) defined bytes m h
-paragraph_is placed (Some Bar) defined bytes m h = alert_is placed (alert_of bytes) defined bytes m h
-paragraph_is placed (Some (Number number)) defined bytes m h = words_is placed defined bytes m h
-paragraph_is placed (Some (Task done)) defined bytes m h = words_is placed defined bytes m h
-paragraph_is placed (Some Code) defined bytes m h = words_is placed defined bytes m h
-paragraph_is placed (Some (AlertBar alert)) defined bytes m h = words_is placed defined bytes m h
-paragraph_is placed (Some (Signs level)) defined bytes m h = words_is placed defined bytes m h
-paragraph_is placed (Some (Below level)) defined bytes m h = words_is placed defined bytes m h
-paragraph_is placed None defined bytes m h = words_is placed defined bytes m h
+paragraph_is : (gutter : Option Gutter) (defined : Defined) (bytes : List ℕ) (m : Mapping) → IsSound m → IsSound (paragraph_by gutter defined bytes m)
+paragraph_is (Some Bullet) defined bytes m h = task_is (box_of bytes) defined bytes m h
+paragraph_is (Some Bar) defined bytes m h = alert_is (alert_of bytes) defined bytes m h
+paragraph_is (Some (Number number)) defined bytes m h = words_is defined bytes m h
+paragraph_is (Some (Task done)) defined bytes m h = words_is defined bytes m h
+paragraph_is (Some Code) defined bytes m h = words_is defined bytes m h
+paragraph_is (Some (AlertBar alert)) defined bytes m h = words_is defined bytes m h
+paragraph_is (Some (Signs level)) defined bytes m h = words_is defined bytes m h
+paragraph_is (Some (Below level)) defined bytes m h = words_is defined bytes m h
+paragraph_is None defined bytes m h = words_is defined bytes m h
 
 marked_is : (marks : List MarkRun) (m : Mapping) → IsSound m → IsSound (with_marks marks m)
 marked_is marks m h = record { sections = h.sections; gutters = h.gutters; lists = h.lists }
@@ -244,19 +243,19 @@ html_by_is true level text m utf8 h = put_is Words (html_lines text) (html_addre
 html_by_is false level text m utf8 h =
     put_is Large (restyled (heading_style level) (heading_style level) (html_lines text)) (html_addresses text) m (restyled_is (heading_style level) (html_lines text) tt (html_is text utf8)) h
 
-leaf_shown_is : PiecesArePlaced → (defined : Defined) (kind : Kind) (lines : List Remaining) (m : Mapping) → IsSound m → IsSound (leaf_shown defined kind lines m)
-leaf_shown_is placed defined ParagraphKind lines m h = paragraph_is placed (new_gutter m) defined (joined [] lines) m h
-leaf_shown_is placed defined Html lines m h = html_by_is (html_level (joined [] lines) == 0) (html_level (joined [] lines)) (html_text (joined [] lines)) m (lossy_utf8 _) h
-leaf_shown_is placed defined (Heading level) lines m h =
+leaf_shown_is : (defined : Defined) (kind : Kind) (lines : List Remaining) (m : Mapping) → IsSound m → IsSound (leaf_shown defined kind lines m)
+leaf_shown_is defined ParagraphKind lines m h = paragraph_is (new_gutter m) defined (joined [] lines) m h
+leaf_shown_is defined Html lines m h = html_by_is (html_level (joined [] lines) == 0) (html_level (joined [] lines)) (html_text (joined [] lines)) m (lossy_utf8 _) h
+leaf_shown_is defined (Heading level) lines m h =
     let rows : List LineContent = words defined (joined [] lines) in
-    put_is Large (restyled (heading_style level) (heading_style level) rows) (addresses_in defined (joined [] lines)) m (restyled_is (heading_style level) rows tt (words_are placed defined (joined [] lines))) h
-leaf_shown_is placed defined Indented lines m h = code_shown_is [] lines m h
-leaf_shown_is placed defined Fenced lines m h = code_shown_is (fence_marks lines) (drop 1 lines) m h
-leaf_shown_is placed defined (Table columns) lines m h =
-    put_is Listed (table_lines defined.labels columns lines) (table_addresses defined columns lines) m (table_is placed defined.labels columns lines) h
-leaf_shown_is placed defined Rule lines m h = put_is Large (horizontal_rule ∷ []) [] m (tt, tt) h
-leaf_shown_is placed defined Nothing lines m h = h
-leaf_shown_is placed defined Definitions lines m h = h
+    put_is Large (restyled (heading_style level) (heading_style level) rows) (addresses_in defined (joined [] lines)) m (restyled_is (heading_style level) rows tt (words_are defined (joined [] lines))) h
+leaf_shown_is defined Indented lines m h = code_shown_is [] lines m h
+leaf_shown_is defined Fenced lines m h = code_shown_is (fence_marks lines) (drop 1 lines) m h
+leaf_shown_is defined (Table columns) lines m h =
+    put_is Listed (table_lines defined.labels columns lines) (table_addresses defined columns lines) m (table_is defined.labels columns lines) h
+leaf_shown_is defined Rule lines m h = put_is Large (horizontal_rule ∷ []) [] m (tt, tt) h
+leaf_shown_is defined Nothing lines m h = h
+leaf_shown_is defined Definitions lines m h = h
 
 -- ---- parts
 
@@ -265,17 +264,17 @@ pub nothing_is : IsSound nothing_shown
 nothing_is = record { sections = tt; gutters = tt; lists = (none_small, tt) }
 
 -- a part is shown so
-part_is : PiecesArePlaced → (defined : Defined) (part : PartContent) (m : Mapping) → IsSmallPart part → IsSound m → IsSound (shown_part defined part m)
+part_is : (defined : Defined) (part : PartContent) (m : Mapping) → IsSmallPart part → IsSound m → IsSound (shown_part defined part m)
 unfolding shown_part
-part_is placed defined (begins container apart) m k h = begun_is container (passed apart m) k (passed_is apart m h)
-part_is placed defined ends m k h = ended_is m h
-part_is placed defined (block leaf) m k h = leaf_shown_is placed defined leaf.kind leaf.lines (list_ended (passed leaf.apart m)) (ended_list_is (passed leaf.apart m) (passed_is leaf.apart m h))
+part_is defined (begins container apart) m k h = begun_is container (passed apart m) k (passed_is apart m h)
+part_is defined ends m k h = ended_is m h
+part_is defined (block leaf) m k h = leaf_shown_is defined leaf.kind leaf.lines (list_ended (passed leaf.apart m)) (ended_list_is (passed leaf.apart m) (passed_is leaf.apart m h))
 
 -- so are parts
-pub parts_are : PiecesArePlaced → (defined : Defined) (parts : List PartContent) (m : Mapping) → AreSmallParts parts → IsSound m → IsSound (shown_parts defined parts m)
+pub parts_are : (defined : Defined) (parts : List PartContent) (m : Mapping) → AreSmallParts parts → IsSound m → IsSound (shown_parts defined parts m)
 unfolding shown_parts
-parts_are placed defined [] m k h = h
-parts_are placed defined (part ∷ parts) m k h = parts_are placed defined parts (shown_part defined part m) k.1 (part_is placed defined part m k.0 h)
+parts_are defined [] m k h = h
+parts_are defined (part ∷ parts) m k h = parts_are defined parts (shown_part defined part m) k.1 (part_is defined part m k.0 h)
 
 -- ---- html leaf by leaf
 
@@ -303,11 +302,6 @@ pub leaves_small : (part : PartContent) → IsSmallPart part → AreSmallParts (
 leaves_small (begins container apart) h = (h, tt)
 leaves_small ends h = (tt, tt)
 leaves_small (block leaf) h = block_leaves_small leaf.kind leaf
-
--- so do those of parts
-pub all_leaves_small : (parts : List PartContent) → AreSmallParts parts → AreSmallParts (flat_map leaves_in parts)
-all_leaves_small [] h = tt
-all_leaves_small (part ∷ parts) h = all_joined IsSmallPart (leaves_in part) (flat_map leaves_in parts) (leaves_small part h.0) (all_leaves_small parts h.1)
 
 -- ---- steady sections
 

@@ -34,7 +34,7 @@ use Rattle.markdown_spans.specs.Code.{code_of}
 use Rattle.markdown_pieces.specs.Cut.{CutText, Step, closing_step, cut_from, cut_text, opening_step, other_step, step}
 use Rattle.markdown_pieces.specs.Pieces.{angle_by, angle_piece, break_piece, byte_before, code_by, code_piece, ends_line, entity_by, entity_piece, escape_by, escape_piece, html_by, html_piece, bare_if, is_hard, no_mark_piece, piece, piece_at, plain_by, plain_piece, run_piece}
 use Rattle.markdown_pieces.specs.Places.{IsInside, AreCut}
-use Rattle.markdown_live_laws.specs.Placed.{PiecesArePlaced}
+use Rattle.markdown_pieces.proofs.PlaceLemmas.{text_placed}
 use Rattle.markdown_pieces.specs.declared.pieces.Kind.{Kind}
 use Rattle.markdown_pieces.specs.declared.pieces.Kind.TheVariants.{Plain, Shown as ShownKind, Code as CodeKind, Address, Bare, Html as HtmlKind, Soft, Hard, Run as RunKind, Opening, Closing}
 use Rattle.markdown_pieces.specs.declared.pieces.Piece.{Piece}
@@ -405,5 +405,5 @@ cut_chars cut text utf8 placed own =
     pieces_chars text 0 cut.pieces (flags_of (length cut.pieces) cut.pairs) (left_of cut.pairs cut.pieces) (all_over cut.pieces) utf8 (IsCharBoundary-start text utf8) placed own
 
 -- so it is of a leaf's text
-pub leaf_chars : PiecesArePlaced → (labels : List (List ℕ)) (text : List ℕ) → IsUtf8 text → AllByRecursion IsShownChar (leaf_text labels text)
-leaf_chars placed labels text utf8 = cut_chars (cut_text labels text) text utf8 (placed labels text utf8) (cut_is labels text 0 0 0 nothing_read text)
+pub leaf_chars : (labels : List (List ℕ)) (text : List ℕ) → IsUtf8 text → AllByRecursion IsShownChar (leaf_text labels text)
+leaf_chars labels text utf8 = cut_chars (cut_text labels text) text utf8 (text_placed labels text utf8) (cut_is labels text 0 0 0 nothing_read text)

@@ -1,13 +1,6 @@
 -- Texts whose rows fit a terminal, whatever they say.
 use Rattle.std.specs.Prelude.{◌≡◌, ℕ, ◌+◌, ◌-◌, ◌^◌, ◌<◌, ◌≤◌, List, length, Some}
 use Rattle.mad_draw.specs.Pieces.{IsColumnChar}
-use Rattle.mad_dressing.specs.Dressed.{dressed_page}
-use Rattle.mad_dressing.specs.declared.page_marks.PageMarks.{PageMarks}
-use Rattle.mad_sections.specs.Sections.{SectionContent}
-use Rattle.markdown_layout.specs.KeptPremises.{KeepPremises}
-use Rattle.markdown_reader.specs.PlainLines.{ArePlainSections}
-use Rattle.markdown_reader.specs.Printed.{ArePrintedSections}
-use Rattle.markdown_reader.specs.Steady.{AreSteadySections}
 use Rattle.mad_live.specs.LiveRows.{AreBlank, Shows}
 use Rattle.mad_live.specs.Papers.{Paper, Reads, blank_line}
 use Rattle.mad_page_skin.specs.PageSkins.{page_marks, page_row_skin}
@@ -18,7 +11,6 @@ use Rattle.mad_stream.specs.LiveTexts.{joined_pieces}
 use Rattle.mad_term.specs.Trace.{Trace}
 use Rattle.markdown_live.specs.LiveMarkdowns.{FitsSoFar, ShowsPieces}
 use Rattle.markdown_live.specs.Sources.{FitsWhole}
-use Rattle.markdown_live_laws.specs.Placed.{PiecesArePlaced}
 use Rattle.markdown_stream.specs.Streams.{IsStreamed}
 
 -- Each mark of a skin takes a column, and so does the sign of pictures; the numbers of its colors are bytes, as in every style that a program holds.
@@ -33,22 +25,16 @@ pub record HasRoom (columns width : ℕ) : Type 0 where
   pub narrower : width ≤ columns
   pub small : width < 2 ^ 64 - 1
 
--- Steady sections without signs of their own, of which no character is obeyed, keep what drawing asks of texts. So it is proved in the crate that lays Markdown
--- out, which doesn't hand it on.
-abbrev pub SectionsKeep : Type 0
-SectionsKeep =
-    (marks : PageMarks) (page : List SectionContent) → IsColumnChar marks.sign → ArePrintedSections page → AreSteadySections page → ArePlainSections page → KeepPremises (dressed_page marks page)
-
 -- The rows of each text fit in such a skin and at such a width: as far as it has come, and as a whole.
 abbrev pub TextsFit : Type 0
 TextsFit =
-    PiecesArePlaced → SectionsKeep → (columns width : ℕ) (skin : PageSkin) → IsShownSkin skin → HasRoom columns width → (text : List ℕ)
+    (columns width : ℕ) (skin : PageSkin) → IsShownSkin skin → HasRoom columns width → (text : List ℕ)
     → FitsSoFar columns skin (Some width) text × FitsWhole skin (Some width) text columns
 
 -- So nothing is asked of a text that is given in pieces: what went out leads every terminal of such columns to one that has all rows of a page of the text, from the
 -- first on, and the cursor below them.
 abbrev pub PiecesAreShown : Type 0
 PiecesAreShown =
-    PiecesArePlaced → SectionsKeep → (columns width height : ℕ) (skin : PageSkin) (pieces : List (List ℕ)) (before now : Trace) → IsShownSkin skin → HasRoom columns width
+    (columns width height : ℕ) (skin : PageSkin) (pieces : List (List ℕ)) (before now : Trace) → IsShownSkin skin → HasRoom columns width
     → (h : ShowsPieces skin (Some width) height pieces before now) (p : Paper) → p.line ≡ blank_line columns → AreBlank columns p.below → height ≤ p.reach + length p.below + 1
     → (q : Paper) × (rows : List ℕ) × Reads p h.bytes q × IsStreamed skin (Some width) (joined_pieces pieces) rows × Shows columns p.above rows q

@@ -13,8 +13,7 @@ use mad_page_skin::PageSkin;
 use mad_page_skin_laws::{page_colors_are_bytes, page_marks_are_shown};
 use mad_rows::know_styles;
 
-/// The rows of each text fit the terminal, from three columns on, in a skin whose marks take a column each. Asked is what crates below prove of pieces and
-/// sections, and don't hand on.
+/// The rows of each text fit the terminal, from three columns on, in a skin whose marks take a column each.
 pub fn texts_fit()
     ensures { TextsFit }
 {}

@@ -93,9 +93,8 @@ abbrev pub rule_at : HeadingMarks → Option ℕ → List FmtLine
 rule_at marks None = []
 rule_at marks (Some level) = if nat_lt level marks.rules then HorizontalRule ∷ [] else []
 
--- Rows show a section with what stands beside headings, at words and in front of pictures: first the section, and below it, if it is such a heading, its rule. Signs
--- of headings are in front of the rows. Where no marks stand at words, and nothing is said of a picture, the section is shown as it is. Else each of its lines and
--- cells has its text with marks and signs of pictures alone between the characters.
+-- Rows show a section with what stands beside headings, at words and in front of pictures: first the section, and below it, if it is such a heading, its rule.
+-- Each of its lines and cells has its text, with marks and signs of pictures alone between the characters.
 abbrev pub ShowDressed : PageMarks → SectionContent → List RowContent → Type 0
 ShowDressed marks section rows =
     (own : List RowContent) × (below : List RowContent) × (rows ≡ own ++ below) × ShowSection (filled marks section) own

@@ -1,4 +1,4 @@
--- A skin changes no character of a text, nor their order.
+-- What skins that agree in four things show of a text: the same characters, in the same order.
 use Rattle.std.specs.Prelude.{◌≡◌, ℕ, ◌-◌, ◌^◌, ◌<◌, ◌≤◌, Bool, true, List, [], ◌∷◌, ◌++◌, Some}
 use Rattle.std.specs.List.{flat_map}
 use Rattle.mad_md.specs.Lines.{LineContent}
@@ -35,7 +35,7 @@ abbrev pub TextIsTold : Type 0
 TextIsTold = (skin : PageSkin) (source : List ℕ) (width : ℕ) (rows : List RowContent) → 3 ≤ width → width < 2 ^ 64 - 1 → IsDressedAt skin (Some width) (markdown_sections source) rows
     → EachBecomes IsShownBy (lines_in skin width (markdown_sections source)) (lines_of_rows rows)
 
--- Two lists of rows show the same of these lines: they fall into those of each line. In their cells of the same number both have the same characters that aren't
+-- Two lists of rows show the same: they fall into as many parts as there are lines. In their cells of the same number both have the same characters that aren't
 -- whitespace, in the same order and with the same flags.
 abbrev pub ShowAlike : List LineContent → List FmtLine → List FmtLine → Type 0
 ShowAlike [] rows others = (rows ≡ []) × (others ≡ [])

@@ -25,8 +25,8 @@ pub fn tables_may_be_lists()
     ensures { TablesMayBeLists }
 {}
 
-/// The rows of a text of Markdown show each character of its sections that isn't whitespace once, in order. Else they show labels of lists, rules
-/// below headings, and marks at words alone.
+/// The rows of a text of Markdown show each character of its sections that isn't whitespace once, in order, cell by cell. Else they show labels of lists, rules
+/// below headings, signs of pictures, and marks at words alone.
 pub fn markdown_is_kept()
     ensures { MarkdownIsKept }
 {}
@@ -48,8 +48,8 @@ pub fn cells_have_blanks()
     ensures { CellsHaveBlanks }
 {}
 
-/// A skin changes no character of a text of Markdown, nor their order, but for its marks and for blanks. A skin with marks at words shows what others
-/// with them show.
+/// What is shown of a text is told by four things of the skin: whether the boxes of tasks are of ASCII characters, whether words have marks, whether blanks are
+/// beside cells, and the sign of pictures. Two skins that agree in these show the same characters in the same order.
 pub fn skins_keep_text()
     ensures told { TextIsTold }
     ensures alike { SkinsKeepText }

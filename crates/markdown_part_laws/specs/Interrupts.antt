@@ -1,4 +1,4 @@
--- What ends a paragraph without a blank line.
+-- Headings and fences, which end a paragraph without a blank line.
 use Rattle.std.specs.Prelude.{◌≡◌, ℕ, ◌<◌, Bool, true, false, ◌||◌, List, [], ◌∷◌, ◌++◌, map, replicate, is_some}
 use Rattle.markdown_marks.specs.Marks.{fence_start, heading_level}
 use Rattle.markdown_blocks.specs.Lines.{text_lines}

@@ -26,7 +26,8 @@ pub record HasLineMore (without with : List PartContent) : Type 0 where
   pub less : without ≡ before ++ block leaf ∷ replicate closing ends
   pub more : with ≡ before ++ block (record leaf { lines = leaf.lines ++ line ∷ [] }) ∷ replicate closing ends
 
--- A blank line at the end of a text changes none of its parts, but where code between fences or html is open: there it is one line more of that.
+-- A blank line at the end of a text changes none of its parts, or it is one line more of the last leaf, which is code between fences or html. The law doesn't say
+-- where it is which.
 abbrev pub LastBlankIsNothing : Type 0
 LastBlankIsNothing = (text other blank : List ℕ) → text_lines other ≡ text_lines text ++ blank ∷ [] → is_blank blank ≡ true
     → (parts_of other ≡ parts_of text) ⊎ HasLineMore (parts_of text) (parts_of other)

@@ -5,7 +5,7 @@ ghost use Rattle.markdown_part_laws.specs.Interrupts.{ParagraphEndsAtMark};
 ghost use Rattle.markdown_part_laws.specs.LastBlank.{LastBlankIsNothing};
 ghost use Rattle.markdown_part_laws.specs.Paragraphs.{ParagraphIsItsLines};
 
-/// A blank line at the end of a text changes none of its parts, but where code between fences or html is open: there it is one line more of that.
+/// A blank line at the end of a text changes none of its parts, or is one line more of code between fences or html that is the last leaf.
 #[tactic(auto, using(crate::proofs::LastLemmas::last_blank))]
 pub fn last_blank_is_nothing()
     ensures { LastBlankIsNothing }

@@ -12,7 +12,7 @@ use Rattle.markdown_pieces.proofs.PlainLemmas.{blank_stays, other_stays, ends_ne
 stands_plain : (b : ℕ) → stands b ≡ true → is_blank_byte b ≡ false → is_plain b ≡ true
 stands_plain b h n = grind (arith, nat_tests)
 
-plain_no_end : (b : ℕ) → is_plain b ≡ true → eqb b 10 ≡ false
+pub plain_no_end : (b : ℕ) → is_plain b ≡ true → eqb b 10 ≡ false
 plain_no_end b h = grind (arith, nat_tests)
 
 not_standing : (b : ℕ) → stands b ≡ false → is_blank_byte b ≡ false
@@ -21,7 +21,7 @@ not_standing b h = grind (arith, nat_tests)
 not_standing_plain : (b : ℕ) → stands b ≡ false → is_plain b ≡ false
 not_standing_plain b h = grind (arith, nat_tests)
 
-first_is : (b : ℕ) (bs : List ℕ) → is_blank_byte b ≡ false → ends_line (b ∷ bs) ≡ eqb b 10
+pub first_is : (b : ℕ) (bs : List ℕ) → is_blank_byte b ≡ false → ends_line (b ∷ bs) ≡ eqb b 10
 first_is b bs h = ap (λ n. eqb (first (drop n (b ∷ bs))) 10) (ap (λ t. cond t (1 + prefix_len is_blank_byte bs) 0) h)
 
 no_end_by : (b : ℕ) (bs : List ℕ) → stands b ≡ true → ends_line bs ≡ false → ends_line (b ∷ bs) ≡ false
@@ -44,11 +44,11 @@ blanks_end m [] blanks end = absurd (omega (arith, end))
 blanks_end zero (b ∷ bs) blanks end = first_is b bs (ap is_blank_byte end) ∙ ap (λ c. eqb c 10) end
 blanks_end (suc m) (b ∷ bs) blanks end = ends_next b bs (blanks 0 (omega arith)) ∙ blanks_end m bs (λ k high. blanks (suc k) (omega (arith, high))) end
 
-stay_step : (before : Option ℕ) (b : ℕ) (bs : List ℕ) → stays b (b ∷ bs) ≡ true → plain_from false before (b ∷ bs) ≡ suc (plain_from false (Some b) bs)
+pub stay_step : (before : Option ℕ) (b : ℕ) (bs : List ℕ) → stays b (b ∷ bs) ≡ true → plain_from false before (b ∷ bs) ≡ suc (plain_from false (Some b) bs)
 unfolding plain_from
 stay_step before b bs h = ap (λ t. cond (t && true) (suc (plain_from false (Some b) bs)) 0) h
 
-stop_step : (before : Option ℕ) (b : ℕ) (bs : List ℕ) → stays b (b ∷ bs) ≡ false → plain_from false before (b ∷ bs) ≡ 0
+pub stop_step : (before : Option ℕ) (b : ℕ) (bs : List ℕ) → stays b (b ∷ bs) ≡ false → plain_from false before (b ∷ bs) ≡ 0
 unfolding plain_from
 stop_step before b bs h = ap (λ t. cond (t && true) (suc (plain_from false (Some b) bs)) 0) h
 

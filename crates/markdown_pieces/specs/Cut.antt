@@ -6,7 +6,7 @@ use Rattle.markdown_brackets.specs.declared.brackets.Link.{Link}
 use Rattle.markdown_brackets.specs.Brackets.{Reading, is_free, nothing_read, with_bracket, with_run, Closed, closed, finished}
 use Rattle.markdown_pieces.specs.declared.cut.Inlines.{Inlines}
 use Rattle.markdown_pieces.specs.declared.pieces.Kind.{Kind}
-use Rattle.markdown_pieces.specs.declared.pieces.Kind.TheVariants.{Run as RunKind, Opening, Closing}
+use Rattle.markdown_pieces.specs.declared.pieces.Kind.TheVariants.{Plain, Run as RunKind, Opening, Closing}
 use Rattle.markdown_pieces.specs.declared.pieces.Piece.{Piece}
 use Rattle.markdown_pieces.specs.Pieces.{piece, piece_at}
 
@@ -94,6 +94,10 @@ ended c = record { pieces = c.pieces; pairs = finished c.reading }
 -- a text that is cut into pieces, where these labels are defined
 abbrev pub cut_text : List (List ℕ) → List ℕ → CutText
 cut_text labels text = ended (cut_from labels text 0 0 0 nothing_read text)
+
+-- a text that is one piece, of which each byte stands for itself
+abbrev pub whole_text : List ℕ → CutText
+whole_text text = record { pieces = piece Plain (length text - 1) ∷ []; pairs = [] }
 
 -- what the code has cut a text into
 abbrev pub cut_of : Inlines → CutText

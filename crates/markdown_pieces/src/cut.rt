@@ -1,16 +1,17 @@
 //! A text as its pieces.
 
-ghost use Rattle.std.specs.Prelude.{◌≡◌, ◌+◌, ◌<◌, ◌≤◌, IfOk, OnOk, length, drop, min};
+ghost use Rattle.std.specs.Prelude.{◌≡◌, ℕ, ◌+◌, ◌<◌, ◌≤◌, List, IfOk, IsTrue, OnOk, length, drop, min};
 ghost use Rattle.std.specs.List.{All};
 ghost use Rattle.markdown_emphasis.specs.Pairs.{IsWithin};
 ghost use Rattle.markdown_pieces.specs.Known.{IsKnown};
 ghost use Rattle.markdown_brackets.specs.Brackets.{closed};
 ghost use Rattle.markdown_brackets.specs.Readings.{reading_of, IsTidy};
 ghost use Rattle.markdown_pieces.specs.Pieces.{piece};
-ghost use Rattle.markdown_pieces.specs.Cut.{capped, link_len, other_step, closing_step, opening_step, read_by, step, cut_text, cut_of};
+ghost use Rattle.markdown_pieces.specs.Cut.{capped, link_len, other_step, closing_step, opening_step, read_by, step, cut_text, cut_of, whole_text};
 ghost use Rattle.markdown_pieces.specs.Places.{AreCut};
 
-use crate::pieces::{Kind, Known, Piece, known_of, piece_at, piece_of};
+use crate::pieces::{Kind, Known, Piece, has_at, known_of, piece_at, piece_of};
+use crate::scan::{may_have_web, quiet_len};
 use markdown_brackets::brackets::{Brackets, Link};
 use markdown_brackets::labels::Labels;
 use markdown_emphasis::Pair;
@@ -150,6 +151,23 @@ fn step(
 {
     let piece = read_piece(alloc, labels, known, text, at, index, brackets)?;
     Ok(capped(piece, text.len() - at - 1))
+}
+
+/// Whether a text is one piece, of which each byte stands for itself.
+pub fn is_quiet(text: &str) -> bool
+    ensures { IsTrue result → (labels : List (List ℕ)) → cut_text labels text.now ≡ whole_text text.now }
+{
+    let bytes = text.as_bytes();
+    if bytes.is_empty() {
+        return false;
+    }
+    if quiet_len(bytes) < bytes.len() {
+        return false;
+    }
+    if has_at(bytes) {
+        return false;
+    }
+    !may_have_web(bytes)
 }
 
 /// The pieces of a text, with links to these definitions. No byte is lost, and each piece is a text of its own.

@@ -72,7 +72,7 @@ pub struct Known {
 }
 
 // Whether there is an at sign.
-fn has_at(text: &[u8]) -> bool
+pub(crate) fn has_at(text: &[u8]) -> bool
     ensures { result ≡ false → HasNoAt text.now }
 {
     memchr(b'@', text).is_some()

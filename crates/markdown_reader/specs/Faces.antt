@@ -36,6 +36,6 @@ items_of (part ∷ parts) = begun_by part + items_of parts
 abbrev pub waiting : Mapping → ℕ
 waiting m = items_in (drop m.seen m.gutters)
 
--- Each item's bullet, number or box is in front of exactly one row: as many are shown as items began, but for those that are open and that nothing is shown of.
+-- As many bullets, numbers and boxes of items are in front of rows as items began, but for items that are open and that nothing is shown of. Which ones, `SectionsNest` says.
 abbrev pub FacesOnce : Type 0
 FacesOnce = (defined : Defined) (parts : List PartContent) → faces_of (shown_parts defined parts nothing_shown).sections + waiting (shown_parts defined parts nothing_shown) ≡ items_of parts

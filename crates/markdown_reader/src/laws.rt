@@ -16,8 +16,8 @@ pub fn sections_nest()
     ensures { SectionsNest }
 {}
 
-/// Each item's bullet, number or box is in front of exactly one row: as many are shown as items began, but for those that are open and of which
-/// nothing is shown yet.
+/// As many bullets, numbers and boxes of items are in front of rows as items began, but for items that are open and of which nothing is shown. Which ones,
+/// `sections_nest` says.
 #[tactic(auto, using(crate::proofs::FaceLemmas::faces_once))]
 pub fn faces_are_shown_once()
     ensures { FacesOnce }

@@ -11,3 +11,4 @@ pub mod StreamLemmas
 pub mod PieceLemmas
 pub mod SourceLemmas
 pub mod OpenLemmas
+mod ProvisionalLemmas

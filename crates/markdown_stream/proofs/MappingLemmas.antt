@@ -27,9 +27,11 @@ use Rattle.markdown_gutters.specs.declared.forms.Form.TheVariants.{Words, Large,
 use Rattle.mad_mark_runs.specs.declared.mark_runs.MarkRun.{MarkRun}
 use Rattle.markdown_tones.specs.Fences.{fence_marks}
 use Rattle.markdown_html_text.specs.HtmlLeaves.{html_level}
-use Rattle.markdown_reader.specs.Mapping.{html_text, html_by, LinkSaid, Mapping, new_gutter, with_last, is_spaced, spaced, blank_row, link_at, linked, section_of, with_section, added, put, passed, list_ended, begun, closed, item_ended, nothing_since, ended_by, ended, words, addresses_in, words_shown, task_by, alert_line, alert_by, paragraph_by, heading_style, table_addresses, leaf_shown, shown_part, shown_parts, with_marks, code_shown}
+use Rattle.markdown_reader.specs.Mapping.{html_text, html_by, leaves_in, LinkSaid, Mapping, new_gutter, with_last, is_spaced, spaced, blank_row, link_at, linked, section_of, with_section, added, put, passed, list_ended, begun, closed, item_ended, nothing_since, ended_by, ended, words, addresses_in, words_shown, task_by, alert_line, alert_by, paragraph_by, heading_style, table_addresses, leaf_shown, shown_part, shown_parts, with_marks, code_shown}
 use Rattle.markdown_reader.proofs.PartsLemmas.{shown_joined}
 use Rattle.markdown_stream.specs.Laws.{SectionsComeInTurn}
+use Rattle.markdown_stream.specs.Provisional.{part_provided}
+use Rattle.markdown_stream.specs.Streamed.{parts_provided}
 use Rattle.markdown_stream.specs.Streaming.{taken, link_after, shown_after}
 
 -- ---- sections and links
@@ -159,6 +161,14 @@ pub parts_behind : (defined : Defined) (parts : List PartContent) (ss : List Sec
 unfolding shown_parts
 parts_behind defined [] ss ls m = refl
 parts_behind defined (part ∷ parts) ss ls m = ap (shown_parts defined parts) (part_behind defined part ss ls m) ∙ parts_behind defined parts ss ls (shown_part defined part m)
+
+-- so are parts by the definitions that their words name, too
+pub provided_behind : (defined : Defined) (parts : List PartContent) (ss : List SectionContent) (ls : List LinkSaid) (m : Mapping) → parts_provided defined parts (shown_after ss ls m) ≡ shown_after ss ls (parts_provided defined parts m)
+unfolding parts_provided
+provided_behind defined [] ss ls m = refl
+provided_behind defined (part ∷ parts) ss ls m =
+    let own : Defined = part_provided defined part in
+    ap (parts_provided defined parts) (parts_behind own (leaves_in part) ss ls m) ∙ provided_behind defined parts ss ls (shown_parts own (leaves_in part) m)
 
 -- a mapping is its sections and links, and behind them what goes on
 pub kept : (m : Mapping) → m ≡ shown_after m.sections m.links (taken m)

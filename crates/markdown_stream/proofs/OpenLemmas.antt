@@ -1,23 +1,22 @@
 -- What is open, while the text goes on.
 use Rattle.std.proofs.Common.{◌≡◌, ℕ, List, [], ◌∷◌, ◌++◌, length, sym, ap, ◌∙◌, arith}
-use Rattle.std.specs.List.{flat_map}
 use Rattle.mad_sections.specs.Sections.{SectionContent}
 use Rattle.markdown_blocks.specs.Lines.{text_lines}
 use Rattle.markdown_blocks.specs.Steps.{Step, step}
 use Rattle.markdown_blocks.specs.declared.containers.Container.{Container}
 use Rattle.markdown_leaves.specs.Parts.{PartContent}
 use Rattle.markdown_leaves.specs.Told.{told, events_between}
-use Rattle.markdown_reader.specs.Mapping.{LinkSaid, Mapping, leaves_in, shown_parts}
+use Rattle.markdown_reader.specs.Mapping.{LinkSaid, Mapping}
 use Rattle.markdown_stream.specs.Come.{HasCome, lines_streamed, streamed_after}
 use Rattle.markdown_stream.specs.Held.{streaming_of}
 use Rattle.markdown_stream.specs.Laws.{OpenIsStreamed}
 use Rattle.markdown_stream.specs.OpenSections.{after_lines, open_sections}
 use Rattle.markdown_stream.specs.Readings.{Reading, nothing_read, step_read, line_read, lines_read, parts_read, parts_at_end, handed_on}
-use Rattle.markdown_stream.specs.Streamed.{Streamed, nothing_streamed, parts_streamed, streamed_sections}
+use Rattle.markdown_stream.specs.Streamed.{Streamed, nothing_streamed, parts_provided, parts_streamed, streamed_sections}
 use Rattle.markdown_stream.specs.Streaming.{Streaming, taken}
 use Rattle.markdown_stream.specs.declared.section_stream.SectionStream.{SectionStream}
-use Rattle.markdown_stream.proofs.KnownLemmas.{all_known, known}
-use Rattle.markdown_stream.proofs.MappingLemmas.{sections_come_in_turn}
+use Rattle.markdown_stream.proofs.KnownLemmas.{all_provided}
+use Rattle.markdown_stream.proofs.MappingLemmas.{kept, provided_behind}
 use Rattle.markdown_stream.proofs.ReadingLemmas.{parts_come_in_turn}
 use Rattle.markdown_stream.proofs.StreamingLemmas.{streamed_joined}
 
@@ -50,12 +49,12 @@ open_of end read sections links s h =
 
 -- what is open is shown as at the end, where it defines nothing
 pub open_is_streamed : OpenIsStreamed
-unfolding streamed_sections shown_parts
+unfolding streamed_sections
 open_is_streamed text end lines joins defines =
     let r = lines_read nothing_read lines in
     let later = parts_at_end (lines_read (handed_on r) (text_lines end)) in
     let s = lines_streamed lines in
     ap (λ (ps : List PartContent). (parts_streamed ps nothing_streamed).mapping.sections) (parts_come_in_turn text lines (text_lines end) joins)
     ∙ ap (λ (t : Streamed). t.mapping.sections) (streamed_joined (parts_read r) later nothing_streamed)
-    ∙ ap (λ (m : Mapping). m.sections) (known s.defined later s (all_known later s.defined defines))
-    ∙ ap (λ (m : Mapping). m.sections) (sections_come_in_turn s.defined [] (flat_map leaves_in later) s.mapping)
+    ∙ ap (λ (m : Mapping). m.sections) (all_provided later s defines ∙ ap (parts_provided s.defined later) (kept s.mapping))
+    ∙ ap (λ (m : Mapping). m.sections) (provided_behind s.defined later s.mapping.sections s.mapping.links (taken s.mapping))

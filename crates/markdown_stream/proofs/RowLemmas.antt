@@ -11,7 +11,7 @@ use Rattle.markdown_layout.specs.WrittenPages.{IsDressedAt}
 use Rattle.markdown_lines.specs.Texts.{behind_mark}
 use Rattle.std.proofs.lemmas.List.{map-append}
 use Rattle.markdown_reader.specs.Steady.{steady_section, steady_sections}
-use Rattle.markdown_stream.proofs.KnownLemmas.{known_is_whole}
+use Rattle.markdown_stream.proofs.KnownLemmas.{alike_is_whole}
 use Rattle.markdown_stream.proofs.StreamingLemmas.{cuts_dont_matter}
 use Rattle.markdown_stream.specs.Streaming.{nothing_come, pieces_shown}
 use Rattle.markdown_stream.specs.Laws.{RowsAreThoseOfTheWhole, KnownIsWrittenWhole}
@@ -29,18 +29,18 @@ steady_joined [] = refl
 steady_joined (piece ∷ pieces) =
     ap (λ (ss : List SectionContent). steady_sections piece ++ ss) (steady_joined pieces) ∙ sym (map-append steady_section piece (flat_map (λ (page : List SectionContent). page) pieces))
 
--- the rows of groups of lines are those of the text, where each part is known
+-- the rows of groups of lines are those of the text, where each part is shown alike
 pub rows_are_those_of_the_whole : RowsAreThoseOfTheWhole
-rows_are_those_of_the_whole rules ascii width text groups rows joins known laid =
+rows_are_those_of_the_whole rules ascii width text groups rows joins alike laid =
     let pieces = pieces_shown nothing_come groups in
     subst (λ (all : List SectionContent). IsPageAt rules ascii width all rows)
-    (steady_joined pieces ∙ ap steady_sections (cuts_dont_matter text groups joins ∙ known_is_whole text known))
+    (steady_joined pieces ∙ ap steady_sections (cuts_dont_matter text groups joins ∙ alike_is_whole text alike))
     (rows_joined rules ascii width (map steady_sections pieces) rows laid)
 
--- what goes out of pieces is what goes out of the whole, where each part is known
+-- what goes out of pieces is what goes out of the whole, where each part is shown alike
 pub known_is_written_whole : KnownIsWrittenWhole
-known_is_written_whole skin width text bytes known h = (
+known_is_written_whole skin width text bytes alike h = (
   h.rows,
-  subst (λ (ss : List SectionContent). IsDressedAt skin width (steady_sections ss) h.rows) (known_is_whole (behind_mark text) known) h.page,
+  subst (λ (ss : List SectionContent). IsDressedAt skin width (steady_sections ss) h.rows) (alike_is_whole (behind_mark text) alike) h.page,
   h.written,
 )

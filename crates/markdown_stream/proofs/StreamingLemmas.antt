@@ -7,6 +7,7 @@ use Rattle.markdown_definitions.specs.Definitions.{part_defined}
 use Rattle.markdown_reader.specs.Mapping.{LinkSaid, Mapping, leaves_in}
 use Rattle.markdown_stream.specs.Come.{streamed_after}
 use Rattle.markdown_stream.specs.Laws.{CutsDontMatter, CutsDontMatterToLinks}
+use Rattle.markdown_stream.specs.Provisional.{part_provided}
 use Rattle.markdown_stream.specs.Readings.{Reading, lines_read, parts_read, parts_at_end, handed_on}
 use Rattle.markdown_stream.specs.Streamed.{Streamed, nothing_streamed, part_streamed, parts_streamed, streamed_sections, streamed_links}
 use Rattle.markdown_stream.specs.Streaming.{taken_from, shown_after, Streaming, nothing_come, lines_shown, kept_after, end_shown, pieces_shown, sections_shown, links_joined, links_shown}
@@ -18,7 +19,7 @@ pub parts_behind : (parts : List PartContent) (ss : List SectionContent) (ls : L
 unfolding parts_streamed
 parts_behind [] ss ls s = refl
 parts_behind (part ∷ parts) ss ls s =
-    ap (λ (m : Mapping). parts_streamed parts (record { defined = part_defined s.defined part; mapping = m })) (leaves_behind (part_defined s.defined part) (leaves_in part) ss ls s.mapping)
+    ap (λ (m : Mapping). parts_streamed parts (record { defined = part_defined s.defined part; mapping = m })) (leaves_behind (part_provided (part_defined s.defined part) part) (leaves_in part) ss ls s.mapping)
     ∙ parts_behind parts ss ls (part_streamed part s)
 
 -- parts are shown on behind those before them

@@ -6,6 +6,7 @@ use Rattle.markdown_leaves.specs.declared.parts.Kind.TheVariants.{Paragraph, Hea
 use Rattle.markdown_lines.specs.Links.{Defined}
 use Rattle.markdown_definitions.specs.Definitions.{part_defined}
 use Rattle.markdown_reader.specs.Mapping.{Mapping, leaves_in, shown_parts}
+use Rattle.markdown_stream.specs.Provisional.{part_provided}
 
 -- a leaf whose words may name a definition
 abbrev pub has_words : Kind → Bool
@@ -23,10 +24,24 @@ asks_nothing _ = true
 abbrev pub SaysTheSame : Defined → Defined → PartContent → Type 0
 SaysTheSame defined other part = (m : Mapping) → shown_parts defined (leaves_in part) m ≡ shown_parts other (leaves_in part) m
 
--- each of these parts says the same by the definitions that came up to it as by all
+-- each of these parts says the same by the definitions that came up to it, and by those that its words name, as by all
 abbrev pub AreKnown : Defined → Defined → List PartContent → Type 0
 AreKnown all defined [] = Unit {0}
-AreKnown all defined (part ∷ parts) = SaysTheSame (part_defined defined part) all part × AreKnown all (part_defined defined part) parts
+AreKnown all defined (part ∷ parts) = SaysTheSame (part_provided (part_defined defined part) part) all part × AreKnown all (part_defined defined part) parts
+
+-- A part shows the same by some definitions as by others, but for where its links lead.
+abbrev pub ShowsTheSame : Defined → Defined → PartContent → Type 0
+ShowsTheSame defined other part = (m : Mapping) → record (shown_parts defined (leaves_in part) m) { links = [] } ≡ record (shown_parts other (leaves_in part) m) { links = [] }
+
+-- so does each of these parts by the definitions that came up to it, and by those that its words name, and by all
+abbrev pub AreShownAlike : Defined → Defined → List PartContent → Type 0
+AreShownAlike all defined [] = Unit {0}
+AreShownAlike all defined (part ∷ parts) = ShowsTheSame (part_provided (part_defined defined part) part) all part × AreShownAlike all (part_defined defined part) parts
+
+-- each label that the words of these parts name by their shape is defined in front of them
+abbrev pub NameDefined : Defined → List PartContent → Type 0
+NameDefined defined [] = Unit {0}
+NameDefined defined (part ∷ parts) = (part_provided (part_defined defined part) part ≡ part_defined defined part) × NameDefined (part_defined defined part) parts
 
 -- the leaf is one of definitions
 abbrev pub is_definitions : Kind → Bool

@@ -21,7 +21,7 @@ use Rattle.markdown_layout.specs.WrittenPages.{IsDressedAt, dressed_bytes}
 use Rattle.markdown_lines.specs.Links.{Defined}
 use Rattle.markdown_lines.specs.Texts.{behind_mark}
 use Rattle.markdown_stream.specs.Streams.{IsStreamed}
-use Rattle.markdown_stream.specs.Known.{SaysTheSame, AreKnown, asks_nothing, defines_nothing}
+use Rattle.markdown_stream.specs.Known.{SaysTheSame, AreKnown, AreShownAlike, NameDefined, asks_nothing, defines_nothing}
 use Rattle.markdown_stream.specs.Come.{lines_streamed}
 use Rattle.markdown_stream.specs.OpenSections.{after_lines, open_sections}
 use Rattle.markdown_stream.specs.Readings.{Reading, nothing_read, lines_read, parts_read, parts_at_end, handed_on}
@@ -66,11 +66,15 @@ LeavesEndEarly = (g : Gathering) (event : Event) → ends_leaf event ≡ true �
 abbrev pub LinesComeInTurn : Type 0
 LinesComeInTurn = (front later : List ℕ) → text_lines (front ++ 10 ∷ later) ≡ text_lines (front ++ 10 ∷ []) ++ text_lines later
 
--- A text is shown as the whole where each part says the same by the definitions that came up to it as by all.
+-- A text is shown as the whole where each part says the same by the definitions that came up to it, and by those that its words name, as by all.
 abbrev pub KnownIsWhole : Type 0
 KnownIsWhole = (text : List ℕ) → AreKnown (definitions_of (parts_of text)) nothing_defined (parts_of text) → streamed_sections text ≡ printable_sections text
 
--- Then its links are those of the whole, too.
+-- It is enough that each shows the same, but for where its links lead: a label that is named before its definition comes leads nowhere.
+abbrev pub AlikeIsWhole : Type 0
+AlikeIsWhole = (text : List ℕ) → AreShownAlike (definitions_of (parts_of text)) nothing_defined (parts_of text) → streamed_sections text ≡ printable_sections text
+
+-- Where they say the same, its links are those of the whole, too.
 abbrev pub KnownHasLinks : Type 0
 KnownHasLinks = (text : List ℕ) → AreKnown (definitions_of (parts_of text)) nothing_defined (parts_of text) → streamed_links text ≡ unmarked_links text
 
@@ -78,27 +82,27 @@ KnownHasLinks = (text : List ℕ) → AreKnown (definitions_of (parts_of text)) 
 abbrev pub WithoutWordsIsSame : Type 0
 WithoutWordsIsSame = (part : PartContent) (defined other : Defined) → asks_nothing part ≡ true → SaysTheSame defined other part
 
--- A text without definitions is shown as the whole.
+-- A text without definitions is shown as the whole, where its words name none by their shape.
 abbrev pub UndefinedIsWhole : Type 0
-UndefinedIsWhole = (text : List ℕ) → list_all defines_nothing (parts_of text) ≡ true → streamed_sections text ≡ printable_sections text
+UndefinedIsWhole = (text : List ℕ) → list_all defines_nothing (parts_of text) ≡ true → NameDefined nothing_defined (parts_of text) → streamed_sections text ≡ printable_sections text
 
--- So is one whose definitions stand in front of all words.
+-- So is one whose definitions stand in front of all words, where these name no others.
 abbrev pub DefinedInFrontIsWhole : Type 0
 DefinedInFrontIsWhole = (text : List ℕ) (front others : List PartContent) → parts_of text ≡ front ++ others → list_all asks_nothing front ≡ true → list_all defines_nothing others ≡ true
-    → streamed_sections text ≡ printable_sections text
+    → NameDefined nothing_defined (parts_of text) → streamed_sections text ≡ printable_sections text
 
--- The headline. Wherever lines are parted into groups, the rows of the groups, one below the other, are those of the whole text, where each part says
--- the same by the definitions that came up to it as by all.
+-- The headline. Wherever lines are parted into groups, the rows of the groups, one below the other, are those of the whole text, where each part shows
+-- the same by the definitions that came up to it, and by those that its words name, as by all.
 abbrev pub RowsAreThoseOfTheWhole : Type 0
 RowsAreThoseOfTheWhole = (rules : LineRules) (ascii : Bool) (width : Option ℕ) (text : List ℕ) (groups : List (List (List ℕ))) (rows : List RowContent)
-    → flat_map (λ lines. lines) groups ≡ text_lines text → AreKnown (definitions_of (parts_of text)) nothing_defined (parts_of text)
+    → flat_map (λ lines. lines) groups ≡ text_lines text → AreShownAlike (definitions_of (parts_of text)) nothing_defined (parts_of text)
     → EachBecomes (IsPageAt rules ascii width) (map steady_sections (pieces_shown nothing_come groups)) rows → IsPageAt rules ascii width (unmarked_sections text) rows
 
--- What goes out of a text in pieces, wherever it is cut, is what goes out of the whole text, where each part says the same by the definitions that came
--- up to it as by all.
+-- What goes out of a text in pieces, wherever it is cut, is what goes out of the whole text, where each part shows the same by the definitions that
+-- came up to it, and by those that its words name, as by all.
 abbrev pub KnownIsWrittenWhole : Type 0
 KnownIsWrittenWhole = (skin : PageSkin) (width : Option ℕ) (text bytes : List ℕ)
-    → AreKnown (definitions_of (parts_of (behind_mark text))) nothing_defined (parts_of (behind_mark text)) → IsStreamed skin width text bytes
+    → AreShownAlike (definitions_of (parts_of (behind_mark text))) nothing_defined (parts_of (behind_mark text)) → IsStreamed skin width text bytes
     → (rows : List RowContent) × IsDressedAt skin width (markdown_sections text) rows × (bytes ≡ dressed_bytes skin width rows)
 
 -- What the leaves that these lines complete show, and then what is open shows, is what the text shows that ends there, where nothing that is open

@@ -1,4 +1,6 @@
 pub mod Readings
+pub mod Provisional
+pub mod Openings
 pub mod Streamed
 pub mod Streaming
 pub mod Known

@@ -1,6 +1,6 @@
 //! Laws, each the contract of a small function: what is shown of a text in pieces is what is shown of the whole.
 
-ghost use Rattle.markdown_stream.specs.Laws.{PartsComeInTurn, SectionsComeInTurn, CutsDontMatter, KnownIsWhole, KnownHasLinks, UndefinedIsWhole, DefinedInFrontIsWhole, WithoutWordsIsSame, RowsAreThoseOfTheWhole, NothingIsHeld, LinesComeInTurn, LeavesEndEarly, CutsDontMatterToLinks, KnownIsWrittenWhole, OpenIsStreamed};
+ghost use Rattle.markdown_stream.specs.Laws.{PartsComeInTurn, SectionsComeInTurn, CutsDontMatter, KnownIsWhole, AlikeIsWhole, KnownHasLinks, UndefinedIsWhole, DefinedInFrontIsWhole, WithoutWordsIsSame, RowsAreThoseOfTheWhole, NothingIsHeld, LinesComeInTurn, LeavesEndEarly, CutsDontMatterToLinks, KnownIsWrittenWhole, OpenIsStreamed};
 
 /// Whatever comes after some lines, the parts that they complete are the first ones of the text.
 #[tactic(auto, using(crate::proofs::ReadingLemmas::parts_come_in_turn))]
@@ -20,13 +20,19 @@ pub fn cuts_dont_matter()
     ensures { CutsDontMatter }
 {}
 
-/// Where each part says the same by the definitions that came up to it as by all, a text in pieces is shown as the whole.
+/// Where each part says the same by the definitions that came up to it, and by those that its words name, as by all, a text in pieces is shown as the whole.
 #[tactic(auto, using(crate::proofs::KnownLemmas::known_is_whole))]
 pub fn known_is_whole()
     ensures { KnownIsWhole }
 {}
 
-/// So are its links.
+/// It is enough that each part shows the same, but for where its links lead.
+#[tactic(auto, using(crate::proofs::KnownLemmas::alike_is_whole))]
+pub fn alike_is_whole()
+    ensures { AlikeIsWhole }
+{}
+
+/// Where each part says the same, the links of a text in pieces are those of the whole, too.
 #[tactic(auto, using(crate::proofs::KnownLemmas::known_has_links))]
 pub fn known_has_links()
     ensures { KnownHasLinks }
@@ -38,20 +44,20 @@ pub fn without_words_is_same()
     ensures { WithoutWordsIsSame }
 {}
 
-/// A text without definitions is shown as the whole.
+/// A text without definitions is shown as the whole, where its words name none by their shape.
 #[tactic(auto, using(crate::proofs::KnownLemmas::undefined_is_whole))]
 pub fn undefined_is_whole()
     ensures { UndefinedIsWhole }
 {}
 
-/// So is one whose definitions stand in front of all words.
+/// So is one whose definitions stand in front of all words, where these name no others.
 #[tactic(auto, using(crate::proofs::KnownLemmas::in_front_is_whole))]
 pub fn defined_in_front_is_whole()
     ensures { DefinedInFrontIsWhole }
 {}
 
-/// Wherever lines are parted into groups, the rows of the groups, one below the other, are those of the whole text, where each part says
-/// the same by the definitions that came up to it as by all.
+/// Wherever lines are parted into groups, the rows of the groups, one below the other, are those of the whole text, where each part shows
+/// the same by the definitions that came up to it, and by those that its words name, as by all.
 #[tactic(auto, using(crate::proofs::RowLemmas::rows_are_those_of_the_whole))]
 pub fn rows_are_those_of_the_whole()
     ensures { RowsAreThoseOfTheWhole }
@@ -81,7 +87,8 @@ pub fn cuts_dont_matter_to_links()
     ensures { CutsDontMatterToLinks }
 {}
 
-/// Where each part says the same by the definitions that came up to it as by all, what goes out of pieces is what goes out of the whole text.
+/// Where each part shows the same by the definitions that came up to it, and by those that its words name, as by all, what goes out of pieces is what
+/// goes out of the whole text.
 pub fn known_is_written_whole()
     ensures { KnownIsWrittenWhole }
 {}

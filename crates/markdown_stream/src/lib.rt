@@ -4,18 +4,20 @@
 //! In the order of the work:
 //!
 //! 1. [`open_leaf`]: the leaf that is open between two lines, which owns its lines.
-//! 2. [`showing`]: what the parts so far are shown as, and what the next ones depend on.
-//! 3. [`ahead`]: what a text tells if it goes on so.
-//! 4. [`section_stream`]: a text in pieces, as sections.
-//! 5. [`stream`]: a text in pieces, whose rows go out leaf by leaf.
-//! 6. [`pieces`]: a text that is given in pieces; [`sources`]: one that a source gives.
-//! 7. [`laws`]: what is shown of pieces is what is shown of the whole.
+//! 2. [`provisional`]: definitions that count in a leaf before they come.
+//! 3. [`showing`]: what the parts so far are shown as, and what the next ones depend on.
+//! 4. [`ahead`]: what a text tells if it goes on so.
+//! 5. [`section_stream`]: a text in pieces, as sections.
+//! 6. [`stream`]: a text in pieces, whose rows go out leaf by leaf.
+//! 7. [`pieces`]: a text that is given in pieces; [`sources`]: one that a source gives.
+//! 8. [`laws`]: what is shown of pieces is what is shown of the whole.
 #![tactic(auto)]
 
 mod ahead;
 pub mod laws;
 mod open_leaf;
 mod pieces;
+mod provisional;
 mod section_stream;
 pub mod showing;
 mod sources;

@@ -1,15 +1,18 @@
 //! What the parts so far are shown as, and what the next ones depend on.
 
 ghost use Rattle.std.specs.Prelude.{◌≡◌, IfOk, OnOk, map};
-ghost use Rattle.std.specs.List.{flat_map};
 ghost use Rattle.markdown_leaves.specs.Parts.{part_of};
 ghost use Rattle.markdown_reader.specs.MarkdownSays.{markdown_says, links_said};
+ghost use Rattle.markdown_lines.specs.LinksOf.{defined_of};
 ghost use Rattle.markdown_reader.specs.Mapping.{leaves_in, shown_parts};
+ghost use Rattle.markdown_reader.specs.MappingOf.{mapping_of};
 ghost use Rattle.markdown_reader.specs.Steady.{steady_sections};
 ghost use Rattle.markdown_stream.specs.ShowingOf.{streamed_of};
-ghost use Rattle.markdown_stream.specs.Streamed.{nothing_streamed, part_streamed, parts_streamed};
+ghost use Rattle.markdown_stream.specs.Streamed.{nothing_streamed, part_streamed, parts_provided, parts_streamed};
+ghost use Rattle.markdown_stream.specs.Provisional.{part_provided};
 ghost use Rattle.markdown_stream.specs.Streaming.{taken, taken_from};
 
+use crate::provisional::part_provided;
 use markdown_definitions::definitions::{no_definitions, push_part_definitions};
 use markdown_leaves::Part;
 use markdown_lines::links::Definitions;
@@ -50,7 +53,7 @@ impl Showing {
         ensures { OnOk result (streamed_of self.new ≡ part_streamed (part_of part.now) (streamed_of self.old)) }
     {
         push_part_definitions(alloc, &mut self.definitions, part)?;
-        self.mapper.show(alloc, &self.definitions, part)
+        show_part(alloc, &mut self.mapper, &self.definitions, part)
     }
 
     /// Parts come, one after the other.
@@ -88,11 +91,31 @@ impl Showing {
     /// # Errors
     ///
     /// Out of memory is the only error.
+    #[tactic(auto, unfolding(crate::specs::Streamed::parts_provided))]
     pub fn read_next(&self, alloc: Global, parts: &[Part<'_>]) -> Result<Markdown, AllocError>
-        ensures { IfOk result (λ read. markdown_says read ≡ steady_sections (shown_parts (streamed_of self.now).defined (flat_map leaves_in (map part_of parts.now)) (taken (streamed_of self.now).mapping)).sections) }
+        ensures { IfOk result (λ read. markdown_says read ≡ steady_sections (parts_provided (streamed_of self.now).defined (map part_of parts.now) (taken (streamed_of self.now).mapping)).sections) }
     {
         let mut mapper = self.mapper.going_on(alloc)?;
-        mapper.show_all(alloc, &self.definitions, parts)?;
+        let mut rest = parts;
+        while let [part, next @ ..] = rest {
+            show_part(alloc, &mut mapper, &self.definitions, part)?;
+            rest = next;
+        }
         Markdown::take(alloc, &mut mapper)
+    }
+}
+
+// Shows a part by these definitions, and for now by those that its words name by their shape.
+fn show_part(
+    alloc: Global,
+    mapper: &mut Mapper,
+    definitions: &Definitions,
+    part: &Part<'_>,
+) -> Result<(), AllocError>
+    ensures { OnOk result (mapping_of mapper.new ≡ shown_parts (part_provided (defined_of definitions.now) (part_of part.now)) (leaves_in (part_of part.now)) (mapping_of mapper.old)) }
+{
+    match part_provided(alloc, definitions, part)? {
+        Some(provided) => mapper.show(alloc, &provided, part),
+        None => mapper.show(alloc, definitions, part),
     }
 }

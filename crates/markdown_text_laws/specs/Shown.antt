@@ -14,7 +14,7 @@ abbrev pub bracket : Bool → List ℕ
 bracket true = 33 ∷ 91 ∷ []
 bracket false = 91 ∷ []
 
--- An opening bracket is shown, or it begins a link or an image and is not.
+-- An opening bracket is shown or isn't. The law doesn't say when.
 abbrev pub IsBracketOrNone : Bool → List ℕ → Type 0
 IsBracketOrNone image shown = (shown ≡ []) ⊎ (shown ≡ bracket image)
 
@@ -45,6 +45,6 @@ abbrev pub AreShown : (rest : List ℕ) → List Piece → List ℕ → Type 0
 AreShown rest [] shown = shown ≡ []
 AreShown rest (p ∷ ps) shown = (own : List ℕ) × (later : List ℕ) × (shown ≡ own ++ later) × IsShownOf p.kind p.more rest own × AreShown (drop (suc p.more) rest) ps later
 
--- Each piece of a leaf's text is shown once, in order, or is markup.
+-- Each piece of a leaf's text is shown once, in order, or is markup, by this list.
 abbrev pub EachPieceIsShown : Type 0
 EachPieceIsShown = (labels : List (List ℕ)) (text : List ℕ) → AreShown text (cut_text labels text).pieces (map char_of (leaf_text labels text))

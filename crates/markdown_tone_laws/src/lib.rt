@@ -9,8 +9,8 @@ pub fn tones_are_the_codes()
     ensures { TonesAreTheCodes }
 {}
 
-/// Of what each text is shown as, the n-th character of a fence's code that is shown and isn't blank has as its mark the tone of its own token, in the language
-/// that the fence names. No other section has marks.
+/// Of what each text is shown as, a section has no marks, or shows the code of some fence that names a language: the n-th character that isn't blank has as its mark
+/// the tone of its own token. That all fences have theirs is `fences_have_their_marks` of `markdown_reader`.
 #[tactic(auto, using(crate::proofs::FenceLemmas::fences_toned))]
 pub fn fences_are_toned()
     ensures { FencesAreToned }

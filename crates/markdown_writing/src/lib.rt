@@ -1,4 +1,4 @@
-//! Pages as Markdown, which is read as these pages again. In the order of the work:
+//! Pages as Markdown, whose blocks are read back. In the order of the work:
 //!
 //! 1. [`blocks`]: what a page is made of.
 //! 2. [`words`]: words, in which a backslash stands before each sign that could be a mark.

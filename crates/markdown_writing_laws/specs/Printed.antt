@@ -67,6 +67,6 @@ pub record StarsFit (phrases : List Phrase) : Type 0 where
   pub flank : stars_flank Blank phrases ≡ true
   pub texts : has_emphasis phrases ≡ true → list_all is_text phrases ≡ true
 
--- Of phrases the html that CommonMark prints is theirs, one after the other: no other element is in it, whatever labels are defined.
+-- Of phrases the html (`inline_html`) is theirs, one after the other: no other element is in it, whatever labels are defined.
 abbrev pub PhrasesArePrinted : Type 0
 PhrasesArePrinted = (defined : Defined) (phrases : List Phrase) → ArePhrases phrases → StarsFit phrases → inline_html defined (line_text phrases) ≡ flat_map phrase_html phrases

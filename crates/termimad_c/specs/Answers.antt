@@ -1,8 +1,9 @@
 -- What a call answers, and what is in the caller's buffer then.
-use Rattle.std.specs.Prelude.{◌≡◌, ℕ, ◌≤◌, ◌<◌, ◌⊎◌, Bool, true, false, List, ◌++◌, length, take, drop}
+use Rattle.std.specs.Prelude.{◌≡◌, ℕ, ◌≤◌, ◌<◌, ◌⊎◌, Bool, true, false, List, ◌++◌, length, take, drop, Option, Some, None}
 use Rattle.termimad_words.specs.declared.failure.Failure.{Failure}
 use Rattle.termimad_words.specs.declared.failure.Failure.TheVariants as failure
 use Rattle.termimad_c.specs.declared.answer.Answer.{Answer}
+use Rattle.termimad_c.specs.declared.answer.Place.{Place}
 use Rattle.termimad_c.specs.declared.answer.Progress.{Progress}
 use Rattle.termimad_c.specs.declared.answer.Refusal.{Refusal}
 use Rattle.termimad_c.specs.declared.answer.Refusal.TheVariants.{Condition, NotUtf8, Skin, Memory}
@@ -68,3 +69,19 @@ abbrev pub Progresses : Bool → (List ℕ → ℕ → Bool → Type 0) → (Ref
 Progresses fenced Makes Refuses old answer new =
     ((rows : List ℕ) × (used : ℕ) × (fenced_then : Bool) × Makes rows used fenced_then × HandsOutParts rows used fenced_then fenced old answer new)
     ⊎ ((refusal : Refusal) × Refuses refusal × IsNoProgress refusal fenced answer × (new ≡ old))
+
+-- ---- a section that is looked for
+
+-- the answer of a call that looked for a section: its number, if there is one
+abbrev pub place_of : Option ℕ → Place
+place_of None = record { section = 0; found = 0; status = 0 }
+place_of (Some number) = record { section = number; found = 1; status = 0 }
+
+-- the answer of such a call that was refused
+abbrev pub IsNoPlace : Refusal → Place → Type 0
+IsNoPlace refusal answer = answer ≡ record { section = 0; found = 0; status = status_of refusal }
+
+-- A call looked for a section, and this is true of the one that it found, or of none; or it was refused for a reason of which that is true.
+abbrev pub Finds : (Option ℕ → Type 0) → (Refusal → Type 0) → Place → Type 0
+Finds Makes Refuses answer =
+    ((section : Option ℕ) × Makes section × (answer ≡ place_of section)) ⊎ ((refusal : Refusal) × Refuses refusal × IsNoPlace refusal answer)

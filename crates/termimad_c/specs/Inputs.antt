@@ -73,6 +73,12 @@ RefusesCode Wrong text language word NotUtf8 = (¬ (IsUtf8 language)) ⊎ ((¬ (
 RefusesCode Wrong text language word Skin = page_skin_given (word_given word) ≡ None
 RefusesCode Wrong text language word Memory = Unit {0}
 
+-- why a text and a name within it are refused
+abbrev pub RefusesName : List ℕ → List ℕ → Refusal → Type 0
+RefusesName text name NotUtf8 = (¬ (IsUtf8 text)) ⊎ (¬ (IsUtf8 name))
+RefusesName text name Memory = Unit {0}
+RefusesName text name _ = ⊥
+
 -- why a text that goes on or ends there, at a width, and a skin are refused
 abbrev pub RefusesParts : List ℕ → List ℕ → ℕ → Bool → Refusal → Type 0
 RefusesParts text word width is_last Condition = 2 ^ 16 ≤ width

@@ -1,9 +1,11 @@
--- The links and the headings of a text, as lines.
-use Rattle.std.specs.Prelude.{◌≡◌, ℕ, List, [], ◌∷◌, ◌++◌, decimal, IsUtf8, map}
+-- The links and the headings of a text, as lines, and where a link goes within the text.
+use Rattle.std.specs.Prelude.{◌≡◌, ℕ, List, [], ◌∷◌, ◌++◌, decimal, IsUtf8, Option, map}
 use Rattle.std.specs.List.{flat_map}
 use Rattle.markdown_headings.specs.Named.{HeadingSaid, headings_of}
 use Rattle.markdown_headings.specs.Printed.{ArePrintedHeadings}
+use Rattle.markdown_headings.specs.Targets.{section_among}
 use Rattle.markdown_lines.specs.Texts.{behind_mark}
+use Rattle.markdown_reader.specs.Anchors.{AnchorSaid, markdown_anchors}
 use Rattle.markdown_reader.specs.Markdown.{markdown_links, printable_sections, without_marks}
 use Rattle.markdown_reader.specs.MarkdownSays.{LinkSaid}
 use Rattle.markdown_reader.specs.Printed.{ArePrintedLinks}
@@ -40,3 +42,17 @@ pub record AreHeadingsOf (text whole : List ℕ) : Type 0 where
   pub utf8 : IsUtf8 text
   pub printed : ArePrintedHeadings (headings_of (sections_written text))
   pub headings : whole ≡ heading_lines (headings_of (sections_written text))
+
+-- the section to which a link goes, among the names of tags and headings
+abbrev pub section_with : List AnchorSaid → List HeadingSaid → List ℕ → Option ℕ
+section_with anchors headings name = section_among anchors (map (λ (h : HeadingSaid). h.name) headings) (map (λ (h : HeadingSaid). h.section) headings) name
+
+-- the section of a text to which `#name` goes: that of the first tag that has the name; else of the first heading, or of the first that has it in small letters
+abbrev pub section_named : List ℕ → List ℕ → Option ℕ
+section_named text name = section_with (markdown_anchors text) (headings_of (sections_written text)) name
+
+-- It is the number of the section to which `#name` goes within the text, or there is none.
+pub record IsSectionNamed (text name : List ℕ) (section : Option ℕ) : Type 0 where
+  pub utf8 : IsUtf8 text
+  pub named : IsUtf8 name
+  pub found : section ≡ section_named text name

@@ -1,7 +1,7 @@
 //! What a call answers, and what it leaves in the caller's buffer.
 
 ghost use Rattle.std.specs.Prelude.{◌≡◌, MatchResult, drop, length};
-ghost use Rattle.termimad_c.specs.Answers.{HandsOut, HandsOutParts, IsNoProgress, IsRefused, bit, status_of, refusal_of};
+ghost use Rattle.termimad_c.specs.Answers.{HandsOut, HandsOutParts, IsNoPlace, IsNoProgress, IsRefused, bit, place_of, status_of, refusal_of};
 
 use std::alloc::AllocError;
 use termimad::Error;
@@ -33,6 +33,18 @@ pub struct Progress {
     pub used: usize,
     /// 1 where a fence is open after these, else 0.
     pub fenced: u32,
+    /// How the call ended.
+    pub status: u32,
+}
+
+/// What a call answers that looks for a section.
+#[repr(C)]
+#[derive(Clone, Copy, PartialEq, Eq, Debug, Drop)]
+pub struct Place {
+    /// The number of the section; 0 where there is none, and where the call was refused.
+    pub section: usize,
+    /// 1 where there is one, else 0.
+    pub found: u32,
     /// How the call ended.
     pub status: u32,
 }
@@ -175,6 +187,32 @@ pub fn count_out(made: Result<usize, Refusal>) -> Answer
             status: DONE,
         },
         Err(refusal) => refuse(refusal),
+    }
+}
+
+/// The answer of a call that looked for a section.
+pub fn place_out(made: Result<Option<usize>, Refusal>) -> Place
+    ensures { MatchResult made (λ section. result ≡ place_of section) (λ refusal. IsNoPlace refusal result) }
+{
+    match made {
+        Ok(Some(section)) => Place {
+            section,
+            found: 1,
+            status: DONE,
+        },
+        Ok(None) => no_place(DONE),
+        Err(refusal) => no_place(refusal.status()),
+    }
+}
+
+// The answer of a call that ended so, and found no section.
+fn no_place(status: u32) -> Place
+    ensures { result ≡ record { section = 0; found = 0; status = status } }
+{
+    Place {
+        section: 0,
+        found: 0,
+        status,
     }
 }
 

@@ -5,17 +5,19 @@
 
 ghost use Rattle.std.specs.Prelude.{◌≡◌, ◌⊎◌, ◌≤◌, ◌^◌, [], None};
 ghost use Rattle.termimad_run.specs.declared.call.Command.TheVariants.{Inline};
-ghost use Rattle.termimad_c.specs.Answers.{Answers, Counts, Progresses};
-ghost use Rattle.termimad_c.specs.Inputs.{RefusesCall, RefusesCode, RefusesPage, RefusesParts, IsNoArea, IsNoFit, is_told};
+ghost use Rattle.termimad_c.specs.Answers.{Answers, Counts, Finds, Progresses};
+ghost use Rattle.termimad_c.specs.Inputs.{RefusesCall, RefusesCode, RefusesName, RefusesPage, RefusesParts, IsNoArea, IsNoFit, is_told};
 ghost use Rattle.termimad_c.specs.DataTables.{IsNoTable, IsTableWritten};
 ghost use Rattle.termimad_c.specs.Making.{IsWritten, IsAreaWritten, IsTextWritten, IsCodeWritten, IsMarkdownWritten, IsRowCount, IsFittedLine, IsMadePrintable, ArePartsOf};
-ghost use Rattle.termimad_c.specs.Outlines.{AreHeadingsOf, AreLinksOf};
+ghost use Rattle.termimad_c.specs.Outlines.{AreHeadingsOf, AreLinksOf, IsSectionNamed};
 ghost use Rattle.termimad_c.specs.GrowingTexts.{BeginsLive, ResizesLive, TakesLive};
 ghost use Rattle.termimad_c.specs.HeldGrowths.{IsHeld};
 ghost use Rattle.termimad_c.specs.HeldTexts.{IsBegun};
 ghost use Rattle.termimad_c.specs.TextsInPieces.{Begins, Takes};
 
-use crate::answer::{Answer, Progress, count_out, hand_out, hand_out_parts, refuse};
+use crate::answer::{
+    Answer, Place, Progress, count_out, hand_out, hand_out_parts, place_out, refuse,
+};
 use crate::coming::Coming;
 use crate::growing::Growing;
 use crate::held::Stream;
@@ -24,7 +26,7 @@ use crate::making::{
     area_bytes, code_bytes, fitted_bytes, inline_bytes, markdown_bytes, parts_made,
     printable_bytes, rows_count, table_bytes, text_bytes,
 };
-use crate::outlines::{headings_bytes, links_bytes};
+use crate::outlines::{headings_bytes, links_bytes, section_named};
 use std::alloc::Global;
 
 /// A Markdown text in an area of the screen: what `termimad-view area` writes.
@@ -104,6 +106,15 @@ pub extern "C" fn termimad_headings(alloc: Global, text: &[u8], buffer: &mut [u8
     ensures { Answers (AreHeadingsOf text.now) (RefusesCall ⊥ text.now []) buffer.old result buffer.new }
 {
     hand_out(headings_bytes(alloc, text), buffer)
+}
+
+/// The section of a text of Markdown as people write it to which `#name` goes, by its number: that of the first tag that has the name, or else of the
+/// heading.
+#[unsafe(no_mangle)]
+pub extern "C" fn termimad_find_section(alloc: Global, text: &[u8], name: &[u8]) -> Place
+    ensures { Finds (IsSectionNamed text.now name.now) (RefusesName text.now name.now) result }
+{
+    place_out(section_named(alloc, text, name))
 }
 
 /// The complete parts at the front of a Markdown text, laid out at a width, in columns; where `last` isn't 0, all of the text. A fence is open before

@@ -6,7 +6,6 @@ use Rattle.mad_layout.specs.WrittenParts.{WritesParts}
 use Rattle.mad_page.specs.declared.page.Files.{Files}
 use Rattle.mad_plain_rows.specs.PlainRows.{WritesPlain}
 use Rattle.mad_page_skin.specs.declared.page_skin.PageSkin.{PageSkin}
-use Rattle.mad_pager.specs.declared.session.End.{End}
 use Rattle.mad_pager.specs.declared.session.End.TheVariants.{Quits}
 use Rattle.mad_term.specs.Trace.{Trace, failed, flushed}
 use Rattle.mad_term.specs.declared.errors.Error.{Error}
@@ -17,7 +16,8 @@ use Rattle.markdown_lines.specs.Texts.{behind_mark}
 use Rattle.termimad_given.specs.Given.{Held}
 use Rattle.termimad_page_run.specs.Comings.{Arrival}
 use Rattle.termimad_page_run.specs.Growing.{IsBrokenGrowing, IsPagedGrowing}
-use Rattle.termimad_page_run.specs.Runs.{IsBrokenRun, IsPaged, shown_text}
+use Rattle.termimad_page_run.specs.Runs.{IsBrokenRun, IsPagedTo, shown_text}
+use Rattle.termimad_page_run.specs.declared.leaving.Leaving.{Leaving}
 use Rattle.termimad_page_run.specs.declared.growing.Frame.{Frame}
 use Rattle.termimad_page_run.specs.declared.program.Grammar.{Grammar}
 use Rattle.termimad_page_run.specs.declared.program.Grammar.TheVariants.{Lines, Markdown, Plain}
@@ -25,7 +25,7 @@ use Rattle.termimad_page_run.specs.declared.program.Sheet.{Sheet}
 use Rattle.termimad_words.specs.declared.failure.Failure.{Failure}
 use Rattle.termimad_words.specs.declared.failure.Failure.TheVariants.{Io, Usage, NotUtf8, Memory}
 use Rattle.termimad_page.specs.Calls.{Asks, IsNoCall, Where, as_whole, on_screen}
-use Rattle.termimad_page.specs.Ends.{Says, SaysEnd, refusal_of, row_of_end, status_of, status_of_end}
+use Rattle.termimad_page.specs.Ends.{Says, SaysEnd, end_lines, refusal_of, status_of, status_of_end}
 use Rattle.termimad_page.specs.Skins.{RefusesSkinFor, skin_for}
 use Rattle.termimad_page.specs.declared.failing.Refusal.{Refusal}
 use Rattle.termimad_page.specs.declared.failing.Refusal.TheVariants.{Failed, Unread}
@@ -89,10 +89,14 @@ IsUnwritten grammar skin columns text old refusal new =
     (e : Error) × (refusal ≡ refusal_of e)
     × (WritesRows {T = Unit {0}} grammar skin columns text old (Err e) new ⊎ HasWritten grammar skin columns text old failed new)
 
+-- nothing more is to be done
+abbrev pub quitting : Leaving
+quitting = record { end = Quits; address = None }
+
 -- a whole text is written, and the output is flushed
-abbrev pub WritesWhole : Grammar → PageSkin → ℕ → List ℕ → Trace → Result End Refusal → Trace → Type 0
+abbrev pub WritesWhole : Grammar → PageSkin → ℕ → List ℕ → Trace → Result Leaving Refusal → Trace → Type 0
 WritesWhole grammar skin columns text old r new = MatchResult r
-    (λ end. (end ≡ Quits) × HasWritten grammar skin columns text old flushed new)
+    (λ left. (left ≡ quitting) × HasWritten grammar skin columns text old flushed new)
     (λ refusal. IsUnwritten grammar skin columns text old refusal new)
 
 -- The sheet has this text, read so, in this skin, under this name, on a screen of so many columns and rows, with these files beside it, from the row of this
@@ -108,14 +112,14 @@ pub record IsSheetOf (grammar : Grammar) (skin : PageSkin) (name : List ℕ) (co
   pub text_is : sheet.text.now ≡ text
 
 -- a text is paged until a key or the input ends it, or up to a fault
-abbrev pub PagesText : Grammar → PageSkin → List ℕ → ℕ → ℕ → Files → ℕ → List ℕ → Trace → Trace → Result End Refusal → Trace → Trace → Type 0
+abbrev pub PagesText : Grammar → PageSkin → List ℕ → ℕ → ℕ → Files → ℕ → List ℕ → Trace → Trace → Result Leaving Refusal → Trace → Trace → Type 0
 PagesText grammar skin name columns rows files start text keys screen r new_keys new_screen =
     (sheet : Sheet) × IsSheetOf grammar skin name columns rows files start text sheet
-    × MatchResult r (λ end. IsPaged sheet end keys new_keys screen new_screen)
+    × MatchResult r (λ left. IsPagedTo sheet left keys new_keys screen new_screen)
     (λ refusal. (e : Error) × (refusal ≡ refusal_of e) × IsBrokenRun sheet e keys new_keys screen new_screen)
 
 -- a text is shown in its place; the devices of the other one are left alone
-abbrev pub ShowsText : Grammar → PageSkin → Where → List ℕ → Devices → Result End Refusal → Devices → Type 0
+abbrev pub ShowsText : Grammar → PageSkin → Where → List ℕ → Devices → Result Leaving Refusal → Devices → Type 0
 ShowsText grammar skin (on_screen name columns rows files start) text old r new =
     PagesText grammar skin name columns rows files start text old.keys old.screen r new.keys new.screen × (new.out ≡ old.out)
 ShowsText grammar skin (as_whole columns) text old r new =
@@ -134,7 +138,7 @@ IsNoText Markdown bytes refusal = ¬ (IsUtf8 bytes) × (refusal ≡ Failed NotUt
 IsNoText (Plain is_styled) bytes refusal = refusal ≡ Failed Memory
 
 -- bytes are shown as the text that they are, without a byte order mark at its front; or they are none, and nothing is done
-abbrev pub Shows : Grammar → PageSkin → Where → List ℕ → Devices → Result End Refusal → Devices → Type 0
+abbrev pub Shows : Grammar → PageSkin → Where → List ℕ → Devices → Result Leaving Refusal → Devices → Type 0
 Shows grammar skin place bytes old r new =
     ((text : List ℕ) × IsTextOf grammar bytes text × ShowsText grammar skin place (behind_mark text) old r new)
     ⊎ ((refusal : Refusal) × (r ≡ Err refusal) × IsNoText grammar bytes refusal × (new ≡ old))
@@ -157,10 +161,10 @@ pub record IsFrameOf (grammar : Grammar) (skin : PageSkin) (name : List ℕ) (co
   pub start_is : frame.start ≡ start
 
 -- a text that comes is paged until a key or the input ends it, or up to a fault
-abbrev pub PagesComing : Grammar → PageSkin → List ℕ → ℕ → ℕ → Files → ℕ → Arrival → Trace → Trace → Result End Refusal → Trace → Trace → Type 0
+abbrev pub PagesComing : Grammar → PageSkin → List ℕ → ℕ → ℕ → Files → ℕ → Arrival → Trace → Trace → Result Leaving Refusal → Trace → Trace → Type 0
 PagesComing grammar skin name columns rows files start coming keys screen r new_keys new_screen =
     (frame : Frame) × IsFrameOf grammar skin name columns rows files start frame
-    × MatchResult r (λ end. IsPagedGrowing frame end coming keys new_keys screen new_screen)
+    × MatchResult r (λ left. IsPagedGrowing frame left coming keys new_keys screen new_screen)
     (λ refusal. (e : Error) × (refusal ≡ refusal_of e) × IsBrokenGrowing frame e coming keys new_keys screen new_screen)
 
 -- nothing was read of a text that comes
@@ -169,7 +173,7 @@ pub record IsFreshArrival (coming : Arrival) : Type 0 where
   pub is_whole : coming.is_whole ≡ false
 
 -- a text that comes is paged in its place; the output is left alone
-abbrev pub ShowsComing : Grammar → PageSkin → Where → Devices → Result End Refusal → Devices → Type 0
+abbrev pub ShowsComing : Grammar → PageSkin → Where → Devices → Result Leaving Refusal → Devices → Type 0
 ShowsComing grammar skin (on_screen name columns rows files start) old r new =
     (coming : Arrival) × IsFreshArrival coming × PagesComing grammar skin name columns rows files start coming old.keys old.screen r new.keys new.screen × (new.out ≡ old.out)
 ShowsComing grammar skin (as_whole columns) old r new = ⊥
@@ -177,7 +181,7 @@ ShowsComing grammar skin (as_whole columns) old r new = ⊥
 -- ---- a run
 
 -- The words are a call for a text that comes, whose file and mark could be opened, and it is paged. Nothing is known of what they hold.
-pub record HasPagedComing (words : List (List ℕ)) (old : Devices) (r : Result End Refusal) (new : Devices) : Type 0 where
+pub record HasPagedComing (words : List (List ℕ)) (old : Devices) (r : Result Leaving Refusal) (new : Devices) : Type 0 where
   pub mark : Option (List ℕ)
   pub file : List ℕ
   pub grammar : Grammar
@@ -188,7 +192,7 @@ pub record HasPagedComing (words : List (List ℕ)) (old : Devices) (r : Result 
   pub shown : ShowsComing grammar skin place old r new
 
 -- The words are a call for a text that is there, its file is read, and what it holds is shown.
-pub record HasShown (holds : Held) (words : List (List ℕ)) (old : Devices) (r : Result End Refusal) (new : Devices) : Type 0 where
+pub record HasShown (holds : Held) (words : List (List ℕ)) (old : Devices) (r : Result Leaving Refusal) (new : Devices) : Type 0 where
   pub mark : Option (List ℕ)
   pub file : List ℕ
   pub grammar : Grammar
@@ -211,19 +215,19 @@ pub record IsUnread (words : List (List ℕ)) (refusal : Refusal) : Type 0 where
   pub unread : ReadsFile refusal
 
 -- what a run has done, without what is said of its refusal
-abbrev pub Performs : Held → List (List ℕ) → Devices → Result End Refusal → Devices → Type 0
+abbrev pub Performs : Held → List (List ℕ) → Devices → Result Leaving Refusal → Devices → Type 0
 Performs holds words old r new =
     HasShown holds words old r new
     ⊎ HasPagedComing words old r new
     ⊎ ((refusal : Refusal) × (r ≡ Err refusal) × (IsUnbegun words refusal ⊎ IsUnread words refusal) × (new ≡ old))
 
--- its status, and what is said: of some ends a row
-abbrev pub Answers : Result End Refusal → Trace → ℕ → Trace → Type 0
-Answers (Ok end) old status new = SaysEnd (row_of_end end) (status_of_end end) old status new
+-- its status, and what is said: of some ends a row, and the address of a link
+abbrev pub Answers : Result Leaving Refusal → Trace → ℕ → Trace → Type 0
+Answers (Ok left) old status new = SaysEnd (end_lines left) (status_of_end left.end) old status new
 Answers (Err refusal) old status new = (status ≡ status_of refusal) × Says refusal old new
 
 -- A run, whole: there is a way of ending that its devices show, and that its status and standard error tell.
 pub record HasRun (holds : Held) (words : List (List ℕ)) (old : Devices) (old_err : Trace) (status : ℕ) (new : Devices) (new_err : Trace) : Type 0 where
-  pub outcome : Result End Refusal
+  pub outcome : Result Leaving Refusal
   pub did : Performs holds words old outcome new
   pub answered : Answers outcome old_err status new_err

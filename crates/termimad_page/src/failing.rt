@@ -1,13 +1,13 @@
 //! How a run ends: its status, and what is said where it failed.
 
-ghost use Rattle.std.specs.Prelude.{◌≡◌, IfOk, string_bytes};
+ghost use Rattle.std.specs.Prelude.{◌≡◌, ◌++◌, IfOk, option_map, string_bytes};
 ghost use Rattle.termimad_words.specs.Failures.{SaysOnce};
-ghost use Rattle.termimad_page.specs.Ends.{Says, SaysEnd, failure_line, refusal_of, refusal_reading, row_line, row_of_end, status_of, status_of_end};
+ghost use Rattle.termimad_page.specs.Ends.{Says, SaysEnd, end_lines, failure_line, link_line, refusal_of, refusal_reading, row_line, row_of_end, status_of, status_of_end};
 
 use mad_term::{Error, Out, put_all};
 use std::alloc::{AllocError, Global};
 use std::io::{self, ErrorKind};
-use termimad_page_run::End;
+use termimad_page_run::{End, Leaving};
 use termimad_words::Failure;
 
 // The status of a program that writes where nobody reads: 128 and the number of the signal that ends others then.
@@ -18,10 +18,12 @@ const NEXT_FILE: u8 = 6;
 
 const PREVIOUS_FILE: u8 = 7;
 
-// Those after the keys for the file as it is now, and for an editor.
+// Those after the keys for the file as it is now, for an editor, and for a link.
 const RELOAD: u8 = 8;
 
 const EDIT: u8 = 9;
+
+const FOLLOW: u8 = 10;
 
 // The status of a run that didn't fail.
 fn status(end: End) -> u8
@@ -33,6 +35,7 @@ fn status(end: End) -> u8
         End::PreviousFile => PREVIOUS_FILE,
         End::Reload(_) => RELOAD,
         End::Edit(_) => EDIT,
+        End::Follow(_, _) => FOLLOW,
     }
 }
 
@@ -45,21 +48,34 @@ pub(crate) enum Refusal {
     Unread,
 }
 
-/// Says on a device the row that was on top, in one line, where an end tells it, and answers the status. A fault of the device changes nothing. Out of
-/// memory for the line is a refusal, which is said.
-pub(crate) fn say_end<E: Out>(alloc: Global, err: &mut E, end: End) -> u8
-    ensures { SaysEnd (row_of_end end) (status_of_end end) (E.seen err.old) result (E.seen err.new) }
+/// Says on a device the row that was on top, in one line, where an end tells it, and in another the address of the link that is to be followed. It answers the
+/// status. A fault of the device changes nothing. Out of memory for the lines is a refusal, which is said.
+pub(crate) fn say_end<E: Out>(alloc: Global, err: &mut E, left: &Leaving) -> u8
+    ensures { SaysEnd (end_lines left.now) (status_of_end left.now.end) (E.seen err.old) result (E.seen err.new) }
 {
-    let Some(row) = row_of_end(end) else {
-        return status(end);
+    let Some(row) = row_of_end(left.end) else {
+        return status(left.end);
     };
-    match row_line(alloc, row) {
-        Ok(line) => {
-            let _ = put_all(err, line.as_bytes());
-            status(end)
+    match lines_of(alloc, row, left) {
+        Ok(lines) => {
+            let _ = put_all(err, lines.as_bytes());
+            status(left.end)
         }
         Err(_) => refuse(err, Refusal::Failed(Failure::Memory)),
     }
+}
+
+// The lines that tell a row, and the address of a link, if one is to be followed.
+fn lines_of(alloc: Global, row: usize, left: &Leaving) -> Result<String, AllocError>
+    ensures { IfOk result (λ lines. string_bytes lines ≡ row_line row ++ link_line (option_map string_bytes left.now.address)) }
+{
+    let mut lines = row_line(alloc, row)?;
+    if let Some(address) = &left.address {
+        lines.push_str("link ")?;
+        lines.push_str(address.as_str())?;
+        lines.push_str("\n")?;
+    }
+    Ok(lines)
 }
 
 // The number of the row that an end tells, if it tells one.
@@ -68,6 +84,7 @@ fn row_of_end(end: End) -> Option<usize>
 {
     match end {
         End::Reload(row) | End::Edit(row) => Some(row),
+        End::Follow(row, _) => Some(row),
         _ => None,
     }
 }

@@ -26,14 +26,15 @@ use markdown_lines::texts::behind_mark;
 use std::alloc::Global;
 use std::borrow::CowStr;
 use termimad_given::Texts;
-use termimad_page_run::{Coming, End, Frame, Grammar, Sheet, run as page, run_growing};
+use termimad_page_run::{Coming, Frame, Grammar, Leaving, Sheet, run as page, run_growing};
 use termimad_words::Failure;
 
 /// Does what the words after the program's name ask for, and answers the status: keys come from the input, and a text is paged on the screen, or
 /// written whole on the output, which is then flushed.
 ///
 /// The words are checked first, then the skin, and then the file is read. Statuses are 0, after the keys for another file 6 and 7, after those for the
-/// file as it is now and for an editor 8 and 9, and of a refusal 1 to 5 and 141. A refusal is said on `err`, in one line, and of 8 and 9 the row on top.
+/// file as it is now and for an editor 8 and 9, for a link 10, and of a refusal 1 to 5 and 141. A refusal is said on `err`, in one line, and of 8, 9 and 10 the
+/// row on top. Of 10 the address of the link is said too.
 pub(crate) fn run<T: Texts + Growing, I: Source, S: Out, O: Out, E: Out>(
     alloc: Global,
     words: &[String],
@@ -47,7 +48,7 @@ pub(crate) fn run<T: Texts + Growing, I: Source, S: Out, O: Out, E: Out>(
         result (devices (I.seen input.new) (S.seen screen.new) (O.seen out.new)) (E.seen err.new) }
 {
     match perform(alloc, words, texts, input, screen, out) {
-        Ok(end) => say_end(alloc, err, end),
+        Ok(left) => say_end(alloc, err, &left),
         Err(refusal) => refuse(err, refusal),
     }
 }
@@ -60,7 +61,7 @@ fn perform<T: Texts + Growing, I: Source, S: Out, O: Out>(
     input: &mut I,
     screen: &mut S,
     out: &mut O,
-) -> Result<End, Refusal>
+) -> Result<Leaving, Refusal>
     ensures { Performs (T.holds texts.now) (map string_bytes words.now) (devices (I.seen input.old) (S.seen screen.old) (O.seen out.old))
         result (devices (I.seen input.new) (S.seen screen.new) (O.seen out.new)) }
 {
@@ -142,7 +143,7 @@ fn page_coming<F: Source + Drop, I: Source, S: Out>(
     coming: Coming<F, F>,
     input: &mut I,
     screen: &mut S,
-) -> Result<End, Refusal>
+) -> Result<Leaving, Refusal>
     ensures { PagesComing grammar skin.now place.now.name.now place.now.columns place.now.rows place.now.files place.now.start
         (arrival (F.seen coming.text) (F.seen coming.mark) coming.ended coming.is_whole)
         (I.seen input.old) (S.seen screen.old) result (I.seen input.new) (S.seen screen.new) }
@@ -158,7 +159,7 @@ fn page_coming<F: Source + Drop, I: Source, S: Out>(
         files: place.files,
     };
     match run_growing(alloc, &mut coming, &frame, input, screen) {
-        Ok(end) => Ok(end),
+        Ok(left) => Ok(left),
         Err(e) => Err(refusal_of(e)),
     }
 }
@@ -172,7 +173,7 @@ fn show<I: Source, S: Out, O: Out>(
     input: &mut I,
     screen: &mut S,
     out: &mut O,
-) -> Result<End, Refusal>
+) -> Result<Leaving, Refusal>
     ensures { Shows call.now.grammar skin.now (where_of call.now.place) bytes.now (devices (I.seen input.old) (S.seen screen.old) (O.seen out.old))
         result (devices (I.seen input.new) (S.seen screen.new) (O.seen out.new)) }
 {
@@ -224,7 +225,7 @@ fn page_text<I: Source, S: Out>(
     text: &str,
     input: &mut I,
     screen: &mut S,
-) -> Result<End, Refusal>
+) -> Result<Leaving, Refusal>
     ensures { PagesText grammar skin.now place.now.name.now place.now.columns place.now.rows place.now.files place.now.start text.now
         (I.seen input.old) (S.seen screen.old) result (I.seen input.new) (S.seen screen.new) }
 {
@@ -239,7 +240,7 @@ fn page_text<I: Source, S: Out>(
         files: place.files,
     };
     match page(alloc, &sheet, input, screen) {
-        Ok(end) => Ok(end),
+        Ok(left) => Ok(left),
         Err(e) => Err(refusal_of(e)),
     }
 }
@@ -252,14 +253,14 @@ fn write_whole<O: Out>(
     skin: &PageSkin,
     columns: u16,
     text: &str,
-) -> Result<End, Refusal>
+) -> Result<Leaving, Refusal>
     ensures { WritesWhole grammar skin.now columns text.now (O.seen out.old) result (O.seen out.new) }
 {
     if let Err(e) = write_rows(alloc, out, grammar, skin, columns, text) {
         return Err(refusal_of(e));
     }
     match out.flush() {
-        Ok(()) => Ok(End::Quits),
+        Ok(()) => Ok(Leaving::quits()),
         Err(e) => Err(refusal_of(Error::IO(e))),
     }
 }

@@ -1,5 +1,5 @@
 -- Bytes that are read one after the other, and what is heard of them.
-use Rattle.std.proofs.Common.{◌≡◌, ℕ, ◌+◌, ◌<◌, ◌≤◌, ◌==◌, ◌||◌, Bool, true, false, List, [], ◌∷◌, ◌++◌, take, drop, length, get_or, Option, Some, None, option_map, refl, ap, sym, ◌∙◌, subst, append_assoc, if◌then◌else◌}
+use Rattle.std.proofs.Common.{◌≡◌, ℕ, ◌+◌, ◌<◌, ◌≤◌, ◌==◌, ◌||◌, ◌&&◌, nat_lt, Bool, true, false, List, [], ◌∷◌, ◌++◌, take, drop, length, get_or, Option, Some, None, option_map, refl, ap, sym, ◌∙◌, subst, append_assoc, if◌then◌else◌}
 use Rattle.std.proofs.lemmas.List.{append-nil, take_more, take_all, take-append-drop}
 use Rattle.mad_term.specs.declared.events.Event.{Event}
 use Rattle.mad_term.specs.declared.events.Event.TheVariants.{Key}
@@ -13,8 +13,9 @@ use Rattle.mad_input.specs.declared.input.Mode.TheVariants.{Types, Pastes, Drops
 use Rattle.mad_input.specs.declared.input.TerminalInput.{TerminalInput}
 use Rattle.mad_page.specs.PageKeys.{after_key}
 use Rattle.mad_page.specs.declared.page.Page.{Page}
-use Rattle.mad_pager.proofs.PagerSteps.{key_answer, turn_after}
-use Rattle.mad_pager.specs.Pagers.{Leaf, View, has_choice, turn_answered, turn_at}
+use Rattle.mad_pager.proofs.PagerSteps.{turn_after}
+use Rattle.mad_pager.specs.Following.{has_numbers, is_numbered}
+use Rattle.mad_pager.specs.Pagers.{Leaf, View, answer_or, has_choice, key_answer, key_over, link_answer, turn_answered, turn_at, turn_over}
 use Rattle.mad_pager.specs.Sessions.{State, asks_size, end_of, turn_asked}
 use Rattle.mad_pager.specs.declared.session.End.{End}
 use Rattle.mad_pager.specs.declared.session.Turn.{Turn}
@@ -119,15 +120,41 @@ key_goes : (typing : Bool) (p : Page) → (if typing then Goes else turn_asked (
 key_goes true p = refl
 key_goes false p = colon_goes p.has_colon p
 
--- nor does it on a page over the text
-over_goes : (busy choice : Bool) (s : State) → turn_answered (key_answer escape_key busy choice) (Key escape_key) s ≡ Goes
-over_goes true choice s = key_goes s.is_typing s.page
-over_goes false true s = refl
-over_goes false false s = refl
+-- of two things the second, where a test fails
+if_not : {A : Type 0} (c : Bool) (a b : A) → c ≡ false → (if c then a else b) ≡ b
+if_not true a b h = let e : true ≡ false = h in absurd (cc)
+if_not false a b h = refl
+
+-- what holds of both holds of the one that a test takes
+by_if : {A : Type 0} (P : A → Type 0) (c : Bool) (a b : A) → P a → P b → P (if c then a else b)
+by_if P true a b x y = x
+by_if P false a b x y = y
+
+and_false : (b : Bool) → (b && false) ≡ false
+and_false true = refl
+and_false false = refl
+
+-- Esc says nothing of links
+says_nothing : (over : Leaf) → link_answer escape_key over ≡ None
+says_nothing over =
+    let some : Bool = nat_lt 0 over.state.page.count in
+    if_not (has_numbers over.content && (some && false)) _ _ (ap (λ (b : Bool). has_numbers over.content && b) (and_false some) ∙ and_false (has_numbers over.content))
+    ∙ if_not (is_numbered over.content && false) _ _ (and_false (is_numbered over.content))
+
+closes_it : (choice : Bool) (over text : Leaf) → turn_answered (key_over escape_key choice) (Key escape_key) over text ≡ Goes
+closes_it true over text = refl
+closes_it false over text = refl
+
+-- nor does it end a session on a page over the text
+over_goes : (over text : Leaf) → turn_over (Key escape_key) over text ≡ Goes
+over_goes over text =
+    by_if (λ answer. turn_answered answer (Key escape_key) over text ≡ Goes) (over.state.is_typing || over.state.page.has_colon) _ (key_answer escape_key over)
+    (key_goes over.state.is_typing over.state.page)
+    (ap (λ o. turn_answered (answer_or o (key_over escape_key (has_choice over.content))) (Key escape_key) over text) (says_nothing over) ∙ closes_it (has_choice over.content) over text)
 
 escape_goes : (over : Option Leaf) (text : Leaf) → turn_at over (Key escape_key) text ≡ Goes
 escape_goes None text = key_goes text.state.is_typing text.state.page
-escape_goes (Some over) text = over_goes (over.state.is_typing || over.state.page.has_colon) (has_choice over.content) over.state
+escape_goes (Some over) text = over_goes over text
 
 -- what a lone ESC tells doesn't end a session
 lone_goes : (w : List ℕ) (v : View) → turn_told (option_map Typed (lone_escape w)) v ≡ Goes

@@ -10,10 +10,11 @@ use Rattle.mad_term.specs.declared.errors.Error.{Error}
 use Rattle.mad_term.specs.declared.errors.Error.TheVariants.{Memory}
 use Rattle.mad_term.specs.declared.keys.KeyEvent.{KeyEvent}
 use Rattle.termimad_page_run.specs.Comings.{Arrival, IsMore}
-use Rattle.termimad_page_run.specs.Growing.{GrowingMoment, AreGrowingTurns, EndsGrowing, IsBegunGrowing, IsBrokenGrowing, IsPagedGrowing, IsStartGrowing, first_part}
+use Rattle.termimad_page_run.specs.Growing.{GrowingMoment, AreGrowingTurns, EndsGrowing, IsBegunGrowing, IsBrokenGrowing, IsLedFrom, IsPagedGrowing, IsStartGrowing, first_part}
 use Rattle.termimad_page_run.specs.Runs.{Moment, IsLastTurn}
 use Rattle.termimad_page_run.specs.Stretches.{IsKeptOrderly, IsLeftOff, IsNoneLeft, IsStretchBroken, IsStretchEnd, IsStretchFront, IsStretchStart, IsStretched, IsStretchedSoFar, IsUnstretched}
 use Rattle.termimad_page_run.specs.declared.growing.Frame.{Frame}
+use Rattle.termimad_page_run.specs.declared.leaving.Leaving.{Leaving}
 use Rattle.termimad_page_run.specs.declared.stretches.Course.{Course}
 use Rattle.termimad_page_run.specs.declared.stretches.Stretch.{Stretch}
 use Rattle.termimad_page_run.specs.declared.stretches.Stretch.TheVariants.{Ends, Grows}
@@ -110,9 +111,9 @@ ended blocks others left last end input out count (inl turn) = inl turn
 ended blocks others left last end input out count (inr none) = inr (record { quits = none.quits; count = omega (arith, length-append blocks others, none.count, count); input = none.input; out = none.out })
 
 -- a stretch that ends the run
-pub stretch_ended : (frame : Frame) (old : Arrival) (old_input old_out : Trace) (course : Course) (a : Arrival) (read : List ℕ) (input out : Trace) (end : End) (b : Arrival) (new_input new_out : Trace)
-    → IsRunSoFar frame old old_input old_out course a read input out → IsStretched frame course read (Ends end) a b input new_input out new_out → IsPagedGrowing frame end old old_input new_input old_out new_out
-stretch_ended frame old old_input old_out course a read input out end b new_input new_out so_far h =
+pub stretch_ended : (frame : Frame) (old : Arrival) (old_input old_out : Trace) (course : Course) (a : Arrival) (read : List ℕ) (input out : Trace) (left : Leaving) (b : Arrival) (new_input new_out : Trace)
+    → IsRunSoFar frame old old_input old_out course a read input out → IsStretched frame course read (Ends left) a b input new_input out new_out → IsPagedGrowing frame left old old_input new_input old_out new_out
+stretch_ended frame old old_input old_out course a read input out left b new_input new_out so_far h =
     let r = reached frame old old_input old_out course a read input out h.first so_far h.front in
     record {
       first = r.first;
@@ -120,7 +121,8 @@ stretch_ended frame old old_input old_out course a read input out end b new_inpu
       blocks = r.blocks ++ h.blocks;
       last = h.last;
       turns = turns_joined frame r.blocks h.blocks r.first h.first h.last r.turns h.turns;
-      ends = ended r.blocks h.blocks course.left h.last end new_input new_out r.count h.ends;
+      ends = ended r.blocks h.blocks course.left h.last left.end new_input new_out r.count h.ends;
+      leads = subst (λ (l : List ℕ). IsLedFrom frame l left) (sym h.read_is) h.leads;
     }
 
 -- a stretch behind which the text grows

@@ -1,6 +1,6 @@
 -- Turns that are made one after the other, and how they end.
-use Rattle.std.proofs.Common.{◌≡◌, ℕ, ◌<◌, nat_lt, Bool, List, [], ◌∷◌, ◌++◌, length, map, take, Option, Some, None, option_map, Result, Ok, Err, inl, refl, ap, sym, ◌∙◌, subst, arith}
-use Rattle.std.specs.Prelude.{chars, encode_utf8, encode_utf8_all, MatchResult}
+use Rattle.std.proofs.Common.{◌≡◌, ℕ, ◌<◌, nat_lt, Bool, List, [], ◌∷◌, ◌++◌, length, map, take, Option, Some, None, option_map, Result, Ok, Err, inl, inr, ◌⊎◌, refl, ap, sym, ◌∙◌, subst, arith}
+use Rattle.std.specs.Prelude.{chars, encode_utf8, encode_utf8_all, string_bytes, MatchResult}
 use Rattle.std.specs.Result.{IsErrAnd}
 use Rattle.std.proofs.lemmas.List.{append-nil, length-take-le, map-append}
 use Rattle.std.proofs.lemmas.Result.{err_from_is_err_and}
@@ -17,16 +17,26 @@ use Rattle.mad_dressing.specs.Dressed.{Put, dressed, put_with}
 use Rattle.mad_dressing.specs.declared.page_marks.PageMarks.{PageMarks}
 use Rattle.mad_search.specs.PagedTexts.{grouped}
 use Rattle.mad_search.proofs.GroupLemmas.{page_grouped}
-use Rattle.markdown_reader.specs.MarkdownSays.{LinkSaid}
+use Rattle.mad_mark_runs.specs.declared.mark_runs.MarkRun.{MarkRun}
+use Rattle.mad_outline.specs.LinkLists.{TextLinks}
+use Rattle.markdown_reader.specs.Anchors.{markdown_anchors}
+use Rattle.markdown_reader.specs.LinkMarks.{markdown_link_marks}
+use Rattle.markdown_reader.specs.MarkdownSays.{LinkSaid, links_said}
+use Rattle.markdown_reader.specs.NumbersIn.{link_marks_said}
+use Rattle.markdown_reader.specs.declared.markdown.Markdown.{Markdown as Read}
 use Rattle.mad_plain.specs.Runs.{StyledChar}
 use Rattle.mad_plain_page.specs.PlainTexts.{lines_shown}
-use Rattle.mad_outline.specs.Sources.{TextSaid, plain_said, rows_said}
+use Rattle.mad_outline.specs.Sources.{TextSaid, links_of, plain_said, rows_said}
 use Rattle.mad_pager.proofs.PagerOrder.{pasted_view_order, step_order, view_settled_order}
 use Rattle.mad_pager.specs.Pagers.{View, begun, pasted_in, IsOpened, IsOrderlyView, IsViewShown}
 use Rattle.mad_pager.specs.declared.pager.Pager.{Pager}
 use Rattle.mad_pager.specs.declared.session.End.{End}
+use Rattle.mad_pager.specs.declared.session.End.TheVariants.{Quits}
+use Rattle.mad_term.specs.declared.errors.Error.TheVariants.{Memory}
+use Rattle.termimad_page_run.specs.Leavings.{led_to, IsFollowing}
+use Rattle.termimad_page_run.specs.declared.leaving.Leaving.{Leaving}
 use Rattle.termimad_page_run.specs.Blocks.{IsBlockDone, IsEndedIn, IsHeardStep, IsSession}
-use Rattle.termimad_page_run.specs.Runs.{AreTurns, EndsAtInput, IsBrokenOff, IsBrokenRun, IsPaged, IsTurn, IsTurned, Moment, block_room, moment, name_row, printed_text, row_char, said_in, sheet_said, shown_text}
+use Rattle.termimad_page_run.specs.Runs.{AreTurns, EndsAtInput, IsBrokenOff, IsBrokenRun, IsFaultyTurn, IsLastTurn, IsPastLast, IsPagedTo, IsTurn, IsTurned, Moment, block_room, moment, name_row, printed_text, row_char, said_in, markdown_says_links, sheet_said, shown_text}
 use Rattle.markdown_reader.specs.Markdown.{markdown_sections, markdown_links}
 use Rattle.mad_steady.specs.Steady.{steady_text}
 use Rattle.termimad_page_run.specs.declared.program.Grammar.{Grammar}
@@ -134,14 +144,20 @@ shown_by text printed shown e is = is ∙ ap (λ (t : List ℕ). encode_utf8_all
 pub lines_said : (grammar : Grammar) (marks : PageMarks) (text shown : List ℕ) → grammar ≡ Lines → shown ≡ shown_text text → plain_said shown ≡ said_in grammar marks text
 lines_said grammar marks text shown is e = ap plain_said e ∙ ap (λ (g : Grammar). said_in g marks text) (sym is)
 
+-- what it says of its links
+pub links_read : (read : Read) (text : List ℕ) → links_said read ≡ markdown_links text → link_marks_said read ≡ markdown_link_marks text → links_of read text ≡ markdown_says_links text
+links_read read text links marks =
+    ap (λ (l : List LinkSaid). let t : TextLinks = record { links = l; marks = link_marks_said read; names = markdown_anchors text } in t) links
+    ∙ ap (λ (m : List (List MarkRun)). let t : TextLinks = record { links = markdown_links text; marks = m; names = markdown_anchors text } in t) marks
+
 -- what Markdown says that was read, with what is put into its page with each of its sections
-pub markdown_said : (grammar : Grammar) (marks : PageMarks) (text : List ℕ) (puts : List Put) (page said : List SectionContent) (links : List LinkSaid) → grammar ≡ Markdown → said ≡ markdown_sections text → page ≡ said → puts ≡ map (put_with marks) page
-    → links ≡ markdown_links text → record { page = said; shown = λ width. grouped puts said; drawn = None; links = Some links } ≡ said_in grammar marks text
+pub markdown_said : (grammar : Grammar) (marks : PageMarks) (text : List ℕ) (puts : List Put) (page said : List SectionContent) (links : TextLinks) → grammar ≡ Markdown → said ≡ markdown_sections text → page ≡ said → puts ≡ map (put_with marks) page
+    → links ≡ markdown_says_links text → record { page = said; shown = λ width. grouped puts said; drawn = None; links = Some links } ≡ said_in grammar marks text
 markdown_said grammar marks text puts page said links is e same put f =
     let groups : grouped puts said ≡ map (dressed marks) said = page_grouped marks puts said (put ∙ ap (map (put_with marks)) same) in
     ap (λ (g : List (List SectionContent)). let s : TextSaid = record { page = said; shown = λ width. g; drawn = None; links = Some links } in s) groups
     ∙ (ap (λ (l : List SectionContent). let s : TextSaid = record { page = l; shown = λ width. map (dressed marks) l; drawn = None; links = Some links } in s) e
-    ∙ (ap (λ (l : List LinkSaid). let s : TextSaid = record { page = markdown_sections text; shown = λ width. map (dressed marks) (markdown_sections text); drawn = None; links = Some l } in s) f ∙ ap (λ (g : Grammar). said_in g marks text) (sym is)))
+    ∙ (ap (λ (l : TextLinks). let s : TextSaid = record { page = markdown_sections text; shown = λ width. map (dressed marks) (markdown_sections text); drawn = None; links = Some l } in s) f ∙ ap (λ (g : Grammar). said_in g marks text) (sym is)))
 
 -- what a text says that isn't Markdown and was read
 pub plain_text_said : (grammar : Grammar) (marks : PageMarks) (text : List ℕ) (lines : List (List StyledChar)) (is_styled shown : Bool) → grammar ≡ Plain is_styled → shown ≡ is_styled → lines ≡ lines_shown text
@@ -156,16 +172,40 @@ opened_along sheet v name text row said h =
     subst (λ (t : TextSaid). IsOpened sheet.skin.now (name_row sheet.name.now) t sheet.columns sheet.rows sheet.files v) said
     (subst (λ (n : List ℕ). IsOpened sheet.skin.now n text sheet.columns sheet.rows sheet.files v) row h)
 
--- what was made of a view, along what is equal
-pub turned_along : (v w : View) (r : Result End Error) (old_input new_input old_out new_out : Trace) → v ≡ w → MatchResult r (λ end. IsTurned v end old_input new_input old_out new_out) (λ e. IsBrokenOff v e old_input new_input old_out new_out)
-    → MatchResult r (λ end. IsTurned w end old_input new_input old_out new_out) (λ e. IsBrokenOff w e old_input new_input old_out new_out)
-turned_along v w r old_input new_input old_out new_out is h =
-    subst (λ (x : View). MatchResult r (λ end. IsTurned x end old_input new_input old_out new_out) (λ e. IsBrokenOff x e old_input new_input old_out new_out)) is h
+-- ---- links that are to be followed
 
--- a run from the start of a sheet's text
-pub sheet_paged : (sheet : Sheet) (v : View) (r : Result End Error) (old_input new_input old_out new_out : Trace)
-    → IsOpened sheet.skin.now (name_row sheet.name.now) (sheet_said sheet) sheet.columns sheet.rows sheet.files v
-    → MatchResult r (λ end. IsTurned (begun sheet.start v) end old_input new_input old_out new_out) (λ e. IsBrokenOff (begun sheet.start v) e old_input new_input old_out new_out)
-    → MatchResult r (λ end. IsPaged sheet end old_input new_input old_out new_out) (λ e. IsBrokenRun sheet e old_input new_input old_out new_out)
-sheet_paged sheet v (Ok end) old_input new_input old_out new_out start h = record { start = v; is = start; turned = h }
-sheet_paged sheet v (Err e) old_input new_input old_out new_out start h = inl (record { start = v; is = start; turned = h })
+quits_not : (end : End) → end ≡ Quits → IsFollowing end → ⊥
+quits_not end is h = subst IsFollowing is h
+
+-- there is no memory for the address of a link, once a key has ended the session for it
+pub unled_last : (last : Moment) (end : End) (new_input new_out : Trace) → IsLastTurn last end new_input new_out → IsFollowing end → IsFaultyTurn last Memory new_input new_out
+unled_last last end new_input new_out h follows =
+    elim h.ends [
+      | inl quits ↦ absurd (quits_not end quits.0 follows)
+      | inr key ↦ inr (h.shown, (key.block, key.read))
+    ]
+
+unled_at : (blocks : List (List ℕ)) (last : Moment) (end : End) (new_input new_out : Trace) → IsLastTurn last end new_input new_out ⊎ IsPastLast blocks last end new_input new_out → IsFollowing end → IsFaultyTurn last Memory new_input new_out
+unled_at blocks last end new_input new_out (inl h) follows = unled_last last end new_input new_out h follows
+unled_at blocks last end new_input new_out (inr past) follows = absurd (quits_not end past.quits follows)
+
+pub unled : (v : View) (end : End) (old_input new_input old_out new_out : Trace) → IsTurned v end old_input new_input old_out new_out → IsFollowing end → IsBrokenOff v Memory old_input new_input old_out new_out
+unled v end old_input new_input old_out new_out h follows = record { blocks = h.blocks; last = h.last; turns = h.turns; fault = unled_at h.blocks h.last end new_input new_out h.ends follows }
+
+-- a fault of a run from the start of a sheet's text
+pub sheet_broken : (sheet : Sheet) (v w : View) (e : Error) (old_input new_input old_out new_out : Trace) → IsOpened sheet.skin.now (name_row sheet.name.now) (sheet_said sheet) sheet.columns sheet.rows sheet.files v → w ≡ begun sheet.start v
+    → IsBrokenOff w e old_input new_input old_out new_out → IsBrokenRun sheet e old_input new_input old_out new_out
+sheet_broken sheet v w e old_input new_input old_out new_out start is h =
+    inl (record { start = v; is = start; turned = subst (λ (x : View). IsBrokenOff x e old_input new_input old_out new_out) is h })
+
+-- its end, and the address of the link that is to be followed
+pub sheet_left : (sheet : Sheet) (v w : View) (end : End) (left : Leaving) (text : TextSaid) (old_input new_input old_out new_out : Trace) → IsOpened sheet.skin.now (name_row sheet.name.now) (sheet_said sheet) sheet.columns sheet.rows sheet.files v
+    → w ≡ begun sheet.start v → IsTurned w end old_input new_input old_out new_out → left.end ≡ end → text ≡ sheet_said sheet → option_map string_bytes left.address ≡ led_to text end → IsPagedTo sheet left old_input new_input old_out new_out
+sheet_left sheet v w end left text old_input new_input old_out new_out start is h same said leads = record {
+  paged = record {
+    start = v;
+    is = start;
+    turned = subst (λ (e : End). IsTurned (begun sheet.start v) e old_input new_input old_out new_out) (sym same) (subst (λ (x : View). IsTurned x end old_input new_input old_out new_out) is h);
+  };
+  address = leads ∙ ap (λ (t : TextSaid). led_to t end) said ∙ ap (led_to (sheet_said sheet)) (sym same);
+}

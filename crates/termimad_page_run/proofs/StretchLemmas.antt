@@ -1,6 +1,6 @@
 -- Stretches of a run over a text that comes: the sessions stay orderly, and turns follow on each other.
-use Rattle.std.proofs.Common.{◌≡◌, ℕ, ◌+◌, Bool, true, false, List, [], ◌∷◌, ◌++◌, length, Option, Some, None, Result, Err, refl, ap, sym, ◌∙◌, subst}
-use Rattle.std.specs.Prelude.{MatchResult}
+use Rattle.std.proofs.Common.{◌≡◌, ℕ, ◌+◌, Bool, true, false, List, [], ◌∷◌, ◌++◌, length, Option, Some, None, option_map, Result, Err, refl, ap, sym, ◌∙◌, subst}
+use Rattle.std.specs.Prelude.{string_bytes, MatchResult}
 use Rattle.std.specs.Result.{IsErrAnd}
 use Rattle.std.proofs.lemmas.Result.{err_from_is_err_and}
 use Rattle.mad_input.specs.declared.input.TerminalInput.{TerminalInput}
@@ -20,7 +20,10 @@ use Rattle.mad_term.specs.Trace.{Trace}
 use Rattle.mad_term.specs.declared.events.Event.TheVariants.{Key}
 use Rattle.mad_term.specs.declared.keys.KeyEvent.{KeyEvent}
 use Rattle.termimad_page_run.specs.Comings.{Arrival, AreShown, IsMore}
-use Rattle.termimad_page_run.specs.Growing.{GrowingMoment, AreGrowingTurns, IsDoneAgain, IsFollowedUp, IsGrowingTurn, IsRegrown, IsResumed, grows, most_of, wish_of, wish_over}
+use Rattle.termimad_page_run.specs.Growing.{GrowingMoment, AreGrowingTurns, IsDoneAgain, IsFollowedUp, IsGrowingTurn, IsLedFrom, IsRegrown, IsResumed, grows, most_of, wish_of, wish_over}
+use Rattle.mad_pager.specs.declared.session.End.{End}
+use Rattle.termimad_page_run.specs.Leavings.{led_to}
+use Rattle.termimad_page_run.specs.declared.leaving.Leaving.{Leaving}
 use Rattle.termimad_page_run.specs.Runs.{Moment, IsTurn, moment, said_in}
 use Rattle.termimad_page_run.specs.Stretches.{growing, HasCome, IsCourseOf, IsGrowing, IsGrowthFound, IsKeptOrderly, IsLeftOff, IsReadOnBehind, IsStretchFront, IsStretchStart, IsStretchStartOf, IsStretched, IsTurnMade, SaysText}
 use Rattle.termimad_page_run.specs.Wishes.{follows_after, key_again, wish_in, wish_left}
@@ -216,6 +219,7 @@ stretch_left frame course read stretch old new old_input new_input old_out new_o
           out = refl;
         },
       );
+      leads = tt;
     })
 
 -- ---- turns
@@ -280,3 +284,8 @@ growth_joined frame last course fresh a read input out first left longer front =
           ∙ along_moment first.now.view course.terminal found.now.terminal course.asks found.now.asks input found.now.input out found.now.out
           (ap (λ (c : Course). c.terminal) left.course_is) (ap (λ (c : Course). c.asks) left.course_is) left.input left.out;
     }
+
+-- an end in a text that says what was read leads where its link leads
+pub led_so : (frame : Frame) (a : Arrival) (name read : List ℕ) (said : TextSaid) (left : Leaving) (end : End) → SaysText frame a name read said → left.end ≡ end → option_map string_bytes left.address ≡ led_to said end
+    → IsLedFrom frame read left
+led_so frame a name read said left end says same leads = record { is_whole = a.is_whole; said = said; says = says.says; address = leads ∙ ap (led_to said) (sym same) }

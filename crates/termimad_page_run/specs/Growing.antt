@@ -1,5 +1,5 @@
 -- A run over a text that comes: turns, what is read on after each, and the end.
-use Rattle.std.specs.Prelude.{◌≡◌, ◌⊎◌, ℕ, ◌+◌, ◌-◌, ◌^◌, ◌<◌, ◌==◌, ◌&&◌, ◌||◌, min, nat_lt, not, Bool, true, false, List, [], ◌∷◌, ◌++◌, length, Option, Some, None, is_some, if◌then◌else◌}
+use Rattle.std.specs.Prelude.{◌≡◌, ◌⊎◌, ℕ, ◌+◌, ◌-◌, ◌^◌, ◌<◌, ◌==◌, ◌&&◌, ◌||◌, min, nat_lt, not, Bool, true, false, List, [], ◌∷◌, ◌++◌, length, Option, Some, None, is_some, option_map, string_bytes, if◌then◌else◌}
 use Rattle.mad_input.specs.Hearing.{quiet_input}
 use Rattle.mad_outline.specs.Sources.{TextSaid, a_text}
 use Rattle.mad_page_skin.specs.PageSkins.{page_marks}
@@ -11,6 +11,8 @@ use Rattle.mad_term.specs.declared.errors.Error.{Error}
 use Rattle.mad_term.specs.declared.errors.Error.TheVariants.{Memory}
 use Rattle.mad_term.specs.declared.events.Event.TheVariants.{Key}
 use Rattle.mad_term.specs.declared.keys.KeyEvent.{KeyEvent}
+use Rattle.termimad_page_run.specs.Leavings.{led_to}
+use Rattle.termimad_page_run.specs.declared.leaving.Leaving.{Leaving}
 use Rattle.termimad_page_run.specs.Comings.{Arrival, AreShown, IsFrontShown, IsMore, IsMoreUpTo, name_coming, text_come}
 use Rattle.termimad_page_run.specs.Runs.{Moment, IsFaultyTurn, IsLastTurn, IsPastLast, IsTurn, name_row, said_in}
 use Rattle.termimad_page_run.specs.Wishes.{bytes_wanted, follows_after, key_again, wish_in, wish_left}
@@ -146,14 +148,22 @@ pub record IsBegunGrowing (frame : Frame) (old : Arrival) (input out : Trace) (f
 abbrev pub EndsGrowing : List (List ℕ) → GrowingMoment → End → Trace → Trace → Type 0
 EndsGrowing blocks last end new_input new_out = IsLastTurn last.now end new_input new_out ⊎ IsPastLast blocks last.now end new_input new_out
 
+-- the address is told of the link that is to be followed, if one is, in a text that says what was read, as whole lines or all of it
+pub record IsLedFrom (frame : Frame) (read : List ℕ) (left : Leaving) : Type 0 where
+  pub is_whole : Bool
+  pub said : TextSaid
+  pub says : SaysRead frame is_whole read said
+  pub address : option_map string_bytes left.address ≡ led_to said left.end
+
 -- A text that comes is paged. It ends so.
-pub record IsPagedGrowing (frame : Frame) (end : End) (arrival : Arrival) (old_input new_input old_out new_out : Trace) : Type 0 where
+pub record IsPagedGrowing (frame : Frame) (left : Leaving) (arrival : Arrival) (old_input new_input old_out new_out : Trace) : Type 0 where
   pub first : GrowingMoment
   pub begun : IsBegunGrowing frame arrival old_input old_out first
   pub blocks : List (List ℕ)
   pub last : GrowingMoment
   pub turns : AreGrowingTurns frame blocks first last
-  pub ends : EndsGrowing blocks last end new_input new_out
+  pub ends : EndsGrowing blocks last left.end new_input new_out
+  pub leads : IsLedFrom frame last.read left
 
 -- What a fault leaves after a turn: the text or its mark failed, or there was no memory, and all that was drawn stands.
 pub record IsFaultBehind (last : GrowingMoment) (e : Error) (new_input new_out : Trace) : Type 0 where

@@ -13,7 +13,7 @@ use Rattle.mad_term.specs.declared.errors.Error.{Error}
 use Rattle.mad_term.specs.declared.errors.Error.TheVariants.{Memory}
 use Rattle.mad_term.specs.declared.keys.KeyEvent.{KeyEvent}
 use Rattle.termimad_page_run.specs.Comings.{Arrival, AreShown, IsFrontShown, IsMore, text_come}
-use Rattle.termimad_page_run.specs.Growing.{GrowingMoment, AreGrowingTurns, IsDoneAgain, IsFaultBehind, IsGrowingTurn, IsRegrown, IsResumed, IsStartGrowing, SaysRead, grows, most_of, name_then, wish_of}
+use Rattle.termimad_page_run.specs.Growing.{GrowingMoment, AreGrowingTurns, IsDoneAgain, IsFaultBehind, IsGrowingTurn, IsRegrown, IsResumed, IsLedFrom, IsStartGrowing, SaysRead, grows, most_of, name_then, wish_of}
 use Rattle.termimad_page_run.specs.Runs.{moment, IsFaultyTurn, IsLastTurn, IsTurn}
 use Rattle.termimad_page_run.specs.Wishes.{follows_after, key_again}
 use Rattle.termimad_page_run.specs.declared.growing.Frame.{Frame}
@@ -146,9 +146,14 @@ pub record IsNoneLeft (left : ℕ) (blocks : List (List ℕ)) (last : GrowingMom
 
 -- how a stretch ends, of which so many turns were left
 abbrev pub IsStretchEnd : Stretch → ℕ → List (List ℕ) → GrowingMoment → Arrival → Trace → Trace → Type 0
-IsStretchEnd (Ends end) left blocks last a new_input new_out = IsLastTurn last.now end new_input new_out ⊎ IsNoneLeft left blocks last end new_input new_out
+IsStretchEnd (Ends leaving) left blocks last a new_input new_out = IsLastTurn last.now leaving.end new_input new_out ⊎ IsNoneLeft left blocks last leaving.end new_input new_out
 IsStretchEnd (Grows course fresh) left blocks last a new_input new_out =
     (length blocks + (1 + course.left) ≡ left) × IsLeftOff last course fresh.items a new_input new_out
+
+-- where a stretch ends the run, the address is told of the link that is to be followed then, if one is
+abbrev pub LeadsFrom : Frame → List ℕ → Stretch → Type 0
+LeadsFrom frame read (Ends leaving) = IsLedFrom frame read leaving
+LeadsFrom frame read (Grows course fresh) = Unit {0}
 
 -- Turns are made from the front of a stretch on, and then it ends.
 pub record IsStretched (frame : Frame) (course : Course) (read : List ℕ) (stretch : Stretch) (old new : Arrival) (old_input new_input old_out new_out : Trace) : Type 0 where
@@ -159,6 +164,7 @@ pub record IsStretched (frame : Frame) (course : Course) (read : List ℕ) (stre
   pub turns : AreGrowingTurns frame blocks first last
   pub read_is : last.read ≡ read
   pub ends : IsStretchEnd stretch course.left blocks last new new_input new_out
+  pub leads : LeadsFrom frame read stretch
 
 -- The same up to a fault.
 pub record IsStretchedSoFar (frame : Frame) (course : Course) (read : List ℕ) (e : Error) (old : Arrival) (old_input new_input old_out new_out : Trace) : Type 0 where

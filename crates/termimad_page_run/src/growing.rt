@@ -8,12 +8,13 @@ ghost use Rattle.termimad_page_run.specs.Growing.{first_part, IsBrokenGrowing, I
 ghost use Rattle.termimad_page_run.specs.Stretches.{HasCome, IsKeptOrderly, IsStretchBroken, IsStretched, SaysText};
 
 use crate::coming::{Coming, front_shown, name_coming, read_more};
+use crate::leaving::Leaving;
 use crate::program::{Grammar, name_row};
 use crate::stretches::{Course, Scene, Stretch, page_stretch};
 use mad_dressing::dressings_of;
 use mad_measure::printable;
 use mad_page_skin::PageSkin;
-use mad_pager::{End, Files};
+use mad_pager::Files;
 use mad_plain::lossy_text;
 use mad_plain_page::PlainText;
 use mad_search::PagedText;
@@ -58,9 +59,9 @@ pub fn run_growing<T: Source, F: Source, I: Source, O: Out>(
     frame: &Frame,
     input: &mut I,
     out: &mut O,
-) -> Result<End, Error>
+) -> Result<Leaving, Error>
     ensures { MatchResult result
-        (λ end. IsPagedGrowing frame.now end (arrival (T.seen coming.old.text) (F.seen coming.old.mark) coming.old.ended coming.old.is_whole)
+        (λ left. IsPagedGrowing frame.now left (arrival (T.seen coming.old.text) (F.seen coming.old.mark) coming.old.ended coming.old.is_whole)
         (I.seen input.old) (I.seen input.new) (O.seen out.old) (O.seen out.new))
         (λ e. IsBrokenGrowing frame.now e (arrival (T.seen coming.old.text) (F.seen coming.old.mark) coming.old.ended coming.old.is_whole)
         (I.seen input.old) (I.seen input.new) (O.seen out.old) (O.seen out.new)) }
@@ -71,7 +72,7 @@ pub fn run_growing<T: Source, F: Source, I: Source, O: Out>(
     'stretches: loop {
         let stretch = show_read(alloc, coming, frame, read.as_slice(), course, input, out)?;
         match stretch {
-            Stretch::Ends(end) => return Ok(end),
+            Stretch::Ends(left) => return Ok(left),
             Stretch::Grows(next, fresh) => {
                 read.extend_from_slice(fresh.as_slice())?;
                 course = next;
@@ -142,7 +143,7 @@ fn show_text<T: Source, F: Source, I: Source, O: Out>(
             let markdown = Markdown::read(alloc, text)?;
             let sections = markdown.page(alloc)?;
             let dressings = dressings_of(alloc, &sections, scene.frame.skin.marks())?;
-            let paged = PagedText::Markdown(&markdown, &dressings);
+            let paged = PagedText::Markdown(&markdown, &dressings, text);
             page_stretch(alloc, coming, scene, paged, course, input, out)
         }
         Grammar::Plain(is_styled) => {

@@ -1,7 +1,7 @@
 //! What the pager does, over any devices: keys are read, and after each block of them the screen is drawn anew.
 //!
 //! 1. [`blocks`]: what a block of keys does.
-//! 2. [`program`]: a run.
+//! 2. [`program`]: a run; [`leaving`]: how it ends.
 //! 3. [`coming`]: a text that comes; [`wishes`]: what a block wants of it; [`stretches`], [`growing`]: a run over it.
 //! 4. [`plain`]: a skin without a style.
 #![tactic(auto)]
@@ -9,6 +9,7 @@
 mod blocks;
 mod coming;
 mod growing;
+mod leaving;
 mod plain;
 mod program;
 mod stretches;
@@ -16,6 +17,7 @@ mod wishes;
 
 pub use coming::Coming;
 pub use growing::{Frame, run_growing};
+pub use leaving::Leaving;
 pub use mad_pager::{End, Files};
 pub use plain::plain_skin;
 pub use program::{Grammar, Sheet, run};

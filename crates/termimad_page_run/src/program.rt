@@ -5,9 +5,10 @@ ghost use Rattle.mad_pager.specs.Pagers.{begun, view_of, IsOrderlyView};
 ghost use Rattle.mad_pager.specs.Sessions.{asks_size, end_of};
 ghost use Rattle.mad_outline.specs.Sources.{plain_said, rows_said, text_said};
 ghost use Rattle.mad_plain_page.specs.PlainTexts.{lines_kept};
-ghost use Rattle.termimad_page_run.specs.Runs.{moment, name_row, row_char, sheet_said, IsBrokenOff, IsBrokenRun, IsFaultyTurn, IsLastTurn, IsPaged, IsTurn, IsTurned};
+ghost use Rattle.termimad_page_run.specs.Runs.{moment, name_row, row_char, sheet_said, IsBrokenOff, IsBrokenRun, IsFaultyTurn, IsLastTurn, IsPagedTo, IsTurn, IsTurned};
 
 use crate::blocks::apply_block;
+use crate::leaving::{Leaving, leave};
 use mad_dressing::dressings_of;
 use mad_input::TerminalInput;
 use mad_measure::printable;
@@ -57,7 +58,7 @@ pub struct Sheet<'s> {
 
 /// Pages a text: draws its start, then reads blocks of bytes from the terminal, does what they say and draws the screen anew after each, until a key
 /// ends it or the input does. It answers how it ended: by the keys for another file that one is to be shown, by those for the file as it is now or an
-/// editor with the number of the row on top, and else that nothing more is to be shown.
+/// editor with the number of the row on top, for a link that leads elsewhere with that number and its address, and else that nothing more is to be shown.
 ///
 /// A size that the terminal tells counts where it was asked for, once for each question. Where the terminal says that it is ready, by `ESC [ 0 n`, it
 /// is asked. What is pasted goes into a search that is typed, or else nowhere.
@@ -74,8 +75,8 @@ pub fn run<I: Source, O: Out>(
     sheet: &Sheet,
     input: &mut I,
     out: &mut O,
-) -> Result<End, Error>
-    ensures { MatchResult result (λ end. IsPaged sheet.now end (I.seen input.old) (I.seen input.new) (O.seen out.old) (O.seen out.new))
+) -> Result<Leaving, Error>
+    ensures { MatchResult result (λ left. IsPagedTo sheet.now left (I.seen input.old) (I.seen input.new) (O.seen out.old) (O.seen out.new))
         (λ e. IsBrokenRun sheet.now e (I.seen input.old) (I.seen input.new) (O.seen out.old) (O.seen out.new)) }
 {
     let name = name_row(alloc, sheet.name)?;
@@ -89,7 +90,7 @@ pub fn run<I: Source, O: Out>(
             let markdown = Markdown::read(alloc, sheet.text)?;
             let sections = markdown.page(alloc)?;
             let dressings = dressings_of(alloc, &sections, sheet.skin.marks())?;
-            let text = PagedText::Markdown(&markdown, &dressings);
+            let text = PagedText::Markdown(&markdown, &dressings, sheet.text);
             page(alloc, sheet, name.as_str(), text, input, out)
         }
         Grammar::Plain(is_styled) => {
@@ -107,10 +108,10 @@ fn page_lines<I: Source, O: Out>(
     text: &str,
     input: &mut I,
     out: &mut O,
-) -> Result<End, Error>
+) -> Result<Leaving, Error>
     requires name { name.now ≡ name_row sheet.now.name.now }
     requires text { plain_said text.now ≡ sheet_said sheet.now }
-    ensures { MatchResult result (λ end. IsPaged sheet.now end (I.seen input.old) (I.seen input.new) (O.seen out.old) (O.seen out.new))
+    ensures { MatchResult result (λ left. IsPagedTo sheet.now left (I.seen input.old) (I.seen input.new) (O.seen out.old) (O.seen out.new))
         (λ e. IsBrokenRun sheet.now e (I.seen input.old) (I.seen input.new) (O.seen out.old) (O.seen out.new)) }
 {
     page(alloc, sheet, name, PagedText::Lines(text), input, out)
@@ -124,10 +125,10 @@ fn page_plain<I: Source, O: Out>(
     text: &PlainText,
     input: &mut I,
     out: &mut O,
-) -> Result<End, Error>
+) -> Result<Leaving, Error>
     requires name { name.now ≡ name_row sheet.now.name.now }
     requires text { rows_said text.now.is_styled (lines_kept text.now) ≡ sheet_said sheet.now }
-    ensures { MatchResult result (λ end. IsPaged sheet.now end (I.seen input.old) (I.seen input.new) (O.seen out.old) (O.seen out.new))
+    ensures { MatchResult result (λ left. IsPagedTo sheet.now left (I.seen input.old) (I.seen input.new) (O.seen out.old) (O.seen out.new))
         (λ e. IsBrokenRun sheet.now e (I.seen input.old) (I.seen input.new) (O.seen out.old) (O.seen out.new)) }
 {
     page(alloc, sheet, name, PagedText::Plain(text), input, out)
@@ -141,10 +142,10 @@ fn page<I: Source, O: Out>(
     text: PagedText,
     input: &mut I,
     out: &mut O,
-) -> Result<End, Error>
+) -> Result<Leaving, Error>
     requires name { name.now ≡ name_row sheet.now.name.now }
     requires text { text_said text ≡ sheet_said sheet.now }
-    ensures { MatchResult result (λ end. IsPaged sheet.now end (I.seen input.old) (I.seen input.new) (O.seen out.old) (O.seen out.new))
+    ensures { MatchResult result (λ left. IsPagedTo sheet.now left (I.seen input.old) (I.seen input.new) (O.seen out.old) (O.seen out.new))
         (λ e. IsBrokenRun sheet.now e (I.seen input.old) (I.seen input.new) (O.seen out.old) (O.seen out.new)) }
 {
     let mut pager = Pager::new(
@@ -157,7 +158,9 @@ fn page<I: Source, O: Out>(
         sheet.files,
     )?;
     pager.begin_at(sheet.start);
-    turn_pages(alloc, &mut pager, input, out)
+    let end = turn_pages(alloc, &mut pager, input, out)?;
+    let left = leave(alloc, text, end)?;
+    Ok(left)
 }
 
 // Makes one turn after the other.

@@ -15,6 +15,7 @@ ghost use Rattle.termimad_page_run.specs.Wishes.{wish_left};
 use crate::blocks::apply_block;
 use crate::coming::{Coming, read_more};
 use crate::growing::Frame;
+use crate::leaving::{Leaving, leave};
 use crate::wishes::{Wish, bytes_wanted, follows_after, key_again, wish_in, wish_left};
 use mad_growth::whole_lines;
 use mad_input::TerminalInput;
@@ -65,7 +66,7 @@ impl Course {
 #[derive(Drop)]
 pub(crate) enum Stretch {
     /// The run ends.
-    Ends(End),
+    Ends(Leaving),
     /// The text grows by these bytes.
     Grows(Course, Vec<u8>),
 }
@@ -144,11 +145,14 @@ pub(crate) fn page_stretch<T: Source, F: Source, I: Source, O: Out>(
         )?;
         match step {
             Step::Goes => {}
-            Step::Ends(end) => return Ok(Stretch::Ends(end)),
+            Step::Ends(end) => {
+                let leaving = leave(alloc, text, end)?;
+                return Ok(Stretch::Ends(leaving));
+            }
             Step::Grows(key) => return Ok(grown(pager, going, key, left - turn - 1)),
         }
     }
-    Ok(Stretch::Ends(End::Quits))
+    Ok(Stretch::Ends(Leaving::quits()))
 }
 
 // The end of a stretch where the text grows: what goes on, and what is fresh.

@@ -6,7 +6,9 @@ use mad_page_skin::PageSkin;
 use mad_screen::{NotPlain, Screen};
 use mad_term::Error;
 use std::alloc::{AllocError, Global};
-use termimad_page_run::{Coming, End, Files, Frame, Grammar, Sheet, plain_skin, run, run_growing};
+use termimad_page_run::{
+    Coming, End, Files, Frame, Grammar, Leaving, Sheet, plain_skin, run, run_growing,
+};
 
 // What is put where the size is asked for.
 const SIZE_QUESTION: &[u8] = b"\x1b[999;999H\x1b[6n";
@@ -53,7 +55,7 @@ pub fn shown(alloc: Global, call: &str, text: &str) -> Result<String, AllocError
     };
     push_pictures(&mut answer, setting, &out)?;
     match ended {
-        Ok(end) => push_end(&mut answer, end)?,
+        Ok(left) => push_end(&mut answer, &left)?,
         Err(Error::Memory) => return Err(AllocError),
         Err(_) => answer.push_str("a fault\n")?,
     }
@@ -68,7 +70,7 @@ fn end_of(
     text: &str,
     blocks: &str,
     out: &mut Pictures,
-) -> Result<End, Error> {
+) -> Result<Leaving, Error> {
     let mut input = Blocks::new(blocks);
     if let Some(byte) = coming {
         let looks = text.split("++\n").count().saturating_sub(1);
@@ -149,14 +151,24 @@ fn start_in(call: &str) -> (usize, &str) {
 }
 
 // How a session ended, in a line.
-fn push_end(answer: &mut String, end: End) -> Result<(), AllocError> {
-    match end {
+fn push_end(answer: &mut String, left: &Leaving) -> Result<(), AllocError> {
+    match left.end {
         End::Quits => answer.push_str("ended\n"),
         End::NextFile => answer.push_str("ended for the next file\n"),
         End::PreviousFile => answer.push_str("ended for the file before\n"),
         End::Reload(row) => write!(answer, "ended for the file as it is, at row {row}\n"),
         End::Edit(row) => write!(answer, "ended for an editor at row {row}\n"),
+        End::Follow(row, _) => push_link(answer, row, left),
     }
+}
+
+// For which link a session ended, in a line.
+fn push_link(answer: &mut String, row: usize, left: &Leaving) -> Result<(), AllocError> {
+    write!(answer, "ended for a link at row {row}: ")?;
+    if let Some(address) = &left.address {
+        answer.push_str(address.as_str())?;
+    }
+    answer.push('\n')
 }
 
 // The character that a sign means in a text: a backspace, as overstrikes have it.

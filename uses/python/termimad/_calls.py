@@ -5,7 +5,7 @@ import ctypes
 import json
 import operator
 import os
-from typing import Any, Dict, List, Mapping, Sequence, SupportsIndex, Tuple, Union
+from typing import Any, Dict, List, Mapping, Optional, Sequence, SupportsIndex, Tuple, Union
 
 Words = Union[str, bytes, "os.PathLike[str]"]
 Skin = Union[str, bytes, Mapping[str, object]]
@@ -70,6 +70,10 @@ class _Pointer(ctypes.Structure):
     _fields_ = [("text", ctypes.c_void_p)]
 
 
+class _Place(ctypes.Structure):
+    _fields_ = [("section", ctypes.c_size_t), ("found", ctypes.c_uint32), ("status", ctypes.c_uint32)]
+
+
 class _Progress(ctypes.Structure):
     _fields_ = [("count", ctypes.c_size_t), ("used", ctypes.c_size_t), ("fenced", ctypes.c_uint32), ("status", ctypes.c_uint32)]
 
@@ -84,6 +88,7 @@ _PARAMETERS = {
     "termimad_code": _BYTES * 3 + [ctypes.c_size_t] + _BYTES,
     "termimad_links": _BYTES * 2,
     "termimad_headings": _BYTES * 2,
+    "termimad_find_section": _BYTES * 2,
     "termimad_parts": _BYTES * 2 + [ctypes.c_size_t] * 3 + _BYTES,
     "termimad_stream_begin": [_KEPT, *_BYTES, ctypes.c_size_t],
     "termimad_stream_take": [_KEPT, *_BYTES, ctypes.c_size_t, *_BYTES],
@@ -98,7 +103,7 @@ _PARAMETERS = {
     "termimad_printable": _BYTES * 2,
     "termimad_table": _BYTES + [ctypes.POINTER(ctypes.c_size_t), ctypes.c_size_t] * 2 + _BYTES + [ctypes.c_size_t] * 2 + _BYTES,
 }
-_RESULTS: Dict[str, Any] = {"termimad_parts": _Progress, "termimad_stream_end": None, "termimad_live_end": None}
+_RESULTS: Dict[str, Any] = {"termimad_find_section": _Place, "termimad_parts": _Progress, "termimad_stream_end": None, "termimad_live_end": None}
 for _name, _parameters in _PARAMETERS.items():
     _call = getattr(_library, _name)
     _call.argtypes, _call.restype = _parameters, _RESULTS.get(_name, _Answer)
@@ -180,6 +185,13 @@ class Growth(_Kept):
 def lines_of(name: str, source: bytes) -> List[List[str]]:
     """What a call tells of a source, line by line, as the parts between tabs."""
     return [line.split("\t") for line in result(name, {"source": source}, {}).split("\n")[:-1]]
+
+
+def section_of(source: bytes, name: Words) -> Optional[int]:
+    """The number of the section of a source to which a name leads, if there is one."""
+    texts = _raw_texts({"source": source, "name": name})
+    place = _checked(_library.termimad_find_section(*_handed(texts)), texts, {})
+    return int(place.section) if place.found else None
 
 
 def row_count(markdown: Words, skin: Skin, width: int) -> int:

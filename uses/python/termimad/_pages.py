@@ -9,7 +9,7 @@ import sys
 import time
 from typing import Any, Dict, Iterable, Iterator, List, NamedTuple, Optional, TextIO, Tuple, Union
 
-from ._calls import Growth, Skin, Stream, Words, lines_of, raw, result, skin_word
+from ._calls import Growth, Skin, Stream, Words, lines_of, raw, result, section_of, skin_word
 
 _WIDEST = 65535
 _SECONDS_TO_ANSWER = 1.0
@@ -211,6 +211,15 @@ class Markdown(_Shown):
         """
         found = lines_of("termimad_headings", self.source)
         return [Heading(int(level), text, name, int(section)) for level, section, name, text in found]
+
+    def find_section(self, name: str) -> Optional[int]:
+        """The number of the section to which `#name` goes, or `None`: that of the first tag of html with this name, or else of the heading.
+
+        >>> page = Markdown("# Disks\\n\\nSee [there](#disks), or [here](#what).")
+        >>> [page.find_section(link.address[1:]) for link in page.links]
+        [0, None]
+        """
+        return section_of(self.source, name)
 
 
 class Lines(_Shown):

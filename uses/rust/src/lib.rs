@@ -22,6 +22,14 @@ struct Progress {
     status: u32,
 }
 
+#[repr(C)]
+#[derive(Clone, Copy)]
+struct Place {
+    section: usize,
+    found: u32,
+    status: u32,
+}
+
 // A text in pieces or a live one, which the library keeps.
 #[repr(C)]
 struct Kept {
@@ -85,6 +93,12 @@ extern "C" {
         buffer: *mut u8,
         capacity: usize,
     ) -> Answer;
+    fn termimad_find_section(
+        text: *const u8,
+        text_length: usize,
+        name: *const u8,
+        name_length: usize,
+    ) -> Place;
     fn termimad_parts(
         text: *const u8,
         text_length: usize,
@@ -797,6 +811,23 @@ pub fn headings(text: &str) -> Result<Vec<Heading>, Refused> {
     Ok(lines.lines().map(heading_of).collect())
 }
 
+/// The number of the section of a text of Markdown as people write it to which `#name` goes, if there is one: that of the first tag of html that
+/// has the name, or else of the heading.
+///
+/// ```
+/// let text = "# Disks\n\nSee [there](#disks).";
+/// assert_eq!(termimad_proved::find_section(text, "disks"), Ok(Some(0)));
+/// assert_eq!(termimad_proved::find_section(text, "what"), Ok(None));
+/// ```
+pub fn find_section(text: &str, name: &str) -> Result<Option<usize>, Refused> {
+    let place =
+        unsafe { termimad_find_section(text.as_ptr(), text.len(), name.as_ptr(), name.len()) };
+    match place.status {
+        DONE => Ok((place.found == 1).then_some(place.section)),
+        status => Err(refusal(status)),
+    }
+}
+
 impl Page<'_> {
     /// Its [`links`].
     pub fn links(&self) -> Result<Vec<Link>, Refused> {
@@ -806,6 +837,11 @@ impl Page<'_> {
     /// Its [`headings`].
     pub fn headings(&self) -> Result<Vec<Heading>, Refused> {
         headings(self.text)
+    }
+
+    /// The number of the section to which `#name` goes, by [`find_section`].
+    pub fn find_section(&self, name: &str) -> Result<Option<usize>, Refused> {
+        find_section(self.text, name)
     }
 }
 

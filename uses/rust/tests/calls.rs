@@ -1,8 +1,8 @@
 //! What the calls answer, and how they refuse.
 
 use termimad_proved::{
-    code, fit, headings, links, markdown, markdown_as_read, printable, rows, rows_as_read, table, text,
-    Align, LiveMarkdown, MarkdownStream, Page, Refused,
+    code, find_section, fit, headings, links, markdown, markdown_as_read, printable, rows, rows_as_read,
+    table, text, Align, LiveMarkdown, MarkdownStream, Page, Refused,
 };
 
 #[test]
@@ -139,4 +139,20 @@ fn links_and_headings_are_told() {
     assert_eq!(found.len(), 1);
     assert_eq!(found[0].address, "#disks-1");
     assert_eq!(headings("no heading").unwrap(), []);
+}
+
+#[test]
+fn a_name_leads_to_a_section() {
+    let text = "# Disks\n\nwords\n\n## Disks\n\n<p id='Here'>a</p>";
+    let sections: Vec<usize> = headings(text)
+        .unwrap()
+        .into_iter()
+        .map(|heading| heading.section)
+        .collect();
+    assert_eq!(find_section(text, "disks"), Ok(Some(sections[0])));
+    assert_eq!(find_section(text, "Disks-1"), Ok(Some(sections[1])));
+    assert!(find_section(text, "Here").unwrap() > Some(sections[1]));
+    for name in ["", "here", "#disks", "disks-2"] {
+        assert_eq!(find_section(text, name), Ok(None));
+    }
 }

@@ -2,7 +2,8 @@ use Rattle.std.proofs.Common.{◌≡◌, ◌++◌, length, map}
 use Rattle.std.specs.Vec.Iter.{into_iter_items}
 use Rattle.mad_md.specs.Lines.{content_of}
 use Rattle.mad_sections.specs.Sections.{page_content, section_content}
-use Rattle.mad_outline.specs.Sources.{header_said, items_by}
+use Rattle.mad_outline.specs.LinkLists.{items_by}
+use Rattle.mad_outline.specs.Sources.{header_said}
 use Rattle.mad_outline.proofs.contents.header_items.Given as goal
 
 abbrev pub invariant-loop-section : goal.invariant-loop-section

@@ -1,6 +1,13 @@
+use Rattle.std.proofs.Common.{subst}
+use Rattle.std.specs.Prelude.{string_bytes}
 use Rattle.std.proofs.lemmas.Str.{IsUtf8-past_char}
-use Rattle.markdown_lines.proofs.CodeLemmas.{expanded_more, expanded_all}
+use Rattle.markdown_lines.proofs.CodeLemmas.{HasNoTab, plain_put, expanded_more, expanded_all}
 use Rattle.markdown_lines.proofs.code.push_text.Goals as goal
+
+pub returns-then-is_without_tabs : goal.returns-then-is_without_tabs
+returns-then-is_without_tabs c =
+    plain_put (string_bytes c.args.shown.now) (string_bytes c.push_shown.new.shown) c.args.text.now c.args.column c.utf8.text
+    (subst HasNoTab c.as_bytes.ensures.value (c.is_without_tabs.ensures c.if-is_without_tabs.true)) c.in_ok-push_shown.ensures
 
 pub loop-c-preserved : goal.loop-c-preserved
 loop-c-preserved c =

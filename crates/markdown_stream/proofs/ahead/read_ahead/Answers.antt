@@ -1,4 +1,4 @@
-use Rattle.std.proofs.Common.{List, length, ap, ◌∙◌}
+use Rattle.std.proofs.Common.{List, length, ap}
 use Rattle.markdown_blocks.specs.Steps.{Step, state_of, line_of}
 use Rattle.markdown_blocks.specs.declared.containers.Container.{Container}
 use Rattle.markdown_leaves.specs.Gather.{Gathering}

@@ -1,10 +1,10 @@
 use Rattle.std.proofs.Common.{◌≡◌, ℕ, List, true, false, Option, Some, option_map, Result, Err, refl, sym, ap, ◌∙◌, subst, inl, inr}
 use Rattle.std.proofs.lemmas.Result.{err_from_is_err_and}
 use Rattle.mad_page_skin.specs.declared.page_skin.PageSkin.{PageSkin}
-use Rattle.mad_pager.specs.declared.session.End.{End}
 use Rattle.mad_term.specs.Trace.{Trace}
 use Rattle.termimad_given.specs.Given.{Held}
 use Rattle.termimad_page_run.specs.Comings.{Arrival, arrival}
+use Rattle.termimad_page_run.specs.declared.leaving.Leaving.{Leaving}
 use Rattle.termimad_page_run.specs.declared.program.Grammar.{Grammar}
 use Rattle.termimad_page.specs.Calls.{Where, on_screen, where_of}
 use Rattle.termimad_page.specs.Runs.{comes, Devices, IsBegun, IsFreshArrival, PagesComing, Performs, ReadsFile, Shows, ShowsComing, devices}
@@ -15,17 +15,17 @@ use Rattle.termimad_page.specs.declared.failing.Refusal.{Refusal}
 use Rattle.termimad_page.proofs.running.perform.Goals as goal
 
 -- a run whose file isn't read
-unread_run : (holds : Held) (words : List (List ℕ)) (old : Devices) (r : Result End Refusal) (refusal : Refusal) (mark : Option (List ℕ)) (file : List ℕ) (grammar : Grammar) (place : Where) (skin : PageSkin) → r ≡ Err refusal → IsBegun words mark file grammar place skin → ReadsFile refusal → Performs holds words old r old
+unread_run : (holds : Held) (words : List (List ℕ)) (old : Devices) (r : Result Leaving Refusal) (refusal : Refusal) (mark : Option (List ℕ)) (file : List ℕ) (grammar : Grammar) (place : Where) (skin : PageSkin) → r ≡ Err refusal → IsBegun words mark file grammar place skin → ReadsFile refusal → Performs holds words old r old
 unread_run holds words old r refusal mark file grammar place skin e begun unread =
     inr (inr (refusal, e, inr (record { mark = mark; file = file; grammar = grammar; place = place; skin = skin; begun = begun; unread = unread }), refl))
 
 -- a run that shows what its file holds
-shown_run : (holds : Held) (words : List (List ℕ)) (old new : Devices) (r : Result End Refusal) (mark : Option (List ℕ)) (file bytes slice : List ℕ) (grammar : Grammar) (place : Where) (skin : PageSkin) → IsBegun words mark file grammar place skin → comes mark place ≡ false → slice ≡ bytes → holds file bytes → Shows grammar skin place slice old r new → Performs holds words old r new
+shown_run : (holds : Held) (words : List (List ℕ)) (old new : Devices) (r : Result Leaving Refusal) (mark : Option (List ℕ)) (file bytes slice : List ℕ) (grammar : Grammar) (place : Where) (skin : PageSkin) → IsBegun words mark file grammar place skin → comes mark place ≡ false → slice ≡ bytes → holds file bytes → Shows grammar skin place slice old r new → Performs holds words old r new
 shown_run holds words old new r mark file bytes slice grammar place skin begun whole p held shown =
     inl (record { mark = mark; file = file; grammar = grammar; place = place; skin = skin; begun = begun; whole = whole; bytes = bytes; held = held; shown = subst (λ (b : List ℕ). Shows grammar skin place b old r new) p shown })
 
 -- a run that pages a text which comes
-coming_run : (holds : Held) (words : List (List ℕ)) (old : Devices) (r : Result End Refusal) (keys drawn : Trace) (mark : Option (List ℕ)) (named file : List ℕ) (grammar : Grammar) (place : Place) (screen : Screen) (skin : PageSkin) (a : Arrival)
+coming_run : (holds : Held) (words : List (List ℕ)) (old : Devices) (r : Result Leaving Refusal) (keys drawn : Trace) (mark : Option (List ℕ)) (named file : List ℕ) (grammar : Grammar) (place : Place) (screen : Screen) (skin : PageSkin) (a : Arrival)
     → mark ≡ Some named → place ≡ OnScreen screen → IsBegun words mark file grammar (where_of place) skin → IsFreshArrival a
     → PagesComing grammar skin screen.name.now screen.columns screen.rows screen.files screen.start a old.keys old.screen r keys drawn → Performs holds words old r (devices keys drawn old.out)
 coming_run holds words old r keys drawn mark named file grammar place screen skin a is shown begun fresh pages =

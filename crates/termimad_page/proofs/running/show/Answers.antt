@@ -2,9 +2,9 @@ use Rattle.std.proofs.Common.{◌≡◌, ℕ, List, Result, Err, refl, sym, ap, 
 use Rattle.std.specs.Cow.{cow_str_bytes}
 use Rattle.std.proofs.lemmas.Result.{err_from_is_err_and}
 use Rattle.mad_page_skin.specs.declared.page_skin.PageSkin.{PageSkin}
-use Rattle.mad_pager.specs.declared.session.End.{End}
 use Rattle.mad_term.specs.Trace.{Trace}
 use Rattle.markdown_lines.specs.Texts.{behind_mark}
+use Rattle.termimad_page_run.specs.declared.leaving.Leaving.{Leaving}
 use Rattle.termimad_page_run.specs.declared.program.Grammar.{Grammar}
 use Rattle.termimad_page.specs.Calls.{Where, where_of}
 use Rattle.termimad_page.specs.Runs.{Devices, IsNoText, IsTextOf, PagesText, Shows, WritesWhole, devices}
@@ -15,19 +15,19 @@ use Rattle.termimad_page.specs.declared.failing.Refusal.{Refusal}
 use Rattle.termimad_page.proofs.running.show.Goals as goal
 
 -- what is paged of bytes that are a text
-pages_shown : (grammar : Grammar) (skin : PageSkin) (place : Place) (screen : Screen) (bytes whole slice text : List ℕ) (old : Devices) (r : Result End Refusal) (keys drawn : Trace) → place ≡ OnScreen screen → IsTextOf grammar bytes whole → slice ≡ whole → text ≡ behind_mark slice → PagesText grammar skin screen.name.now screen.columns screen.rows screen.files screen.start text old.keys old.screen r keys drawn → Shows grammar skin (where_of place) bytes old r (devices keys drawn old.out)
+pages_shown : (grammar : Grammar) (skin : PageSkin) (place : Place) (screen : Screen) (bytes whole slice text : List ℕ) (old : Devices) (r : Result Leaving Refusal) (keys drawn : Trace) → place ≡ OnScreen screen → IsTextOf grammar bytes whole → slice ≡ whole → text ≡ behind_mark slice → PagesText grammar skin screen.name.now screen.columns screen.rows screen.files screen.start text old.keys old.screen r keys drawn → Shows grammar skin (where_of place) bytes old r (devices keys drawn old.out)
 pages_shown grammar skin place screen bytes whole slice text old r keys drawn is of p q pages =
     subst (λ (w : Place). Shows grammar skin (where_of w) bytes old r (devices keys drawn old.out)) (sym is)
     (inl (whole, of, (subst (λ (t : List ℕ). PagesText grammar skin screen.name.now screen.columns screen.rows screen.files screen.start t old.keys old.screen r keys drawn) (q ∙ ap behind_mark p) pages, refl)))
 
 -- what is written of them
-whole_shown : (grammar : Grammar) (skin : PageSkin) (place : Place) (columns : ℕ) (bytes whole slice text : List ℕ) (old : Devices) (r : Result End Refusal) (out : Trace) → place ≡ Whole columns → IsTextOf grammar bytes whole → slice ≡ whole → text ≡ behind_mark slice → WritesWhole grammar skin columns text old.out r out → Shows grammar skin (where_of place) bytes old r (devices old.keys old.screen out)
+whole_shown : (grammar : Grammar) (skin : PageSkin) (place : Place) (columns : ℕ) (bytes whole slice text : List ℕ) (old : Devices) (r : Result Leaving Refusal) (out : Trace) → place ≡ Whole columns → IsTextOf grammar bytes whole → slice ≡ whole → text ≡ behind_mark slice → WritesWhole grammar skin columns text old.out r out → Shows grammar skin (where_of place) bytes old r (devices old.keys old.screen out)
 whole_shown grammar skin place columns bytes whole slice text old r out is of p q writes =
     subst (λ (w : Place). Shows grammar skin (where_of w) bytes old r (devices old.keys old.screen out)) (sym is)
     (inl (whole, of, (subst (λ (t : List ℕ). WritesWhole grammar skin columns t old.out r out) (q ∙ ap behind_mark p) writes, refl, refl)))
 
 -- bytes that are no text
-none_shown : (grammar : Grammar) (skin : PageSkin) (place : Where) (bytes : List ℕ) (old : Devices) (r : Result End Refusal) (refusal : Refusal) → r ≡ Err refusal → IsNoText grammar bytes refusal → Shows grammar skin place bytes old r old
+none_shown : (grammar : Grammar) (skin : PageSkin) (place : Where) (bytes : List ℕ) (old : Devices) (r : Result Leaving Refusal) (refusal : Refusal) → r ≡ Err refusal → IsNoText grammar bytes refusal → Shows grammar skin place bytes old r old
 none_shown grammar skin place bytes old r refusal e none = inr (refusal, e, none, refl)
 
 pub returns-in_err-whole : goal.returns-in_err-whole

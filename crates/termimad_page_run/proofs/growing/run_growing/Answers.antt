@@ -46,7 +46,7 @@ returns-in_err-stretch g c =
 
 pub returns-in-Ends : goal.returns-in-Ends
 returns-in-Ends g c =
-    stretch_ended _ _ _ _ _ _ _ _ _ c.in-Ends.end _ _ _ c.stretches.invariant (stretched_as _ _ _ _ _ _ _ _ _ _ _ _ c.as_slice.ensures.value c.in-Ends.is c.in_ok-stretch.ensures)
+    stretch_ended _ _ _ _ _ _ _ _ _ c.in-Ends.left _ _ _ c.stretches.invariant (stretched_as _ _ _ _ _ _ _ _ _ _ _ _ c.as_slice.ensures.value c.in-Ends.is c.in_ok-stretch.ensures)
 
 pub returns-in_err-extend_from_slice-in-Grows : goal.returns-in_err-extend_from_slice-in-Grows
 returns-in_err-extend_from_slice-in-Grows g c =

@@ -3,8 +3,9 @@ use Rattle.mad_dressing.specs.Dressed.{put_of, put_with}
 use Rattle.mad_dressing.specs.declared.page_marks.PageMarks.{PageMarks}
 use Rattle.mad_page_skin.specs.PageSkins.{page_marks}
 use Rattle.mad_sections.specs.Sections.{page_content}
-use Rattle.markdown_reader.specs.MarkdownSays.{links_said, markdown_says}
-use Rattle.termimad_page_run.proofs.RunLemmas.{lines_said, markdown_said, plain_text_said, shown_by}
+use Rattle.mad_outline.specs.Sources.{links_of}
+use Rattle.markdown_reader.specs.MarkdownSays.{markdown_says}
+use Rattle.termimad_page_run.proofs.RunLemmas.{lines_said, links_read, markdown_said, plain_text_said, shown_by}
 use Rattle.termimad_page_run.proofs.StretchLemmas.{text_says}
 use Rattle.termimad_page_run.proofs.growing.show_text.Goals as goal
 
@@ -20,10 +21,10 @@ page_stretch-requires-clause-said g c =
     let read = c.in_ok-markdown-in-Markdown.markdown in
     let page = page_content c.in_ok-sections-in-Markdown.sections in
     text_says frame _ _ _ _ _ c.requires.come
-    (markdown_said frame.grammar (page_marks frame.skin.now) c.args.text.now (map put_of c.deref-in-Markdown.result.now) page (markdown_says read) (links_said read) c.in-Markdown.is c.in_ok-markdown-in-Markdown.ensures.sections
+    (markdown_said frame.grammar (page_marks frame.skin.now) c.args.text.now (map put_of c.deref-in-Markdown.result.now) page (markdown_says read) (links_of read c.args.text.now) c.in-Markdown.is c.in_ok-markdown-in-Markdown.ensures.sections
     c.in_ok-sections-in-Markdown.ensures
     (ap (map put_of) c.deref-in-Markdown.ensures.value ∙ c.in_ok-dressings-in-Markdown.ensures ∙ ap (λ (marks : PageMarks). map (put_with marks) page) c.marks.ensures)
-    c.in_ok-markdown-in-Markdown.ensures.links)
+    (links_read read c.args.text.now c.in_ok-markdown-in-Markdown.ensures.links c.in_ok-markdown-in-Markdown.ensures.link_marks))
 
 pub show_plain-requires-clause-said : goal.show_plain-requires-clause-said
 show_plain-requires-clause-said g c =

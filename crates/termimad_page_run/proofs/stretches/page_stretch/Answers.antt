@@ -1,10 +1,15 @@
-use Rattle.std.proofs.Common.{◌≡◌, ◌∷◌, [], ◌++◌, length-append, inl, inr, refl, subst, sym, ◌∙◌, arith}
+use Rattle.std.proofs.Common.{◌≡◌, ◌∷◌, [], ◌++◌, length-append, inl, inr, refl, subst, sym, ap, ◌∙◌, arith, option_map, string_bytes}
 use Rattle.termimad_page_run.specs.Comings.{arrival}
 use Rattle.termimad_page_run.specs.Growing.{GrowingMoment}
 use Rattle.termimad_page_run.specs.Stretches.{IsStepped, growing}
 use Rattle.termimad_page_run.specs.declared.stretches.Going.{Going}
 use Rattle.termimad_page_run.specs.declared.stretches.Step.{Step}
-use Rattle.termimad_page_run.proofs.StretchLemmas.{again_order, err_exit, start_of_order, stretch_left, stretch_start, turn_more}
+use Rattle.termimad_page_run.proofs.StretchLemmas.{again_order, err_exit, led_so, start_of_order, stretch_left, stretch_start, turn_more}
+use Rattle.mad_pager.specs.declared.session.End.{End as SomeEnd}
+use Rattle.mad_pager.specs.declared.session.End.TheVariants.{Quits}
+use Rattle.termimad_page_run.specs.declared.leaving.Leaving.{Leaving}
+use Rattle.termimad_page_run.specs.Runs.{IsLastTurn}
+use Rattle.termimad_page_run.proofs.RunLemmas.{unled_last}
 use Rattle.termimad_page_run.proofs.stretches.page_stretch.Goals as goal
 
 pub returns-in_err-pager : goal.returns-in_err-pager
@@ -59,6 +64,18 @@ returns-in_err-step g c =
     (arrival (g.T.Source.seen c.loop-turn.coming.text) (g.F.Source.seen c.loop-turn.coming.mark) c.loop-turn.coming.ended c.loop-turn.coming.is_whole) c.args.scene.now.read.now (g.I.Source.seen c.loop-turn.input) (g.O.Out.seen c.loop-turn.out) in
     err_exit _ _ _ _ c.from_residual-in_err-step.ensures.1 (inl (record { first = inv.first; front = inv.front; blocks = inv.blocks; last = old; turns = inv.turns; fault = c.in_err-step.ensures }))
 
+pub returns-in_err-leaving-in-Ends : goal.returns-in_err-leaving-in-Ends
+returns-in_err-leaving-in-Ends g c =
+    let inv = c.loop-turn.invariant in
+    let old : GrowingMoment = growing c.loop-turn.pager c.loop-turn.going
+    (arrival (g.T.Source.seen c.loop-turn.coming.text) (g.F.Source.seen c.loop-turn.coming.mark) c.loop-turn.coming.ended c.loop-turn.coming.is_whole) c.args.scene.now.read.now (g.I.Source.seen c.loop-turn.input) (g.O.Out.seen c.loop-turn.out) in
+    let new : GrowingMoment = growing c.make_turn.new.pager c.make_turn.new.going
+    (arrival (g.T.Source.seen c.make_turn.new.coming.text) (g.F.Source.seen c.make_turn.new.coming.mark) c.make_turn.new.coming.ended c.make_turn.new.coming.is_whole) c.args.scene.now.read.now
+    (g.I.Source.seen c.make_turn.new.input) (g.O.Out.seen c.make_turn.new.out) in
+    let made = subst (λ (s : Step). IsStepped s old new) c.in-Ends.is c.in_ok-step.ensures in
+    err_exit _ _ _ _ c.from_residual-in_err-leaving-in-Ends.ensures.1
+    (inl (record { first = inv.first; front = inv.front; blocks = inv.blocks; last = old; turns = inv.turns; fault = inl (unled_last old.now c.in-Ends.end _ _ made c.in_err-leaving-in-Ends.ensures.refused) }))
+
 pub returns-in-Ends : goal.returns-in-Ends
 returns-in-Ends g c =
     let inv = c.loop-turn.invariant in
@@ -68,7 +85,16 @@ returns-in-Ends g c =
     (arrival (g.T.Source.seen c.make_turn.new.coming.text) (g.F.Source.seen c.make_turn.new.coming.mark) c.make_turn.new.coming.ended c.make_turn.new.coming.is_whole) c.args.scene.now.read.now
     (g.I.Source.seen c.make_turn.new.input) (g.O.Out.seen c.make_turn.new.out) in
     let made = subst (λ (s : Step). IsStepped s old new) c.in-Ends.is c.in_ok-step.ensures in
-    record { first = inv.first; front = inv.front; blocks = inv.blocks; last = old; turns = inv.turns; read_is = refl; ends = inl made }
+    record {
+      first = inv.first;
+      front = inv.front;
+      blocks = inv.blocks;
+      last = old;
+      turns = inv.turns;
+      read_is = refl;
+      ends = inl (subst (λ (e : SomeEnd). IsLastTurn old.now e new.now.input new.now.out) (sym c.in_ok-leaving-in-Ends.ensures.end) made);
+      leads = led_so _ _ _ _ _ _ c.in-Ends.end c.requires.said c.in_ok-leaving-in-Ends.ensures.end c.in_ok-leaving-in-Ends.ensures.address;
+    }
 
 pub returns-in-Grows : goal.returns-in-Grows
 returns-in-Grows g c =
@@ -86,6 +112,7 @@ returns g c =
     let inv = c.loop-turn.invariant in
     let old : GrowingMoment = growing c.loop-turn.pager c.loop-turn.going
     (arrival (g.T.Source.seen c.loop-turn.coming.text) (g.F.Source.seen c.loop-turn.coming.mark) c.loop-turn.coming.ended c.loop-turn.coming.is_whole) c.args.scene.now.read.now (g.I.Source.seen c.loop-turn.input) (g.O.Out.seen c.loop-turn.out) in
+    let ended : c.quits.result.end ≡ Quits = ap (λ (left : Leaving). left.end) c.quits.ensures in
     record {
       first = inv.first;
       front = inv.front;
@@ -93,5 +120,6 @@ returns g c =
       last = old;
       turns = inv.turns;
       read_is = refl;
-      ends = inr (record { quits = refl; count = omega (arith, inv.count); input = refl; out = refl });
+      ends = inr (record { quits = ended; count = omega (arith, inv.count); input = refl; out = refl });
+      leads = led_so _ _ _ _ _ _ Quits c.requires.said ended (ap (λ (left : Leaving). option_map string_bytes left.address) c.quits.ensures);
     }

@@ -13,6 +13,12 @@ returns-in-Text g c =
     subst (λ (o : Source). OnOk c.draw_read_text.result (TookWith (g.O.Out.seen c.args.out.now) (g.O.Out.seen c.draw_read_text.new.out) (AreDrawnOver self.skin.now (own_rows self.skin.now (content_of o) (state_of self)) (state_of self) (reading_of c.args.reading.now).pattern)))
     (sym c.in-Text.is) c.draw_read_text.ensures
 
+pub returns-in-Numbered : goal.returns-in-Numbered
+returns-in-Numbered g c =
+    let self = c.args.self.now in
+    subst (λ (o : Source). OnOk c.draw_read_text-in-Numbered.result (TookWith (g.O.Out.seen c.args.out.now) (g.O.Out.seen c.draw_read_text-in-Numbered.new.out) (AreDrawnOver self.skin.now (own_rows self.skin.now (content_of o) (state_of self)) (state_of self) (reading_of c.args.reading.now).pattern)))
+    (sym c.in-Numbered.is) c.draw_read_text-in-Numbered.ensures
+
 pub returns-in-Links : goal.returns-in-Links
 returns-in-Links g c =
     let self = c.args.self.now in

@@ -1,5 +1,4 @@
 use Rattle.std.proofs.Common.{length, refl}
-use Rattle.markdown_lines.specs.CutRows.{piece_runs}
 use Rattle.markdown_lines.specs.Said.{said}
 use Rattle.markdown_lines.proofs.LineLemmas.{within_more}
 use Rattle.markdown_lines.proofs.TableLemmas.{lines_kept}

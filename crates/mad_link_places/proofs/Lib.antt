@@ -1,0 +1,3 @@
+pub mod NumberLemmas
+mod PlaceLemmas
+mod StandLemmas

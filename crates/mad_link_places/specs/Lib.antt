@@ -1,0 +1,3 @@
+pub mod LinkPlaces
+pub mod NumberLaws
+pub mod Numbers

@@ -1,0 +1,16 @@
+pub mod RunLemmas
+pub mod FrontLemmas
+pub mod TextLemmas
+pub mod FenceLemmas
+pub mod HeadingLemmas
+pub mod BreakLemmas
+pub mod MarkerLemmas
+pub mod OpenLemmas
+pub mod IdleLemmas
+pub mod EndLemmas
+pub mod QuoteLemmas
+pub mod ReadLemmas
+pub mod UnderlineLemmas
+pub mod SignLemmas
+pub mod ClosedLemmas
+pub mod ItemLemmas

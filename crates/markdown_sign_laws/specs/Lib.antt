@@ -1,0 +1,11 @@
+pub mod Blocks
+pub mod Breaks
+pub mod Ends
+pub mod Fences
+pub mod Headings
+pub mod ItemEnds
+pub mod Markers
+pub mod QuoteSigns
+pub mod TextLines
+pub mod Underlines
+pub mod Words
