@@ -263,7 +263,7 @@ def refusals(w: Tmux) -> None:
     (w.folder / "latin.txt").write_bytes(b"caf\xe9\n")
     for words, status, said in (
         ("nothing.md", 2, "page: there is no file nothing.md"), ("text.md dark", 2, "page: there is no file dark"), (".", 2, "page: . is a folder"),
-        ("", 2, "page: usage:"), ("-", 2, "page: usage:"), ("--skin", 2, "page: usage"), ("--skim x", 2, "page: usage"),
+        ("", 2, "page: usage:"), ("-", 2, "page: usage:"), ("--skin", 2, "page: usage"), ("--skim x", 2, "page: usage"), ("+ text.md", 2, "page: usage"), ("+/ text.md", 2, "page: usage"), ("$'+/a\\tb' text.md", 2, "page: usage"),
         ("latin.txt", 3, "not UTF-8"), ("<(cat latin.txt)", 3, "not UTF-8"), ("--skin '{' text.md", 4, "page: SKIN is"),
     ):
         w.run(f"{PAGE} {words}")
@@ -289,6 +289,26 @@ def several_files(w: Tmux) -> None:
     w.type(":p")
     same(w.still(), first)
     end(w)
+
+
+@tried
+def keys_first(w: Tmux) -> None:
+    """A word with a plus sign begins the first file as if its keys were typed, also a text that still comes, of which a search reads on."""
+    (w.folder / "numbered.md").write_text("".join(f"Row {n}.\n\n" for n in range(1, 9001)))
+    for word, keys in (("'+/row 17\\.'", "/row 17\\.\r"), ("'+?row 2'", "?row 2\r"), ("+/none", "/none\r"), ("+G", "G"), ("+12", "12g")):
+        wanted = fresh(w, 80, 24, "numbered.md", keys)
+        begin(w, f"{word} numbered.md")
+        assert until(lambda: w.shown() == wanted), (word, w.shown())
+        end(w, what=word)
+    begin(w, "'+/row 17\\.' numbered.md text.md")
+    for keys, row in (("", "Row 17."), (":n", fresh(w, 80, 24)[0]), (":p", "Row 1.")):
+        w.type(keys)
+        assert until(lambda: row in w.shown()[0]), (keys, w.shown())
+    end(w)
+    for word, row, said in (("'+/row 8999\\.'", "Row 8999.", "row 8999"), ("+F", "Row 9000.", "100%")):
+        w.run(f"cat numbered.md | {PAGE} {word}")
+        assert until(lambda: any(row in shown for shown in w.shown()) and said in w.shown()[23]), (word, w.shown())
+        end(w, what=word)
 
 
 @tried
@@ -369,6 +389,18 @@ def links(w: Tmux) -> None:
                             ("l5\r", "One row.", "linked.md (1 of 4); there is no file gone.md"),
                             ("l6\r", "One row.", "linked.md (1 of 4); ftp://a.example/ isn't opened"),
                             ("l8\r", "One row.", "linked.md (1 of 4); ftp://a.example/ isn't opened"), ("l7\r", "The end", "100%")):
+        w.type(keys)
+        assert until(lambda: text in w.shown()[0] and row in w.shown()[23]), (row, w.shown())
+    end(w)
+
+
+@tried
+def link_to_a_place(w: Tmux) -> None:
+    """A file is shown from the place on that a link to it names, and else from its start."""
+    (w.folder / "other.md").write_text("# Other\n" + "\nA row.\n" * 40 + "\n## Ä place\n" + "\nA row.\n" * 40)
+    (w.folder / "here.md").write_text("Links: [there](other.md#%C3%A4-place), [nowhere](other.md#gone).\n")
+    begin(w, "here.md")
+    for keys, text, row in (("l1\r", "Ä place", "other.md (2 of 2)"), (":p", "Links", "here.md (1 of 2)"), ("l2\r", "Other", "other.md (2 of 2)")):
         w.type(keys)
         assert until(lambda: text in w.shown()[0] and row in w.shown()[23]), (row, w.shown())
     end(w)

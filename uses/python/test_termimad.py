@@ -63,6 +63,7 @@ class Tables(unittest.TestCase):
 
     def test_short_rows_are_filled(self):
         self.assertEqual(termimad.table([["a", "b"], ["1"]], 40), termimad.table([["a", "b"], ["1", ""]], 40))
+        self.assertEqual([termimad.table(rows, 40) for rows in ([], [[]], [{}])], ["", "", ""])
 
     def test_nothing_reaches_the_terminal_that_it_obeys(self):
         self.assertNotIn("\x1b", termimad.table([["\x1b[2J", "a\nb"]], 40))
@@ -167,7 +168,11 @@ class Texts(unittest.TestCase):
             (termimad.NotUtf8, "source is not", lambda: termimad.Markdown(b"\xff").rows(20)),
             (termimad.NotUtf8, r"rows\[1\]\[0\] is not", lambda: termimad.table([["a"], [b"\xff"]], 20)),
             (termimad.WrongNumber, "width=65536 is over 65535", lambda: termimad.code("a", "c").rows(65536)),
-            (termimad.WrongSkin, "skin='nothing'", lambda: termimad.text("a", 20, "nothing")),
+            (termimad.WrongSkin, "skin='nothing' is no name of a skin, and no JSON text", lambda: termimad.text("a", 20, "nothing")),
+            (termimad.WrongSkin, r"skin='\[\]' is JSON text, but no object", lambda: termimad.text("a", 20, "[]")),
+            (termimad.WrongSkin, "says no skin: bold doesn't take 'rde'", lambda: termimad.text("a", 20, {"italic": "red", "bold": "rde"})),
+            (termimad.WrongSkin, "says no skin: page.link doesn't take 'rde'", lambda: termimad.markdown("a", 20, {"bold": "red", "page": {"head": "red", "link": "rde"}})),
+            (termimad.WrongSkin, "says no skin: page doesn't take 7", lambda: termimad.markdown("a", 20, {"page": 7})),
             (termimad.WrongNumber, "width=65536 is over 65535", lambda: termimad.text("a", 65536)),
             (termimad.WrongNumber, "width=-1 is under 0", lambda: termimad.text("a", -1)),
             (termimad.WrongNumber, f"width={2**70} is over", lambda: termimad.text("a", 2**70)),

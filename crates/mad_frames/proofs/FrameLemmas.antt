@@ -128,18 +128,27 @@ erased_shown f t may =
       cells = cells ∙ size;
     }
 
+-- what clears the terminal is read
+pub cleared : (f : FrameState) (t : Grid) → MayShow f t → (shown : Grid) × (after_bytes t (sgr_bytes (0 ∷ []) ++ clear_bytes All) ≡ Some shown) × ShowsCells (empty_grid f.base.width f.base.height) shown
+cleared f t may =
+    let plain : Grid = record t { pen = plain_pen } in
+    let empty : Grid = erased 0 (screen_end t) plain in
+    let reset : after_bytes t (sgr_bytes (0 ∷ [])) ≡ Some plain = sgr_read t (0 ∷ []) plain_pen (lit< tt, tt) refl in
+    let clear : after_bytes plain (clear_bytes All) ≡ Some empty = command_read plain empty (2 ∷ []) 74 (lit< tt, tt) letter_screen (lit< tt) refl in
+    (empty, read_in_turn t plain empty (sgr_bytes (0 ∷ [])) (clear_bytes All) reset clear, erased_shown f t may)
+
+-- a frame that isn't known may be shown by any screen
+pub false_known : (g t : Grid) → false ≡ true → ShowsCells g t
+false_known g t e = absurd (false≢true e)
+
 -- so the changes from an empty screen lead on
 pub cleared_leads : (f : FrameState) (new : Grid) (bytes all : List ℕ) → LeadTo (mended (empty_grid f.base.width f.base.height)) (mended new) bytes → all ≡ (sgr_bytes (0 ∷ []) ++ clear_bytes All) ++ bytes → LeadsAll f new all
 cleared_leads f new bytes all leads e t may =
-    let plain : Grid = record t { pen = plain_pen } in
-    let empty : Grid = erased 0 (screen_end t) plain in
-    let shows : ShowsCells (mended (empty_grid f.base.width f.base.height)) empty = subst (λ (g : Grid). ShowsCells g empty) (sym (empty_stays f.base.width f.base.height)) (erased_shown f t may) in
-    let s = leads empty shows in
-    let reset : after_bytes t (sgr_bytes (0 ∷ [])) ≡ Some plain = sgr_read t (0 ∷ []) plain_pen (lit< tt, tt) refl in
-    let clear : after_bytes plain (clear_bytes All) ≡ Some empty = command_read plain empty (2 ∷ []) 74 (lit< tt, tt) letter_screen (lit< tt) refl in
-    let cleared : after_bytes t (sgr_bytes (0 ∷ []) ++ clear_bytes All) ≡ Some empty = read_in_turn t plain empty (sgr_bytes (0 ∷ [])) (clear_bytes All) reset clear in (
+    let c = cleared f t may in
+    let shows : ShowsCells (mended (empty_grid f.base.width f.base.height)) c.0 = subst (λ (g : Grid). ShowsCells g c.0) (sym (empty_stays f.base.width f.base.height)) c.2 in
+    let s = leads c.0 shows in (
       s.0,
-      ap (after_bytes t) e ∙ read_in_turn t empty s.0 (sgr_bytes (0 ∷ []) ++ clear_bytes All) bytes cleared s.1,
+      ap (after_bytes t) e ∙ read_in_turn t c.0 s.0 (sgr_bytes (0 ∷ []) ++ clear_bytes All) bytes c.1 s.1,
       s.2,
     )
 

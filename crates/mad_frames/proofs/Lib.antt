@@ -7,6 +7,10 @@ pub mod MendSteps
 pub mod PieceBytes
 pub mod PieceLemmas
 pub mod RowBytes
+pub mod ScrollLemmas
 pub mod SizeLemmas
+pub mod SparingLemmas
 pub mod StyleBytes
+pub mod TextLemmas
+pub mod Walks
 pub mod WholeLemmas

@@ -1,5 +1,5 @@
 -- Screens whose halves are spaces are whole, and whole screens stay as they are.
-use Rattle.std.proofs.Common.{◌≡◌, ⊎_elim, ℕ, zero, suc, ◌+◌, ◌-◌, ◌*◌, ◌<◌, ◌≤◌, Bool, true, false, cond, ◌&&◌, nat_lt, List, [], ◌∷◌, ◌++◌, length, take, drop, replicate, Result, Ok, Err, refl, ap, sym, ◌∙◌, subst, arith, length-append, length-drop}
+use Rattle.std.proofs.Common.{◌≡◌, ⊎_elim, ℕ, zero, suc, ◌+◌, ◌-◌, ◌*◌, ◌<◌, ◌≤◌, Bool, true, false, cond, ◌&&◌, nat_lt, List, [], ◌∷◌, ◌++◌, length, get_or, take, drop, replicate, Result, Ok, Err, refl, ap, sym, ◌∙◌, subst, arith, length-append, length-drop}
 use Rattle.std.specs.Prelude.{OnOk}
 use Rattle.std.proofs.Math.Nat.{suc-mul}
 use Rattle.std.proofs.Math.Seq.{take-add}
@@ -15,7 +15,7 @@ use Rattle.mad_frames.specs.Bound.{most_bytes}
 use Rattle.mad_frames.specs.Changes.{SameSize, RowsOf, AddsCells}
 use Rattle.mad_frames.specs.Mending.{begin_tails, begins_whole, space_in, mended_after, mended_row, mended_rows, mended}
 use Rattle.mad_frames.specs.Whole.{is_cell_text, is_writable, tails_of, are_whole_after, are_whole, IsWholeGrid}
-use Rattle.mad_frames.proofs.HalfwayLemmas.{row_length}
+use Rattle.mad_frames.proofs.HalfwayLemmas.{cells_none, cells_same, row_length}
 use Rattle.mad_frames.proofs.LooksLemmas.{both_true, true_both}
 
 -- ---- the cells of a row
@@ -151,7 +151,8 @@ pub whole_screen_stays : (g : Grid) → length g.cells ≡ g.height * g.width �
 whole_screen_stays g full are =
     ap (λ (l : List Glyph). record g { cells = l }) (rows_stay g g.height (omega arith) are ∙ take_all (g.height * g.width) g.cells (omega (arith, full)))
 
-blanks_whole : (k : ℕ) (p : Look) → are_whole_after 0 p (replicate k blank) ≡ true
+-- blank rows are whole
+pub blanks_whole : (k : ℕ) (p : Look) → are_whole_after 0 p (replicate k blank) ≡ true
 blanks_whole zero p = refl
 blanks_whole (suc k) p =
     true_both (is_cell_text (32 ∷ [])) _ space_text (true_both (is_writable plain_pen) _ refl (ap (λ n. are_whole_after n plain_pen (replicate k blank)) space_tails ∙ blanks_whole k plain_pen))
@@ -177,6 +178,12 @@ adds_mended r old new a b y n before after p q count =
     let columns : length b ≡ n = ap length q ∙ mended_length 0 new ∙ sym count in
     ok_as r (AddsCells a b y (length b) before after) (AddsCells (mended_row old) (mended_row new) y n before after)
     (λ h. subst (λ (l : List Glyph). AddsCells l (mended_row new) y n before after) p (subst (λ (l : List Glyph). AddsCells a l y n before after) q (subst (λ (k : ℕ). AddsCells a b y k before after) columns h)))
+
+-- of the same row no bytes
+pub adds_same : (old new : List Glyph) (y : ℕ) (bytes : List ℕ) → old ≡ new → AddsCells (mended_row old) (mended_row new) y (length new) bytes bytes
+adds_same old new y bytes same =
+    cells_same (mended_row old) (mended_row new) y 0 (length new) bytes bytes (omega arith) (omega (arith, mended_length 0 new)) (λ i low high. ap (λ (l : List Glyph). get_or (mended_row l) i blank) same)
+    (cells_none (mended_row old) (mended_row new) y bytes)
 
 -- where mended rows are the same, nothing is written; of the rows themselves too
 pub same_mended : {T E : Type 0} (r : Result T E) (old new a b : List Glyph) (before after : List ℕ) → a ≡ mended_row old → b ≡ mended_row new → OnOk r (a ≡ b → after ≡ before) → OnOk r (mended_row old ≡ mended_row new → after ≡ before)

@@ -6,5 +6,8 @@ pub mod Gathered
 pub mod Mending
 pub mod Refusals
 pub mod RunBytes
+pub mod Scrolling
+pub mod Sparing
+pub mod SparingLaws
 pub mod TestTerminals
 pub mod Whole

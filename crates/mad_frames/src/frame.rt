@@ -44,8 +44,8 @@ impl Model for Frame {
     ghost view = { λ f. record { base = f.base; drawn = f.drawn.bytes.items; unsent = f.unsent.items; known = f.known; faults = (gathered_trace f.drawn).faults; flushes = (gathered_trace f.drawn).flushes } };
 }
 
-// Drops the first bytes, `count` of them.
-fn drop_front(bytes: &mut Vec<u8>, count: usize)
+/// Drops the first bytes, `count` of them.
+pub(crate) fn drop_front(bytes: &mut Vec<u8>, count: usize)
     requires { count ≤ length bytes.old.items }
     ensures { bytes.new.items ≡ drop count bytes.old.items }
 {
@@ -53,9 +53,9 @@ fn drop_front(bytes: &mut Vec<u8>, count: usize)
     bytes.truncate(bytes.len() - count);
 }
 
-// What makes any terminal blank, with the plain pen.
+/// What makes any terminal blank, with the plain pen.
 #[tactic(auto, using(std::proofs::lemmas::Fmt::decimal_digit))]
-fn clearing(alloc: Global) -> Result<String, AllocError>
+pub(crate) fn clearing(alloc: Global) -> Result<String, AllocError>
     ensures { IfOk result (λ s. string_bytes s ≡ sgr_bytes (0 ∷ []) ++ clear_bytes All) }
 {
     let mut bytes = String::from_str(alloc, "\x1b[0m")?;

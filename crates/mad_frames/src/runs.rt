@@ -48,6 +48,14 @@ fn same_cells(old: &[Cell], new: &[Cell], x: usize, end: usize) -> bool
     true
 }
 
+/// Whether two rows are the same.
+pub(crate) fn same_rows(old: &[Cell], new: &[Cell]) -> bool
+    requires { length old.now ≡ length new.now }
+    ensures { IsTrue result → old.now ≡ new.now }
+{
+    same_cells(old, new, 0, new.len())
+}
+
 /// The first column from `x` on at which a changed character begins, or the row's end.
 pub(crate) fn change_start(old: &[Cell], new: &[Cell], x: usize) -> usize
     requires same_length { length old.now ≡ length new.now }

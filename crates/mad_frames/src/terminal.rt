@@ -5,6 +5,7 @@ ghost use Rattle.mad_term.specs.Trace.{Puts, Flushes};
 
 use crate::errors::PresentError;
 use crate::gathered::Gathered;
+use crate::shows::Shows;
 use mad_screen::Screen;
 use mad_term::Out;
 use std::alloc::{AllocError, Global};
@@ -106,4 +107,13 @@ impl Out for TestTerminal {
     {
         self.out.flush()
     }
+}
+
+impl Shows for TestTerminal {
+    ghost use Rattle.mad_frames.specs.TestTerminals.{terminal_trace, IsSameTerminal};
+
+    fn sized(&mut self, _columns: u16, _rows: u16)
+        ensures seen { terminal_trace self.new ≡ terminal_trace self.old }
+        ensures keeps { IsSameTerminal self.old self.new }
+    {}
 }

@@ -8,7 +8,7 @@ ghost use Rattle.mad_frames.specs.Whole.{are_whole, IsWholeGrid};
 
 use crate::mending::mended_row;
 use crate::pieces::push_cells;
-use crate::runs::{change_end, change_start};
+use crate::runs::{change_end, change_start, same_rows};
 use crate::whole::{are_whole, is_whole};
 use mad_screen::{Cell, Screen};
 use mad_term::push_move;
@@ -42,8 +42,8 @@ fn push_row(
     Ok(())
 }
 
-// The same of rows whose halves are spaces.
-fn push_mended_row(
+/// The same of rows whose halves are spaces.
+pub(crate) fn push_mended_row(
     alloc: Global,
     out: &mut String,
     old: &[Cell],
@@ -56,6 +56,9 @@ fn push_mended_row(
     ensures same { OnOk result (mended_row old.now ≡ mended_row new.now → string_bytes out.new ≡ string_bytes out.old) }
     ensures bound { OnOk result (length (string_bytes out.new) ≤ length (string_bytes out.old) + most_bytes (mended_row old.now) (mended_row new.now)) }
 {
+    if same_rows(old, new) {
+        return Ok(());
+    }
     if are_whole(old) && are_whole(new) {
         return push_row(alloc, out, old, new, y);
     }

@@ -8,7 +8,6 @@ use Rattle.std.proofs.lemmas.Str.Pattern.{strip_prefix_char}
 use denote.Ref.{Bor}
 use Rattle.markdown_headings.specs.HeadingsSaid.{heading_said, name_said, section_of}
 use Rattle.markdown_headings.specs.Named.{HeadingSaid, headings_of}
-use Rattle.markdown_headings.specs.Targets.{section_among}
 use Rattle.markdown_headings.specs.declared.naming.Heading.{Heading}
 use Rattle.markdown_reader.specs.Anchors.{AnchorSaid}
 use Rattle.mad_sections.specs.Sections.{SectionContent}
@@ -25,18 +24,18 @@ use Rattle.mad_pages.specs.declared.fronts.Front.{Front}
 use Rattle.mad_rows.specs.declared.row_skin.RowSkin.{RowSkin}
 use Rattle.mad_style.specs.declared.compound_styles.CompoundStyle.{CompoundStyle}
 use Rattle.mad_term.specs.Trace.{Trace, TookWith}
-use Rattle.mad_pager.specs.Following.{address_of, at_name, followed, followed_turn, link_on_screen, name_within, section_named, sections_shown, target_row, top_of, turn_within}
+use Rattle.mad_pager.specs.Following.{address_of, at_name, followed, followed_turn, link_on_screen, name_within, section_led, section_named, sections_shown, top_of, turn_within}
 use Rattle.mad_pager.specs.Pagers.{Leaf, IsLinksStart, IsPageStart, links_opened, links_page, opened_name, with_top}
-use Rattle.mad_pager.specs.Sessions.{State, at_row_or}
+use Rattle.mad_pager.specs.Sessions.{State}
 use Rattle.mad_pager.specs.declared.session.End.TheVariants as end
 use Rattle.mad_pager.specs.declared.session.Turn.{Turn}
 use Rattle.mad_pager.specs.declared.session.Turn.TheVariants.{Goes, Ends}
 
 -- a link that leads to a name in the text
-pub followed_named : {X : Type 0} (said : X → List ℕ) (found : Option X) (name : X) (index : ℕ) (text : TextSaid) (s new : State) (row : Option ℕ) → option_map said found ≡ name_within (address_of text.links index) → found ≡ Some name
-    → row ≡ target_row text (said name) s.laid.starts.items → new ≡ at_row_or row s → new ≡ followed index text s
-followed_named {X = X} said found name index text s new row is some at e =
-    e ∙ ap (λ (r : Option ℕ). at_row_or r s) at ∙ ap (λ (o : Option X). at_name (option_map said o) text s) (sym some) ∙ ap (λ (o : Option (List ℕ)). at_name o text s) is
+pub followed_named : {X : Type 0} (said : X → List ℕ) (found : Option X) (name : X) (index : ℕ) (text : TextSaid) (s new : State) → option_map said found ≡ name_within (address_of text.links index) → found ≡ Some name
+    → new ≡ at_name (Some (said name)) text s → new ≡ followed index text s
+followed_named {X = X} said found name index text s new is some e =
+    e ∙ ap (λ (o : Option X). at_name (option_map said o) text s) (sym some) ∙ ap (λ (o : Option (List ℕ)). at_name o text s) is
 
 pub turn_named : {X : Type 0} (said : X → List ℕ) (found : Option X) (name : X) (index : ℕ) (text : TextSaid) (s : State) → option_map said found ≡ name_within (address_of text.links index) → found ≡ Some name → Goes ≡ followed_turn index text s
 turn_named {X = X} said found name index text s is some = ap (λ (o : Option X). turn_within (option_map said o) index s) (sym some) ∙ ap (λ (o : Option (List ℕ)). turn_within o index s) is
@@ -82,14 +81,14 @@ name_stripped text r strips = by_cases text r (strip_prefix_char 35 text r strip
 
 -- the section that has a name, by what was read of names and headings
 pub section_is : (of : TextLinks) (page : List SectionContent) (anchors : List AnchorSaid) (headings : List Heading) (name : List ℕ) (found : Option ℕ) → anchors ≡ of.names → map heading_said headings ≡ headings_of page
-    → found ≡ section_among anchors (map name_said headings) (map section_of headings) name → found ≡ section_named (Some of) (headings_of page) name
+    → found ≡ section_led anchors (map name_said headings) (map section_of headings) name → found ≡ section_named (Some of) (headings_of page) name
 section_is of page anchors headings name found names are is =
     let name_in : HeadingSaid → List ℕ = λ h. h.name in
     let section_in : HeadingSaid → ℕ = λ h. h.section in
     is
-    ∙ ap (λ (l : List (List ℕ)). section_among anchors l (map section_of headings) name) (sym (map-map name_in heading_said headings) ∙ ap (map name_in) are)
-    ∙ ap (λ (l : List ℕ). section_among anchors (map name_in (headings_of page)) l name) (sym (map-map section_in heading_said headings) ∙ ap (map section_in) are)
-    ∙ ap (λ (a : List AnchorSaid). section_among a (map name_in (headings_of page)) (map section_in (headings_of page)) name) names
+    ∙ ap (λ (l : List (List ℕ)). section_led anchors l (map section_of headings) name) (sym (map-map name_in heading_said headings) ∙ ap (map name_in) are)
+    ∙ ap (λ (l : List ℕ). section_led anchors (map name_in (headings_of page)) l name) (sym (map-map section_in heading_said headings) ∙ ap (map section_in) are)
+    ∙ ap (λ (a : List AnchorSaid). section_led a (map name_in (headings_of page)) (map section_in (headings_of page)) name) names
 
 -- ---- the page of links at its start
 

@@ -1,5 +1,5 @@
 -- The sessions of a pager stay orderly.
-use Rattle.std.proofs.Common.{◌≡◌, ℕ, List, Option, Some, None, option_map, ap, refl, sym, subst}
+use Rattle.std.proofs.Common.{◌≡◌, ℕ, List, Option, Some, None, option_map, ap, refl, sym, ◌∙◌, subst}
 use Rattle.std.specs.Prelude.{slice_index}
 use Rattle.mad_page_skin.specs.declared.page_skin.PageSkin.{PageSkin}
 use Rattle.mad_term.specs.declared.events.Event.{Event}
@@ -9,7 +9,7 @@ use Rattle.mad_page.specs.declared.page.Files.{Files}
 use Rattle.mad_pager.specs.Screens.{IsOrderly}
 use Rattle.mad_pager.specs.Sessions.{State, HasSameText, IsEventStep, IsSettled, at_row_or, hears_size, pasted, state_of}
 use Rattle.mad_outline.specs.Sources.{Content, PageAt, TextSaid, a_text, addresses, headers, numbered, content_page, content_of, said_of, source_page}
-use Rattle.mad_pager.specs.Pagers.{Leaf, View, IsAnswered, IsChoice, IsCovered, IsLeafSettled, IsLeafStep, IsOpened, IsOrderlyLeaf, IsOrderlyOver, IsOrderlyView, IsOverSettled, IsOverStart, IsPageStart, IsSameLeaf, IsStep, IsStepIn, IsViewSettled, contents_name, contents_page, header_row, help_name, help_page, hearing, leaf_page, leaf_of, links_name, links_opened, links_page, opened_name, over_answer, sighted, begun, pasted_at, pasted_in, pasted_leaf, with_top}
+use Rattle.mad_pager.specs.Pagers.{Leaf, View, IsAnswered, IsChoice, IsCovered, IsLeafSettled, IsLeafStep, IsOpened, IsOrderlyLeaf, IsOrderlyOver, IsOrderlyView, IsOverSettled, IsOverStart, IsPageStart, IsSameLeaf, IsStep, IsStepIn, IsViewSettled, contents_name, contents_page, header_row, help_name, help_page, hearing, leaf_page, leaf_of, links_name, links_opened, links_page, opened_name, over_answer, sighted, begun, begun_at_name, pasted_at, pasted_in, pasted_leaf, with_top}
 use Rattle.mad_pager.specs.Following.{address_of, at_name, name_within, target_row}
 use Rattle.mad_pager.specs.declared.over.Answer.{Answer}
 use Rattle.mad_pager.specs.declared.over.Answer.TheVariants.{Closes, Takes, Chooses, Lists, Follows, Passes}
@@ -27,6 +27,12 @@ same_leaf old new h = record { skin = h.skin; name = h.name; content = ap conten
 -- a session of which only the state is another
 pub leaf_with : (old new : Session) (s : State) → HasSameText old new → state_of new ≡ s → leaf_of new ≡ record (leaf_of old) { state = s }
 leaf_with old new s h e = cc (h.skin, h.name, h.source, e)
+
+-- the text of a pager with the place of a name on top
+pub named_view : (old new : Session) (over : Option Leaf) (name : Option (List ℕ)) (found : List ℕ) → name ≡ Some found → state_of new ≡ at_name (Some found) (said_of (content_of old.source)) (state_of old) → HasSameText old new
+    → (let v : View = record { text = leaf_of new; over = over } in v) ≡ begun_at_name name (record { text = leaf_of old; over = over })
+named_view old new over name found is e same =
+    ap (λ (l : Leaf). let v : View = record { text = l; over = over } in v) (leaf_with old new _ same e) ∙ ap (λ (n : Option (List ℕ)). begun_at_name n (record { text = leaf_of old; over = over })) (sym is)
 
 -- a key of a pasted text is typed on the page over the text, while one is open
 pub pasted_over : (event : Event) (over : Option Session) (page new : Session) (text : Leaf) → over ≡ Some page → HasSameText page new → state_of new ≡ pasted event (state_of page)
@@ -183,3 +189,7 @@ opened_order skin name text columns rows files v h = record {
 -- and where a row is put on top
 pub begun_order : (number : ℕ) (v : View) → IsOrderlyView v → IsOrderlyView (begun number v)
 begun_order number v h = record { text = row_order v.text.skin (leaf_page v.text) number v.text.state h.text; over = h.over }
+
+-- and the place of a name
+pub named_view_order : (name : Option (List ℕ)) (v : View) → IsOrderlyView v → IsOrderlyView (begun_at_name name v)
+named_view_order name v h = record { text = named_order name (said_of v.text.content) v.text h.text; over = h.over }

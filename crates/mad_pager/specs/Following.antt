@@ -1,7 +1,10 @@
 -- Links of a text that have numbers: which one a number says, and where it leads.
 use Rattle.std.specs.Prelude.{ℕ, ◌+◌, ◌-◌, ◌^◌, ◌==◌, min, Bool, true, false, List, [], ◌∷◌, map, Option, Some, None, option_map, slice_get, slice_index, if◌then◌else◌}
+use Rattle.std.specs.Str.Lossy.{utf8_lossy}
+use Rattle.percent_encoding.specs.Percent.{percent_decode}
 use Rattle.markdown_headings.specs.Named.{HeadingSaid, headings_of}
-use Rattle.markdown_headings.specs.Targets.{section_among}
+use Rattle.markdown_headings.specs.Targets.{or_else, section_among}
+use Rattle.markdown_reader.specs.Anchors.{AnchorSaid}
 use Rattle.markdown_reader.specs.MarkdownSays.{LinkSaid}
 use Rattle.mad_link_places.specs.declared.places.LinkPlace.{LinkPlace}
 use Rattle.mad_outline.specs.LinkLists.{LinksIn, TextLinks, nth_link}
@@ -102,10 +105,18 @@ abbrev pub name_within : List ℕ → Option (List ℕ)
 name_within [] = None
 name_within (c ∷ cs) = if c == 35 then Some cs else None
 
--- the section that has a name, among names of tags and headings
+-- a name without the escapes that an address has for bytes, as `%C3%A4` for `ä`; what isn't UTF-8 then is U+FFFD
+abbrev pub unescaped : List ℕ → List ℕ
+unescaped name = utf8_lossy (percent_decode name)
+
+-- the section to which `#name` leads: by the name as it stands, or else without its escapes
+abbrev pub section_led : List AnchorSaid → (names : List (List ℕ)) (sections : List ℕ) → List ℕ → Option ℕ
+section_led anchors names sections name = or_else (section_among anchors names sections name) (section_among anchors names sections (unescaped name))
+
+-- that among the names of a text's tags and headings
 abbrev pub section_named : Option TextLinks → List HeadingSaid → List ℕ → Option ℕ
 section_named None headings name = None
-section_named (Some of) headings name = section_among of.names (map (λ (h : HeadingSaid). h.name) headings) (map (λ (h : HeadingSaid). h.section) headings) name
+section_named (Some of) headings name = section_led of.names (map (λ (h : HeadingSaid). h.name) headings) (map (λ (h : HeadingSaid). h.section) headings) name
 
 -- the row in which that section of a text begins, by the rows in which sections do
 abbrev pub target_row : TextSaid → List ℕ → List ℕ → Option ℕ

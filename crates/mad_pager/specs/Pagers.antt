@@ -4,7 +4,7 @@ use Rattle.std.specs.List.{flat_map}
 use Rattle.mad_sections.specs.Sections.{SectionContent}
 use Rattle.mad_page_skin.specs.declared.page_skin.PageSkin.{PageSkin}
 use Rattle.mad_page.specs.PageKeys.{after_key, command_of, is_break, uncounted}
-use Rattle.mad_page.specs.Pages.{begun_at, in_sight}
+use Rattle.mad_page.specs.Pages.{begun_at, in_sight, row_number}
 use Rattle.mad_page.specs.declared.commands.Ask.TheVariants.{Forget, Help, Links, Contents, Reload, Edit, Quit}
 use Rattle.mad_page.specs.declared.commands.Command.{Command}
 use Rattle.mad_page.specs.declared.commands.Command.TheVariants.{Asks, Moves}
@@ -19,9 +19,9 @@ use Rattle.mad_term.specs.declared.keys.KeyCode.{KeyCode}
 use Rattle.mad_term.specs.declared.keys.KeyCode.TheVariants.{Enter}
 use Rattle.mad_term.specs.declared.keys.KeyEvent.{KeyEvent}
 use Rattle.mad_outline.specs.LinkLists.{TextLinks}
-use Rattle.mad_pager.specs.Following.{chosen_link, followed, followed_turn, has_numbers, is_links, is_numbered, link_on_screen, links_in, top_of}
+use Rattle.mad_pager.specs.Following.{at_name, chosen_link, followed, followed_turn, has_numbers, is_links, is_numbered, link_on_screen, links_in, top_of}
 use Rattle.mad_pager.specs.Screens.{IsOrderly, IsShown, IsUnshown}
-use Rattle.mad_pager.specs.Sessions.{State, IsEventStep, IsResized, IsSettled, IsStart, at_header, hears, opens, pasted, state_of, turn_of}
+use Rattle.mad_pager.specs.Sessions.{State, IsEventStep, IsResized, IsSettled, IsStart, at_header, hears, opens, pasted, state_of, turn_below, turn_of}
 use Rattle.mad_outline.specs.Sources.{Content, PageAt, TextSaid, a_text, addresses, headers, numbered, content_page, content_of, count_below, header_numbers, next, plain_said, said_of}
 use Rattle.mad_pager.specs.declared.over.Answer.{Answer}
 use Rattle.mad_pager.specs.declared.over.Answer.TheVariants.{Closes, Takes, Chooses, Lists, Follows, Passes}
@@ -79,6 +79,10 @@ pub record IsOpened (skin : PageSkin) (name : List ℕ) (text : TextSaid) (colum
 -- the same with the row of this number on top, counted from 1, or the text's last one; for 0 the first
 abbrev pub begun : ℕ → View → View
 begun number v = record v { text = record v.text { state = record v.text.state { page = begun_at number v.text.state.page } } }
+
+-- the same with the row on top to which a link to this name leads, if there is a name and the link leads to one
+abbrev pub begun_at_name : Option (List ℕ) → View → View
+begun_at_name name v = record v { text = record v.text { state = at_name name (said_of v.text.content) v.text.state } }
 
 -- ---- what events do on a text
 
@@ -375,7 +379,7 @@ IsStep event old new = IsStepIn old.over event old.text new
 
 -- how the pager goes on after it: it ends for a link that leads elsewhere
 abbrev pub turn_answered : Answer → Event → Leaf → Leaf → Turn
-turn_answered Passes event over text = turn_of event over.state
+turn_answered Passes event over text = turn_below (row_number text.state.page) (turn_of event over.state)
 turn_answered (Follows index) event over text = followed_turn index (said_of text.content) text.state
 turn_answered answer event over text = Goes
 

@@ -341,8 +341,8 @@ IsEventStep skin text event s new = new ≡ s
 abbrev pub turn_asked : Page → Ask → Turn
 turn_asked page Size = AsksSize
 turn_asked page Quit = Ends end.Quits
-turn_asked page NextFile = Ends end.NextFile
-turn_asked page PreviousFile = Ends end.PreviousFile
+turn_asked page NextFile = Ends (end.NextFile (row_number page))
+turn_asked page PreviousFile = Ends (end.PreviousFile (row_number page))
 turn_asked page Reload = Ends (end.Reload (row_number page))
 turn_asked page Edit = Ends (end.Edit (row_number page))
 turn_asked page Help = Opens overlay.Help
@@ -362,6 +362,17 @@ turn_of_key key s = if s.is_typing then turn_typed key else turn_asked (after_ke
 abbrev pub turn_of : Event → State → Turn
 turn_of (Key key) s = turn_of_key key s
 turn_of event s = Goes
+
+-- how a page ends over a text that has the row of this number on top: where another file is to be shown, the text is shown again from that row on
+abbrev pub end_below : ℕ → End → End
+end_below row (end.NextFile own) = end.NextFile row
+end_below row (end.PreviousFile own) = end.PreviousFile row
+end_below row how = how
+
+-- how the session goes on then
+abbrev pub turn_below : ℕ → Turn → Turn
+turn_below row (Ends how) = Ends (end_below row how)
+turn_below row turn = turn
 
 -- how it ends, if it does
 abbrev pub end_of : Turn → Option End

@@ -1,8 +1,11 @@
 //! Links of a text that have numbers: which one a number says, and where it leads.
 
-ghost use Rattle.std.specs.Prelude.{◌≡◌, IfOk, OnOk, map, option_map, slice_get, slice_index};
+ghost use Rattle.std.specs.Prelude.{◌≡◌, IfOk, OnOk, Some, map, option_map, slice_get, slice_index};
+ghost use Rattle.markdown_headings.specs.HeadingsSaid.{name_said, section_of};
+ghost use Rattle.markdown_headings.specs.Targets.{section_among};
+ghost use Rattle.markdown_reader.specs.Anchors.{anchor_said};
 ghost use Rattle.markdown_reader.specs.MarkdownSays.{link_said};
-ghost use Rattle.mad_pager.specs.Following.{address_if, address_of, chosen_link, link_on_screen, followed, followed_turn, has_numbers, is_links, is_numbered, name_within, numbers_among, numbers_shown, target_row, top_of};
+ghost use Rattle.mad_pager.specs.Following.{address_if, address_of, at_name, chosen_link, link_on_screen, followed, followed_turn, has_numbers, is_links, is_numbered, name_within, numbers_among, numbers_shown, section_led, target_row, top_of, unescaped};
 ghost use Rattle.mad_pager.specs.Pagers.{leaf_of, link_answer, links_opened, number_answer};
 ghost use Rattle.mad_pager.specs.Sessions.{at_row_or, state_of, HasSameText};
 ghost use Rattle.mad_outline.specs.Sources.{content_of, said_of, text_said};
@@ -15,8 +18,9 @@ use mad_outline::{Source, link_numbers, nth_link, start_at};
 use mad_page::{Ask, Command, Page, command_of};
 use mad_search::PagedText;
 use mad_term::KeyEvent;
-use markdown_headings::{find_section, headings};
-use markdown_reader::{Link, read_anchors};
+use markdown_headings::{Heading, find_section, headings};
+use markdown_reader::{Anchor, Link, read_anchors};
+use percent_encoding::percent_decode_str;
 use std::alloc::{AllocError, Global};
 
 // What says that an address leads to a place in its own text.
@@ -146,12 +150,21 @@ impl<'s> Session<'s> {
     {
         match self.name_within(index) {
             Some(name) => {
-                let row = self.target_row(alloc, name)?;
-                self.go_to(row);
+                self.go_to_name(alloc, name)?;
                 Ok(Turn::Goes)
             }
             None => Ok(Turn::Ends(End::Follow(self.page.row_number(), index))),
         }
+    }
+
+    // Puts the row on top in which the section begins that has this name, if one has it.
+    pub(crate) fn go_to_name(&mut self, alloc: Global, name: &str) -> Result<(), AllocError>
+        ensures state { OnOk result (state_of self.new ≡ at_name (Some name.now) (said_of (content_of self.old.source)) (state_of self.old)) }
+        ensures text { OnOk result (HasSameText self.old self.new) }
+    {
+        let row = self.target_row(alloc, name)?;
+        self.go_to(row);
+        Ok(())
     }
 
     // The name that the address of a link says, if it leads to a place in its own text.
@@ -180,7 +193,7 @@ impl<'s> Session<'s> {
             PagedText::Markdown(markdown, _, source) => {
                 let anchors = read_anchors(alloc, source)?;
                 let headings = headings(alloc, markdown)?;
-                let found = find_section(alloc, anchors.as_slice(), headings.as_slice(), name)?;
+                let found = find_led(alloc, anchors.as_slice(), headings.as_slice(), name)?;
                 Ok(row_of(found, self.laid.starts.as_slice()))
             }
             PagedText::Lines(_) => Ok(None),
@@ -226,6 +239,34 @@ fn address_at(links: &[Link], index: usize) -> &str
         Some(link) => link.address.as_str(),
         None => "",
     }
+}
+
+// The section to which `#name` leads: as the name stands, or else without its escapes.
+fn find_led(
+    alloc: Global,
+    anchors: &[Anchor],
+    headings: &[Heading],
+    name: &str,
+) -> Result<Option<usize>, AllocError>
+    ensures { IfOk result (λ found. found ≡ section_led (map anchor_said anchors.now) (map name_said headings.now) (map section_of headings.now) name.now) }
+{
+    match find_section(alloc, anchors, headings, name)? {
+        Some(section) => Ok(Some(section)),
+        None => find_unescaped(alloc, anchors, headings, name),
+    }
+}
+
+// The section that has the name without its escapes.
+fn find_unescaped(
+    alloc: Global,
+    anchors: &[Anchor],
+    headings: &[Heading],
+    name: &str,
+) -> Result<Option<usize>, AllocError>
+    ensures { IfOk result (λ found. found ≡ section_among (map anchor_said anchors.now) (map name_said headings.now) (map section_of headings.now) (unescaped name.now)) }
+{
+    let name = percent_decode_str(name).decode_utf8_lossy(alloc)?;
+    find_section(alloc, anchors, headings, &name)
 }
 
 // The row in which a section begins, if there is one.

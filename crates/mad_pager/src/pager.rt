@@ -1,8 +1,9 @@
 //! A pager: a text, and a page over it while one is open.
 
 ghost use Rattle.std.specs.Prelude.{◌≡◌, IfOk, OnErr, OnOk, MatchResult, None, option_map};
-ghost use Rattle.mad_pager.specs.Pagers.{begun, leaf_of, opened_name, pasted_in, turn_in, turn_over, view_of, links_opened, IsDoneOver, IsLinksStart, IsOpened, IsOverSettled, IsOverStart, IsOverStep, IsPageStart, IsStep, IsTextStep, IsViewSettled, IsViewShown, IsViewUnshown};
-ghost use Rattle.mad_pager.specs.Sessions.{state_of, turn_of};
+ghost use Rattle.mad_pager.specs.Pagers.{begun, begun_at_name, leaf_of, opened_name, pasted_in, turn_in, turn_over, view_of, links_opened, IsDoneOver, IsLinksStart, IsOpened, IsOverSettled, IsOverStart, IsOverStep, IsPageStart, IsStep, IsTextStep, IsViewSettled, IsViewShown, IsViewUnshown};
+ghost use Rattle.mad_page.specs.Pages.{row_number};
+ghost use Rattle.mad_pager.specs.Sessions.{state_of, turn_below, turn_of};
 ghost use Rattle.mad_outline.specs.Sources.{content_of, said_of, text_said};
 
 use crate::following::top_of;
@@ -52,6 +53,20 @@ impl<'s> Pager<'s> {
         ensures { view_of self.new ≡ begun number (view_of self.old) }
     {
         self.text.page.begin_at(number);
+    }
+
+    /// Puts the row on top to which a link `#name` leads, where there is a name. One that leads nowhere changes nothing.
+    ///
+    /// # Errors
+    ///
+    /// Out of memory is the only error.
+    pub fn begin_at_name(&mut self, alloc: Global, name: Option<&str>) -> Result<(), AllocError>
+        ensures { OnOk result (view_of self.new ≡ begun_at_name (option_map (λ name. name.now) name.entry) (view_of self.old)) }
+    {
+        if let Some(name) = name {
+            self.text.go_to_name(alloc, name)?;
+        }
+        Ok(())
     }
 
     /// Does what an event says: on the page over the text, while one is open, and else on the text.
@@ -267,14 +282,15 @@ impl<'s> Pager<'s> {
     ) -> Result<Turn, AllocError>
         requires { self.now.over ≡ None }
         ensures step { OnOk result (IsDoneOver event (leaf_of over.entry) (leaf_of self.old.text) (view_of self.new)) }
-        ensures turn { IfOk result (λ turn. turn ≡ turn_of event (state_of over.entry)) }
+        ensures turn { IfOk result (λ turn. turn ≡ turn_below (row_number self.old.text.page) (turn_of event (state_of over.entry))) }
         ensures err { OnErr result (self.new.over ≡ None) }
     {
         let mut over = over;
+        let row = self.text.page.row_number();
         self.text.hear(event);
         let turn = over.apply(alloc, event)?;
         self.over = Some(over);
-        Ok(turn)
+        Ok(turn.below(row))
     }
 }
 

@@ -3,7 +3,7 @@
 ghost use Rattle.std.specs.Prelude.{◌≡◌, IfOk, OnOk};
 ghost use Rattle.mad_page.specs.PageKeys.{after_key};
 ghost use Rattle.mad_outline.specs.Sources.{source_page};
-ghost use Rattle.mad_pager.specs.Sessions.{asks_size, end_of, opens, state_of, turn_of, turn_of_key, turn_asked, turn_typed, HasSameText, IsAsked, IsAnyKeyStep, IsKeyStep, IsEventStep, IsStart};
+ghost use Rattle.mad_pager.specs.Sessions.{asks_size, end_of, opens, state_of, turn_below, turn_of, turn_of_key, turn_asked, turn_typed, HasSameText, IsAsked, IsAnyKeyStep, IsKeyStep, IsEventStep, IsStart};
 
 use crate::places::field_row;
 use crate::sizes::{ScreenSize, height_of, lay};
@@ -32,10 +32,10 @@ pub enum Overlay {
 pub enum End {
     /// Nothing more is to be shown.
     Quits,
-    /// The next file is to be shown.
-    NextFile,
-    /// The file before is to be shown.
-    PreviousFile,
+    /// The next file is to be shown, and this one, where it is shown again, from the row of this number on.
+    NextFile(usize),
+    /// The file before is to be shown, and this one, where it is shown again, from the row of this number on.
+    PreviousFile(usize),
     /// The file is to be read again, and shown from the row of this number on.
     Reload(usize),
     /// An editor of the file is to be opened where this row is, and the text then shown again.
@@ -73,6 +73,17 @@ impl Turn {
         ensures { result ≡ asks_size self }
     {
         matches!(self, Turn::AsksSize)
+    }
+
+    /// The same of a page over a text that has this row on top: where another file is to be shown, it is from that row on that the text is shown again.
+    pub(crate) fn below(self, row: usize) -> Turn
+        ensures { result ≡ turn_below row self }
+    {
+        match self {
+            Turn::Ends(End::NextFile(_)) => Turn::Ends(End::NextFile(row)),
+            Turn::Ends(End::PreviousFile(_)) => Turn::Ends(End::PreviousFile(row)),
+            turn => turn,
+        }
     }
 
     /// The page that is to be opened over the text, if one is.
@@ -273,8 +284,8 @@ fn turn_asked(page: &Page, ask: Ask) -> Turn
     match ask {
         Ask::Size => Turn::AsksSize,
         Ask::Quit => Turn::Ends(End::Quits),
-        Ask::NextFile => Turn::Ends(End::NextFile),
-        Ask::PreviousFile => Turn::Ends(End::PreviousFile),
+        Ask::NextFile => Turn::Ends(End::NextFile(page.row_number())),
+        Ask::PreviousFile => Turn::Ends(End::PreviousFile(page.row_number())),
         Ask::Reload => Turn::Ends(End::Reload(page.row_number())),
         Ask::Edit => Turn::Ends(End::Edit(page.row_number())),
         Ask::Help => Turn::Opens(Overlay::Help),

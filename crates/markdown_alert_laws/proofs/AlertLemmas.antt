@@ -1,5 +1,5 @@
 -- The first row behind the bar of an alert is its word: no gutter of which nothing is shown yet is an alert's bar, and the section that makes one says its word.
-use Rattle.std.proofs.Common.{◌≡◌, ℕ, zero, suc, ◌+◌, ◌-◌, ◌<◌, ◌≤◌, nat_lt, min, Bool, true, false, ◌==◌, List, [], ◌∷◌, ◌++◌, length, take, drop, Option, Some, None, refl, sym, ap, subst, ◌∙◌, arith, lit<, length-append, if◌then◌else◌}
+use Rattle.std.proofs.Common.{◌≡◌, ℕ, zero, suc, ◌+◌, ◌-◌, ◌<◌, ◌≤◌, min, Bool, true, false, ◌==◌, List, [], ◌∷◌, ◌++◌, length, take, drop, Option, Some, None, refl, sym, ap, subst, ◌∙◌, arith, lit<, length-append, if◌then◌else◌}
 use Rattle.std.specs.List.{AllByRecursion, flat_map}
 use Rattle.std.specs.Prelude.{encode_utf8_all}
 use Rattle.std.specs.Str.{IsAscii}
@@ -43,7 +43,7 @@ use Rattle.markdown_gutters.specs.declared.forms.Form.TheVariants.{Words, Large,
 use Rattle.markdown_tones.specs.Fences.{fence_marks}
 use Rattle.markdown_reader.specs.Mapping.{html_text, html_by, leaves_in, Mapping, nothing_shown, new_gutter, with_last, is_spaced, spaced, blank_row, section_of, added, put, passed, list_ended, begun, nothing_since, with_section, item_ended, ended_by, closed, words, addresses_in, task_by, alert_line, alert_by, bold, paragraph_by, heading_style, table_addresses, leaf_shown, shown_part, shown_parts, with_marks, code_shown}
 use Rattle.markdown_reader.specs.Markdown.{printable_sections, steady_sections}
-use Rattle.markdown_alert_laws.specs.Alerts.{AlertsSayTheirWord, BeginsWithWord, SaysItsAlert}
+use Rattle.markdown_alert_laws.specs.Alerts.{AlertsSayTheirWord, BeginsWithWord, SaysItsAlert, word_line}
 
 by_bool : (P : Bool → Type 0) (b : Bool) → (b ≡ true → P true) → (b ≡ false → P false) → P b
 by_bool P true on off = on refl
@@ -90,24 +90,36 @@ replaced (suc n) zero gutters g k h = none_dropped n
 replaced (suc n) (suc j) [] g k h = none_dropped n
 replaced (suc n) (suc j) (x ∷ gutters) g k h = replaced n j gutters g k h
 
--- the last gutter is among those behind the first n
-last_of : (n : ℕ) (outer : List Gutter) (g : Gutter) → n ≤ length outer → AreNoAlerts (drop n (outer ++ g ∷ [])) → IsNoAlert g
-last_of zero [] g e h = h.0
-last_of zero (x ∷ outer) g e h = last_of zero outer g (omega arith) h.1
-last_of (suc n) [] g e h = absurd (omega (arith, e))
-last_of (suc n) (x ∷ outer) g e h = last_of n outer g (omega (arith, e)) h
+-- a gutter behind the first n is none
+any_of : (n : ℕ) (outer : List Gutter) (g : Gutter) (inner : List Gutter) → n ≤ length outer → AreNoAlerts (drop n (outer ++ g ∷ inner)) → IsNoAlert g
+any_of zero [] g inner e h = h.0
+any_of zero (x ∷ outer) g inner e h = any_of zero outer g inner (omega arith) h.1
+any_of (suc n) [] g inner e h = absurd (omega (arith, e))
+any_of (suc n) (x ∷ outer) g inner e h = any_of n outer g inner (omega (arith, e)) h
 
--- equal lists have equal ends
-same_end : (xs ys : List Gutter) (x y : Gutter) → xs ++ x ∷ [] ≡ ys ++ y ∷ [] → x ≡ y
-same_end [] [] x y e = cc
-same_end [] (b ∷ []) x y e = absurd (omega (arith, ap length e))
-same_end [] (b ∷ c ∷ ys) x y e = absurd (omega (arith, ap length e))
-same_end (a ∷ []) [] x y e = absurd (omega (arith, ap length e))
-same_end (a ∷ c ∷ xs) [] x y e = absurd (omega (arith, ap length e))
-same_end (a ∷ xs) (b ∷ ys) x y e = same_end xs ys x y (tails a b (xs ++ x ∷ []) (ys ++ y ∷ []) e)
+same_tails : (a b : Gutter) (xs ys : List Gutter) → a ∷ xs ≡ b ∷ ys → xs ≡ ys
+same_tails a b xs ys e = cc
+
+same_heads : (a b : Gutter) (xs ys : List Gutter) → a ∷ xs ≡ b ∷ ys → a ≡ b
+same_heads a b xs ys e = cc
+
+no_end : (x : Gutter) (ys inner : List Gutter) (y : Gutter) → [] ≡ ys ++ y ∷ inner → ⊥
+no_end x ys inner y e = omega (arith, ap length e, length-append ys (y ∷ inner))
+
+-- a gutter of a list is its last one, or stands before it
+data IsAmong (xs : List Gutter) (x : Gutter) (ys : List Gutter) (y : Gutter) (inner : List Gutter) : Type 0 where
+  last : inner ≡ [] → x ≡ y → IsAmong xs x ys y inner
+  before : (more : List Gutter) → xs ≡ ys ++ y ∷ more → IsAmong xs x ys y inner
+
+among : (xs : List Gutter) (x : Gutter) (ys : List Gutter) (y : Gutter) (inner : List Gutter) → xs ++ x ∷ [] ≡ ys ++ y ∷ inner → IsAmong xs x ys y inner
+among [] x [] y inner e = last (sym (same_tails x y [] inner e)) (same_heads x y [] inner e)
+among [] x (b ∷ ys) y inner e = absurd (no_end x ys inner y (same_tails x b [] (ys ++ y ∷ inner) e))
+among (a ∷ xs) x [] y inner e = before xs (ap (λ (g : Gutter). g ∷ xs) (same_heads a y (xs ++ x ∷ []) inner e))
+among (a ∷ xs) x (b ∷ ys) y inner e = deeper (among xs x ys y inner (same_tails a b (xs ++ x ∷ []) (ys ++ y ∷ inner) e))
   where
-    tails : (a b : Gutter) (xs ys : List Gutter) → a ∷ xs ≡ b ∷ ys → xs ≡ ys
-    tails a b xs ys e = cc
+    deeper : IsAmong xs x ys y inner → IsAmong (a ∷ xs) x (b ∷ ys) y inner
+    deeper (last f g) = last f g
+    deeper (before more f) = before more (ap (λ (g : Gutter). g ∷ xs) (same_heads a b (xs ++ x ∷ []) (ys ++ y ∷ inner) e) ∙ ap (λ (gs : List Gutter). b ∷ gs) f)
 
 -- ---- sections
 
@@ -121,35 +133,47 @@ joined_said [] ys h k = k
 joined_said (x ∷ xs) ys h k = (h.0, joined_said xs ys h.1 k)
 
 blank_says : (m : Mapping) → SaysItsAlert (blank_row m)
-blank_says m outer alert e f = absurd (off f)
-  where
-    off : nat_lt 0 0 ≡ true → ⊥
-    off f = grind (arith, nat_tests, f)
+blank_says m outer inner alert e f = absurd (omega (arith, f))
 
--- a bar of an alert that is the last gutter and begins with the section is among the new ones
-no_alert : (lines : List LineContent) (seen : ℕ) (gutters : List Gutter) → AreNoAlerts (drop seen gutters) → (outer : List Gutter) (alert : Alert) → gutters ≡ outer ++ AlertBar alert ∷ []
-    → nat_lt 0 (length gutters - seen) ≡ true → BeginsWithWord alert lines
-no_alert lines seen gutters none outer alert e f =
-    let long : length gutters ≡ length outer + 1 = ap length e ∙ length-append outer (AlertBar alert ∷ []) in
-    let some : 0 < length gutters - seen = grind (arith, nat_tests, f) in
-    absurd (last_of seen outer (AlertBar alert) (omega (arith, long, some)) (subst (λ (gs : List Gutter). AreNoAlerts (drop seen gs)) e none))
+-- a bar of an alert that begins with the section is among the new gutters
+no_alert : (seen : ℕ) (gutters : List Gutter) → AreNoAlerts (drop seen gutters) → (outer inner : List Gutter) (alert : Alert) → gutters ≡ outer ++ AlertBar alert ∷ inner → length inner < length gutters - seen → ⊥
+no_alert seen gutters none outer inner alert e f =
+    let long : length gutters ≡ length outer + suc (length inner) = ap length e ∙ length-append outer (AlertBar alert ∷ inner) in
+    any_of seen outer (AlertBar alert) inner (omega (arith, long, f)) (subst (λ (gs : List Gutter). AreNoAlerts (drop seen gs)) e none)
 
 -- where no new gutter is an alert's bar, the next section begins with none
 plain_says : (form : Form) (lines : List LineContent) (m : Mapping) → AreNoAlerts (drop m.seen m.gutters) → SaysItsAlert (section_of form lines m)
-plain_says Words lines m none outer alert e f = no_alert lines m.seen m.gutters none outer alert e f
-plain_says Large lines m none outer alert e f = no_alert lines m.seen m.gutters none outer alert e f
-plain_says Listed lines m none outer alert e f = no_alert lines m.seen m.gutters none outer alert e f
-plain_says Boxed lines m none outer alert e f = absurd (no_code alert (same_end m.gutters outer Code (AlertBar alert) e))
-  where
-    no_code : (alert : Alert) → Code ≡ AlertBar alert → ⊥
-    no_code alert e = cc
+plain_says Words lines m none outer inner alert e f = absurd (no_alert m.seen m.gutters none outer inner alert e f)
+plain_says Large lines m none outer inner alert e f = absurd (no_alert m.seen m.gutters none outer inner alert e f)
+plain_says Listed lines m none outer inner alert e f = absurd (no_alert m.seen m.gutters none outer inner alert e f)
+plain_says Boxed lines m none outer inner alert e f = absurd (no_alert m.seen (m.gutters ++ Code ∷ []) (one_more m.seen m.gutters Code tt none) outer inner alert e f)
+
+said_word : (alert : Alert) → alert_line alert ≡ word_line alert
+said_word Note = refl
+said_word Tip = refl
+said_word Important = refl
+said_word Warning = refl
+said_word Caution = refl
 
 -- a section whose last gutter is this alert's bar says its word
-word_says : (alert : Alert) (lines : List LineContent) (m : Mapping) → SaysItsAlert (section_of Words (alert_line alert ∷ lines) (with_last (AlertBar alert) m))
-word_says alert lines m outer other e f = ap alert_line (same_alert alert other (same_end (take (length m.gutters - 1) m.gutters) outer (AlertBar alert) (AlertBar other) e))
+word_says : (alert : Alert) (lines : List LineContent) (m : Mapping) → AreNoAlerts (drop m.seen m.gutters) → SaysItsAlert (section_of Words (alert_line alert ∷ lines) (with_last (AlertBar alert) m))
+word_says alert lines m none outer inner other e f = by_place (among front (AlertBar alert) outer (AlertBar other) inner e)
   where
-    same_alert : (alert other : Alert) → AlertBar alert ≡ AlertBar other → alert ≡ other
-    same_alert alert other e = cc
+    k : ℕ
+    k = length m.gutters - 1
+
+    front : List Gutter
+    front = take k m.gutters
+
+    same_alert : (one two : Alert) → AlertBar one ≡ AlertBar two → one ≡ two
+    same_alert one two g = cc
+
+    by_place : IsAmong front (AlertBar alert) outer (AlertBar other) inner → (inner ≡ []) × (alert_line alert ≡ word_line other)
+    by_place (last h g) = (h, said_word alert ∙ ap word_line (same_alert alert other g))
+    by_place (before more g) =
+        let n : ℕ = min m.seen k in
+        let long : length (front ++ AlertBar alert ∷ []) ≡ length outer + suc (length inner) = ap length e ∙ length-append outer (AlertBar other ∷ inner) in
+        absurd (any_of n outer (AlertBar other) more (omega (arith, long, f)) (subst (λ (gs : List Gutter). AreNoAlerts (drop n gs)) g (fewer m.seen k n m.gutters none refl)))
 
 -- ---- what is shown
 
@@ -234,7 +258,7 @@ alert_knows (Some alert) defined bytes m h =
     let lines : List LineContent = alert_line alert ∷ more in
     let addresses : List (List ℕ) = addresses_in defined (after_line bytes) in
     by_bool (λ t. (length lines == 0) ≡ t → Knows (if t then barred else added Words lines addresses (spaced barred.apart (is_big Words) barred))) (length lines == 0)
-    (λ none e. absurd (some (length more) none)) (λ some e. added_knows Words lines addresses barred h.said (word_says alert more m)) refl
+    (λ none e. absurd (some (length more) none)) (λ some e. added_knows Words lines addresses barred h.said (word_says alert more m h.none)) refl
   where
     some : (n : ℕ) → (suc n == 0) ≡ true → ⊥
     some n e = grind (arith, nat_tests, e)
@@ -316,11 +340,11 @@ word_is_steady alert =
 first_steady : (alert : Alert) (lines : List LineContent) → BeginsWithWord alert lines → BeginsWithWord alert (steady_lines lines)
 unfolding steady_lines
 first_steady alert [] h = h
-first_steady alert (line ∷ lines) h = ap steady_line h ∙ word_is_steady alert
+first_steady alert (line ∷ lines) h = ap steady_line (h ∙ sym (said_word alert)) ∙ word_is_steady alert ∙ said_word alert
 
 all_steady : (sections : List SectionContent) → AllByRecursion SaysItsAlert sections → AllByRecursion SaysItsAlert (steady_sections sections)
 all_steady [] h = tt
-all_steady (s ∷ sections) h = ((λ outer alert e f. first_steady alert s.lines (h.0 outer alert e f)), all_steady sections h.1)
+all_steady (s ∷ sections) h = ((λ outer inner alert e f. let said = h.0 outer inner alert e f in (said.0, first_steady alert s.lines said.1)), all_steady sections h.1)
 
 printable_said : (source : List ℕ) → AllByRecursion SaysItsAlert (printable_sections source)
 unfolding printable_sections

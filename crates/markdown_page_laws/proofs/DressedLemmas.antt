@@ -1,9 +1,9 @@
 -- The rows of Markdown, with the rules and signs of its headings, with marks at its words and signs in front of its pictures, show its sections.
-use Rattle.std.proofs.Common.{◌≡◌, inl, inr, ℕ, ◌-◌, ◌^◌, ◌<◌, ◌≤◌, nat_lt, ◌==◌, Bool, true, false, not, ◌&&◌, List, [], ◌∷◌, ◌++◌, map, length, Option, Some, None, if◌then◌else◌, refl, ap, sym, ◌∙◌, subst, append-nil, append_assoc, ⊎_elim}
-use Rattle.std.specs.List.{AllByRecursion, flat_map}
+use Rattle.std.proofs.Common.{◌≡◌, inl, inr, ℕ, nat_lt, ◌==◌, Bool, true, false, not, ◌&&◌, List, [], ◌∷◌, ◌++◌, map, length, Option, Some, None, if◌then◌else◌, refl, ap, sym, ◌∙◌, subst, append-nil, append_assoc, ⊎_elim}
+use Rattle.std.specs.List.{AllByRecursion}
 use Rattle.std.proofs.lemmas.List.{map-append}
 use Rattle.std.proofs.lemmas.List.Concat.{flat_map-append}
-use Rattle.mad_md.specs.Flagged.{FlaggedChar, Flags, unflagged}
+use Rattle.mad_md.specs.Flagged.{Flags, unflagged}
 use Rattle.mad_md.specs.Lines.{LineContent, normal, table_row, table_rule, horizontal_rule}
 use Rattle.mad_format.specs.LineRules.{LineRules}
 use Rattle.mad_format.specs.Lists.{EachBecomes}
@@ -21,13 +21,12 @@ use Rattle.mad_sections.proofs.Choices.{by_bool}
 use Rattle.mad_sections.proofs.KeptLemmas.{stays_when}
 use Rattle.mad_dressing.specs.DressLaws.{IsRuled, IsSigned}
 use Rattle.mad_dressing.specs.Dressed.{Beside, nothing, rule_below, signs_before, beside_at, dressed, dressed_page, filled, heading_level, placed_by, rule_behind, signed}
-use Rattle.mad_dressing.specs.PictureSigns.{pictured, pictured_line, sign_for}
+use Rattle.mad_dressing.specs.PictureSigns.{have_pictures, pictured, pictured_line, sign_for}
 use Rattle.mad_dressing.specs.WordMarks.{begin_code, begins_strong, end_flags, marked_lines, worded, worded_if}
 use Rattle.mad_dressing.specs.declared.heading_marks.HeadingMarks.{HeadingMarks}
 use Rattle.mad_dressing.specs.declared.page_marks.PageMarks.{PageMarks}
 use Rattle.mad_dressing.proofs.DressLemmas.{adds_marks_alone}
-use Rattle.mad_dressing.proofs.SignLemmas.{filled_lines}
-use Rattle.mad_pages.specs.PageLayouts.{IsPageAt}
+use Rattle.mad_dressing.proofs.SignLemmas.{filled_lines, unsigned}
 use Rattle.mad_pages.specs.PageRows.{RowContent}
 use Rattle.markdown_reader.specs.Markdown.{markdown_sections}
 use Rattle.markdown_page_laws.specs.KeptMarkdown.{solid, texts_in, text_at, solid_at, IsShownBy, ShowSection, rule_at, ShowDressed, MarkdownIsKept}
@@ -156,12 +155,16 @@ put_shown rules ascii width (signs_before gutters) s rows h (own, others, joins,
 abbrev KeepsDressed : LineRules → Bool → ℕ → PageMarks → SectionContent → List RowContent → Type 0
 KeepsDressed rules ascii width marks s rows = EachBecomes (KeepsShown rules ascii width) (dressed marks s) rows
 
+-- without marks at words and without pictures a section is shown as it is
+as_it_is : (marks : PageMarks) (s : SectionContent) → marks.headings.words ≡ false → have_pictures s.lines ≡ false → filled marks s ≡ s
+as_it_is marks s plain none = unsigned marks.sign s.lines (worded marks.headings.words s) none ∙ ap (λ (words : Bool). worded words s) plain
+
 dressed_shown : (rules : LineRules) (ascii : Bool) (width : ℕ) (marks : PageMarks) (s : SectionContent) (rows : List RowContent) → IsTableOrNone s → KeepsDressed rules ascii width marks s rows → ShowDressed marks s rows
 dressed_shown rules ascii width marks s rows h kept =
     let own : SectionContent = filled marks s in
     let beside : Beside = beside_at marks.headings s.gutters (heading_level s.lines) in
     let above : ShowAbove (lines_put beside) own rows = put_shown rules ascii width beside own rows (filled_table marks s h) kept in
-    (above.0, above.1, above.2, above.3, filled_lines marks.sign marks.headings.words s, above.4 ∙ put_is marks.headings s.gutters (heading_level s.lines))
+    (above.0, above.1, above.2, above.3, filled_lines marks.sign marks.headings.words s, above.4 ∙ put_is marks.headings s.gutters (heading_level s.lines), as_it_is marks s)
 
 -- what becomes of each section has what follows of it, where each is a table that may be a list, or has no row of one
 each_shown : (becomes shows : SectionContent → List RowContent → Type 0) → ((s : SectionContent) (own : List RowContent) → IsTableOrNone s → becomes s own → shows s own)

@@ -4,6 +4,7 @@ pub mod CharacterLemmas
 pub mod DressedLemmas
 pub mod LineLemmas
 pub mod MarkLemmas
+pub mod BetweenLemmas
 pub mod OutputLemmas
 pub mod PageLemmas
 pub mod PlainPageLemmas

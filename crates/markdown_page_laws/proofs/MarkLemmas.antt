@@ -1,5 +1,5 @@
 -- Rows are the text of their lines and marks.
-use Rattle.std.proofs.Common.{◌≡◌, inl, inr, ℕ, zero, suc, ◌+◌, ◌-◌, ◌||◌, Bool, true, false, List, [], ◌∷◌, ◌++◌, map, length, take, drop, Option, Some, None, unwrap_or, replicate, if◌then◌else◌, refl, ap, ap₂, sym, ◌∙◌, subst, append_assoc, append-nil}
+use Rattle.std.proofs.Common.{◌≡◌, inl, inr, ℕ, zero, suc, ◌+◌, ◌-◌, Bool, true, false, List, [], ◌∷◌, ◌++◌, map, length, take, drop, Option, Some, None, unwrap_or, if◌then◌else◌, refl, ap, ap₂, sym, ◌∙◌, subst, append_assoc, append-nil}
 use Rattle.std.specs.Prelude.{encode_utf8, encode_utf8_all}
 use Rattle.std.specs.List.{AllByRecursion, flat_map, repeat}
 use Rattle.std.specs.Str.{IsUtf8, chars}
@@ -24,9 +24,10 @@ use Rattle.mad_format.specs.Wraps.{text_of}
 use Rattle.mad_format.specs.declared.composite.FmtComposite.{FmtComposite}
 use Rattle.mad_format.specs.declared.line.FmtLine.{FmtLine}
 use Rattle.mad_format.specs.declared.line.FmtLine.TheVariants.{Normal, TableRow, TableRule, HorizontalRule}
+use Rattle.mad_format.specs.declared.table.FmtTableRule.{FmtTableRule}
 use Rattle.mad_format.specs.declared.table.RelativePosition.{RelativePosition}
-use Rattle.mad_rows.specs.Rows.{cell_margins, prefix_pieces, compound_piece, inner_blanks, outer_blanks, margins_of, composite_pieces, left_of_place, right_of_place, placed_pieces, vertical_piece, cell_pieces, row_columns, rule_chars, table_row_pieces, table_rule_pieces, line_pieces}
-use Rattle.mad_rows.specs.RowStyles.{compound_style, line_style, ordered_item_style, tone_styles}
+use Rattle.mad_rows.specs.Rows.{cell_margins, prefix_pieces, compound_piece, inner_blanks, outer_blanks, margins_of, composite_pieces, left_of_place, right_of_place, placed_pieces, vertical_piece, cell_pieces, row_columns, rule_chars, table_rule_pieces, line_pieces}
+use Rattle.mad_rows.specs.RowStyles.{compound_style, line_style}
 use Rattle.mad_rows.specs.declared.row_skin.RowSkin.{RowSkin}
 use Rattle.mad_sections.specs.Gutters.{gutter_columns}
 use Rattle.mad_sections.specs.TableTexts.{runs_text}
@@ -42,9 +43,9 @@ use Rattle.mad_marked_rows.specs.Paints.{paint_by}
 use Rattle.mad_marked_rows.specs.RowLaws.{AreTexts}
 use Rattle.mad_pages.specs.Fronts.{FrontContent, front_of}
 use Rattle.mad_pages.specs.PageRows.{RowContent}
-use Rattle.mad_page_rows.specs.Faces.{bold_behind, emboldened, has_ascii_boxes, has_boxes, heading_sign, blanks, code_blanks, code_face, first_face, other_face, face, faces, columns_behind, back_columns, backs, level_above, in_box, ruled, line_skin, behind_pieces, page_row_pieces, toned_pieces}
+use Rattle.mad_page_rows.specs.Faces.{bold_behind, emboldened, has_ascii_boxes, has_boxes, heading_sign, blanks, code_blanks, code_face, first_face, other_face, face, faces, back_columns, backs, level_above, in_box, ruled, line_skin, behind_pieces, page_row_pieces, toned_pieces}
 use Rattle.markdown_page_laws.specs.KeptMarkdown.{texts_in}
-use Rattle.markdown_page_laws.specs.Marks.{Mark, blank, quote_bar, bar_of, bullet, number, after_number, box, signs, rule, rule_below, border, rule_start, rule_over, rule_between, rule_end, mark_text, IsMark, AreTextAndMarks, runs_of, runs_in, bytes_of, text_in, OthersAreMarks}
+use Rattle.markdown_page_laws.specs.Marks.{Mark, blank, quote_bar, bar_of, bullet, number, after_number, box, signs, rule, rule_below, border, rule_start, rule_over, rule_between, rule_end, mark_text, IsMark, AreTextAndMarks, runs_of, runs_in, bytes_of, text_in}
 
 -- all pieces are marks
 abbrev AreMarks : RowSkin → List RowPiece → Type 0
@@ -74,6 +75,11 @@ pub in_other : (skin other : RowSkin) → ((mark : Mark) → (own : Mark) × (ma
 in_other skin other same text [] none = none
 in_other skin other same text (p ∷ ps) (inl ((mark, is), more)) = inl (((same mark).0, is ∙ (same mark).1), in_other skin other same text ps more)
 in_other skin other same text (p ∷ ps) (inr (rest, joins, more)) = inr (rest, joins, in_other skin other same rest ps more)
+
+-- marks alone, too
+pub in_other_marks : (skin other : RowSkin) → ((mark : Mark) → (own : Mark) × (mark_text other mark ≡ mark_text skin own)) → (ps : List RowPiece) → AreMarks other ps → AreMarks skin ps
+in_other_marks skin other same [] h = tt
+in_other_marks skin other same (p ∷ ps) ((mark, is), more) = (((same mark).0, is ∙ (same mark).1), in_other_marks skin other same ps more)
 
 if_marks : (skin : RowSkin) (b : Bool) (ps qs : List RowPiece) → AreMarks skin ps → AreMarks skin qs → AreMarks skin (if b then ps else qs)
 if_marks skin true ps qs h k = h
@@ -164,6 +170,20 @@ rule_marks skin style position (w ∷ ws) =
           (all_joined (IsMark skin) (flat_map (junction style chars) ws) last (junction_marks skin style position ws) ((rule_end position, refl), tt)),
     )
 
+-- a rule of a table in its place
+pub placed_rule : (skin : RowSkin) (outer : Option ℕ) (filled : Bool) (across : FmtTableRule) → AreMarks skin (table_rule_pieces skin outer filled across)
+placed_rule skin outer filled across =
+    let ps : List RowPiece = rule_pieces skin.table.compound_style (rule_chars skin.table_border_chars across.position) across.widths.items in
+    let left : ℕ = left_of_place skin.table.align (rule_columns across.widths.items) outer in
+    let right : ℕ = right_of_place skin.table.align (rule_columns across.widths.items) outer in
+    let behind : List RowPiece = if filled then spaces skin.paragraph.compound_style right else [] in
+    all_joined (IsMark skin) (spaces skin.paragraph.compound_style left) (ps ++ behind) (blank_marks skin skin.paragraph.compound_style left)
+    (all_joined (IsMark skin) ps behind (rule_marks skin skin.table.compound_style across.position across.widths.items) (if_marks skin filled (spaces skin.paragraph.compound_style right) [] (blank_marks skin skin.paragraph.compound_style right) tt))
+
+-- a rule across the page
+pub whole_rule : (skin : RowSkin) (outer : Option ℕ) → AreMarks skin (char_repeat skin.horizontal_rule (unwrap_or outer 0))
+whole_rule skin outer = repeated_marks skin skin.horizontal_rule rule (λ count. refl) (unwrap_or outer 0)
+
 -- a line is its text and marks
 line_text : (skin : RowSkin) (outer : Option ℕ) (filled : Bool) (line : FmtLine) → AreTextAndMarks skin (text_in line) (line_pieces skin outer filled line)
 line_text skin outer filled (Normal l) = composite_text skin outer (margins_of skin outer l) filled l
@@ -179,14 +199,14 @@ line_text skin outer filled HorizontalRule = marks_alone skin (char_repeat skin.
 -- ---- lines with tones
 
 -- the characters of letters
-abbrev chars_of : List Letter → List ℕ
+abbrev pub chars_of : List Letter → List ℕ
 chars_of ls = map (λ (l : Letter). l.char) ls
 
-letters_say : (runs : List MarkRun) (n : ℕ) (cs : List ℕ) → chars_of (letters_of runs n cs) ≡ cs
+pub letters_say : (runs : List MarkRun) (n : ℕ) (cs : List ℕ) → chars_of (letters_of runs n cs) ≡ cs
 letters_say runs n [] = refl
 letters_say runs n (c ∷ cs) = ap (λ (more : List ℕ). c ∷ more) (letters_say runs (number_next n c) cs)
 
-more_text : (cs : List ℕ) (c : ℕ) (more : List ℕ) → encode_utf8_all cs ++ (encode_utf8 c ++ more) ≡ encode_utf8_all (cs ++ c ∷ []) ++ more
+pub more_text : (cs : List ℕ) (c : ℕ) (more : List ℕ) → encode_utf8_all cs ++ (encode_utf8 c ++ more) ≡ encode_utf8_all (cs ++ c ∷ []) ++ more
 more_text cs c more =
     sym (append_assoc (encode_utf8_all cs) (encode_utf8 c) more) ∙ ap (λ (own : List ℕ). own ++ more) (ap (λ (last : List ℕ). encode_utf8_all cs ++ last) (sym (append-nil (encode_utf8 c))) ∙ sym (encodes-append cs (c ∷ [])))
 
@@ -255,7 +275,7 @@ abbrev pub boxed : RowSkin → Bool → RowSkin
 boxed skin b = if b then record skin { paragraph = skin.code_block } else skin
 
 -- its marks are the same
-boxed_mark : (skin : RowSkin) (b : Bool) (mark : Mark) → mark_text (boxed skin b) mark ≡ mark_text skin mark
+pub boxed_mark : (skin : RowSkin) (b : Bool) (mark : Mark) → mark_text (boxed skin b) mark ≡ mark_text skin mark
 boxed_mark skin false mark = refl
 boxed_mark skin true (blank count) = refl
 boxed_mark skin true quote_bar = refl
@@ -293,7 +313,7 @@ ruled_mark skin (Some level) (rule_between position) = (rule_between position, r
 ruled_mark skin (Some level) (rule_end position) = (rule_end position, refl)
 
 -- where bold text adds something else, marks are the same
-bold_mark : (skin : RowSkin) (bold : CompoundStyle) (mark : Mark) → mark_text (emboldened skin bold) mark ≡ mark_text skin mark
+pub bold_mark : (skin : RowSkin) (bold : CompoundStyle) (mark : Mark) → mark_text (emboldened skin bold) mark ≡ mark_text skin mark
 bold_mark skin bold (blank count) = refl
 bold_mark skin bold quote_bar = refl
 bold_mark skin bold (bar_of alert) = refl
@@ -358,7 +378,7 @@ cells_say (cell ∷ cells) =
     flat_map-append (λ (run : Run). flagged run.flags (chars run.text)) (runs_of cell) (flat_map runs_of cells)
     ∙ ap₂ (λ (text more : List FlaggedChar). text ++ more) (runs_say cell.compounds.items) (cells_say cells)
 
-line_says : (line : FmtLine) → runs_text (runs_in line) ≡ flat_map (λ text. text) (texts_in line)
+pub line_says : (line : FmtLine) → runs_text (runs_in line) ≡ flat_map (λ text. text) (texts_in line)
 line_says (Normal l) = runs_say l.compounds.items ∙ sym (append-nil (text_of l))
 line_says (TableRow row) = cells_say row.cells.items
 line_says (TableRule across) = refl
@@ -374,13 +394,3 @@ row_text skin outer filled row h =
     let own : AreTextAndMarks skin text (behind_pieces skin outer filled row) = in_other skin (line_skin skin (front_of row)) (line_mark skin (front_of row)) text (behind_pieces skin outer filled row) h in
     marks_before skin text (faces skin row.gutters row.fresh) (behind_pieces skin outer filled row ++ backs skin row.gutters) (all_joined (IsMark skin) others firsts (faces_marks skin false (take count row.gutters)) (faces_marks skin true (drop count row.gutters)))
     (marks_after skin text (behind_pieces skin outer filled row) (backs skin row.gutters) own (blank_marks skin skin.code_block.compound_style (back_columns skin row.gutters)))
-
--- each row is the text of its line and marks
-pub others_are_marks : OthersAreMarks
-others_are_marks skin outer filled row texts =
-    let inner : RowSkin = line_skin skin (front_of row) in
-    let columns : Option ℕ = columns_behind (has_ascii_boxes skin) outer row.gutters in
-    record {
-      pieces = row_text skin outer filled row (toned_text inner columns (filled || in_box skin row.gutters) row.marks (tone_styles skin) row.number row.line texts);
-      text = line_says row.line;
-    }

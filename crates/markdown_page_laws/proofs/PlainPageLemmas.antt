@@ -8,7 +8,7 @@ use Rattle.std.specs.List.{AllByRecursion, flat_map, list_all, repeat}
 use Rattle.std.specs.Str.{bytes_eq}
 use Rattle.std.proofs.lemmas.Bool.Decides.{nat_tests}
 use Rattle.mad_term.specs.AttributeSets.{united}
-use Rattle.mad_term.specs.Styles.{IsUnstyled, piece_bytes}
+use Rattle.mad_term.specs.Styles.{IsUnstyled}
 use Rattle.mad_term.specs.declared.attributes.Attributes.{Attributes}
 use Rattle.mad_term.proofs.SameAttributes.{same_bits}
 use Rattle.mad_term.proofs.Pieces.{unstyled_piece}
@@ -36,7 +36,7 @@ use Rattle.mad_format.specs.declared.line.FmtLine.TheVariants.{Normal, TableRow,
 use Rattle.mad_format.specs.declared.table.RelativePosition.{RelativePosition}
 use Rattle.mad_format.specs.declared.table.RelativePosition.TheVariants.{Top, Other, Bottom}
 use Rattle.mad_rows.specs.Rows.{cell_margins, prefix_pieces, compound_piece, inner_blanks, outer_blanks, margins_of, composite_pieces, left_of_place, right_of_place, placed_pieces, vertical_piece, cell_pieces, row_columns, rule_chars, line_pieces}
-use Rattle.mad_rows.specs.RowStyles.{ellipsis_bytes, overwritten_if, line_style, compound_style, header_style, index_suffix, ordered_item_style}
+use Rattle.mad_rows.specs.RowStyles.{ellipsis_bytes, overwritten_if, line_style, compound_style, header_style, ordered_item_style}
 use Rattle.mad_rows.specs.declared.row_skin.RowSkin.{RowSkin}
 use Rattle.mad_sections.specs.Gutters.{gutter_columns}
 use Rattle.mad_sections.specs.declared.gutters.Alert.{Alert}
@@ -48,13 +48,13 @@ use Rattle.mad_sections.proofs.Choices.{by_bool}
 use Rattle.mad_mark_runs.specs.declared.mark_runs.MarkRun.{MarkRun}
 use Rattle.mad_pages.specs.Fronts.{FrontContent, front_of}
 use Rattle.mad_pages.specs.PageRows.{RowContent}
-use Rattle.mad_page_rows.specs.Faces.{alert_titled, bold_behind, emboldened, titled, has_ascii_boxes, has_boxes, alert_bar, below_char, box_piece, heading_sign, blanks, code_blanks, code_face, first_face, other_face, face, faces, columns_behind, back_columns, backs, level_above, in_box, ruled, line_skin, behind_pieces, page_row_bytes, page_row_pieces, toned_pieces}
+use Rattle.mad_page_rows.specs.Faces.{alert_titled, bold_behind, emboldened, titled, has_ascii_boxes, alert_bar, below_char, box_piece, heading_sign, blanks, code_face, first_face, other_face, face, faces, columns_behind, back_columns, backs, level_above, in_box, ruled, line_skin, behind_pieces, page_row_bytes, page_row_pieces, toned_pieces}
 use Rattle.mad_page_skin.specs.PlainSkins.{plain_skin}
 use Rattle.markdown_layout.specs.RowEnds.{ended, without_end}
 use Rattle.markdown_layout.specs.WrittenPages.{dressed_bytes, row_bytes}
 use Rattle.markdown_layout.proofs.EndLemmas.{end_off, rows_end}
 use Rattle.markdown_page_laws.specs.Marks.{Mark, blank, quote_bar, bar_of, bullet, number, after_number, box, signs, rule, rule_below, border, rule_start, rule_over, rule_between, rule_end, mark_text, AreTextAndMarks, runs_in, bytes_of, text_in}
-use Rattle.markdown_page_laws.specs.PlainPages.{plain_rows, texts_of, PlainIsText, HasNoEscape, SaysNoEscape, PlainHasNoEscape, RowsEndInNoBlank}
+use Rattle.markdown_page_laws.specs.PlainPages.{plain_rows, texts_of, PlainIsText, HasNoEscape, PlainHasNoEscape, RowsEndInNoBlank}
 use Rattle.markdown_page_laws.proofs.MarkLemmas.{row_text, untoned_text}
 
 -- ---- styles that set nothing

@@ -1,5 +1,5 @@
 -- A skin changes no character of a text, nor their order.
-use Rattle.std.proofs.Common.{◌≡◌, ℕ, Bool, List, [], ◌∷◌, sym, ◌∙◌, subst}
+use Rattle.std.proofs.Common.{ℕ, Bool, List, [], ◌∷◌, sym, subst}
 use Rattle.mad_md.specs.Lines.{LineContent}
 use Rattle.mad_format.specs.LineRules.{LineRules}
 use Rattle.mad_format.specs.Lists.{EachBecomes}
@@ -30,10 +30,10 @@ text_is_told skin source width rows wide bound laid =
     (source_shows marks source rules ascii width (λ (s : SectionContent) (own : List RowContent). EachBecomes IsShownBy (lines_shown skin.cell_blanks ascii width (filled marks s)) (lines_of_rows own))
     (dressed_tells rules ascii width marks) rows (pages_keep rules ascii width (dressed_page marks (markdown_sections source)) rows wide bound laid))
 
--- what shows the same lines shows the same
+-- two that show the same lines
 both_alike : (lines : List LineContent) (rows others : List FmtLine) → EachBecomes IsShownBy lines rows → EachBecomes IsShownBy lines others → ShowAlike lines rows others
 both_alike [] rows others h k = (h, k)
-both_alike (line ∷ lines) rows others (own, more, joins, here, there) (like, likes, alike, one, rest) = (own, more, joins, like, likes, alike, (λ i. here i ∙ sym (one i)), both_alike lines more likes there rest)
+both_alike (line ∷ lines) rows others (own, more, joins, here, there) (like, likes, alike, one, rest) = (own, more, joins, like, likes, alike, here, one, both_alike lines more likes there rest)
 
 -- the rows of a text in two skins show the same
 pub skins_keep_text : SkinsKeepText

@@ -25,8 +25,8 @@ use Rattle.markdown_lines.specs.Links.{html_addresses, Defined}
 use Rattle.markdown_lines.specs.Restyled.{restyled, empty_line}
 use Rattle.markdown_lines.specs.Steady.{steady_lines}
 use Rattle.markdown_marks.specs.Tables as tables
-use Rattle.markdown_cells.specs.Cells.{after_cell, alignments}
-use Rattle.markdown_lines.specs.Tables.{cells, shown_cells, row_said, body, ruled, table_lines}
+use Rattle.markdown_cells.specs.Cells.{alignments}
+use Rattle.markdown_lines.specs.Tables.{row_said, body, table_lines}
 use Rattle.markdown_lines.specs.Texts.{behind_mark}
 use Rattle.markdown_lines.specs.declared.glyphs.Glyph.{Glyph}
 use Rattle.markdown_gutters.specs.Forms.{is_big}

@@ -1,5 +1,5 @@
 -- The rows of a page, and of Markdown, show each character of its sections once, in order.
-use Rattle.std.specs.Prelude.{◌≡◌, ◌≢◌, ◌⊎◌, ℕ, zero, suc, ◌-◌, ◌^◌, ◌<◌, ◌≤◌, nat_lt, Bool, List, [], ◌∷◌, ◌++◌, map, Option, Some, None, if◌then◌else◌}
+use Rattle.std.specs.Prelude.{◌≡◌, ◌≢◌, ◌⊎◌, ℕ, zero, suc, ◌-◌, ◌^◌, ◌<◌, ◌≤◌, nat_lt, Bool, false, List, [], ◌∷◌, ◌++◌, map, Option, Some, None, if◌then◌else◌}
 use Rattle.std.specs.Char.{is_whitespace}
 use Rattle.std.specs.List.{flat_map}
 use Rattle.mad_md.specs.Flagged.{FlaggedChar}
@@ -13,6 +13,7 @@ use Rattle.mad_sections.specs.Sections.{SectionContent}
 use Rattle.mad_sections.specs.TableTexts.{cell_text, rows_in}
 use Rattle.mad_sections.specs.UnfoldLaws.{IsMadeOfBoth, KeepsRow, labels_text, row_text}
 use Rattle.mad_dressing.specs.DressLaws.{AreMarkedLines}
+use Rattle.mad_dressing.specs.PictureSigns.{have_pictures}
 use Rattle.mad_dressing.specs.Dressed.{dressed_page, filled, heading_level}
 use Rattle.mad_dressing.specs.declared.heading_marks.HeadingMarks.{HeadingMarks}
 use Rattle.mad_dressing.specs.declared.page_marks.PageMarks.{PageMarks}
@@ -94,11 +95,13 @@ rule_at marks None = []
 rule_at marks (Some level) = if nat_lt level marks.rules then HorizontalRule ∷ [] else []
 
 -- Rows show a section with what stands beside headings, at words and in front of pictures: first the section, and below it, if it is such a heading, its rule.
--- Each of its lines and cells has its text, with marks and signs of pictures alone between the characters.
+-- Each of its lines and cells has its text, with marks and signs of pictures alone between the characters. Where no marks stand at words, and it has no pictures, it
+-- is shown as it is.
 abbrev pub ShowDressed : PageMarks → SectionContent → List RowContent → Type 0
 ShowDressed marks section rows =
     (own : List RowContent) × (below : List RowContent) × (rows ≡ own ++ below) × ShowSection (filled marks section) own
     × AreMarkedLines marks.sign section.lines (filled marks section).lines × (lines_of_rows below ≡ rule_at marks.headings (heading_level section.lines))
+    × (marks.headings.words ≡ false → have_pictures section.lines ≡ false → filled marks section ≡ section)
 
 -- rows show a text of Markdown: they fall into those of its sections, one after the other, and show these
 abbrev pub ShowSource : PageMarks → List ℕ → List RowContent → Type 0

@@ -1,6 +1,6 @@
 -- What rows show beside the text of their lines.
-use Rattle.std.specs.Prelude.{◌≡◌, ◌⊎◌, ℕ, Bool, List, [], ◌∷◌, ◌++◌, map, Option, replicate, decimal, encode_utf8}
-use Rattle.std.specs.List.{flat_map, repeat}
+use Rattle.std.specs.Prelude.{◌≡◌, ◌⊎◌, ℕ, Bool, true, false, List, [], ◌∷◌, ◌++◌, map, Option, replicate, decimal, encode_utf8}
+use Rattle.std.specs.List.{AllByRecursion, flat_map, repeat}
 use Rattle.mad_md.specs.Flagged.{Run, run_of}
 use Rattle.mad_style.specs.StyledChars.{char_alone}
 use Rattle.mad_draw.specs.Pieces.{RowPiece}
@@ -82,9 +82,59 @@ bytes_of runs = flat_map (λ (run : Run). run.text) runs
 abbrev pub text_in : FmtLine → List ℕ
 text_in line = bytes_of (runs_in line)
 
--- A row is the text of its line and marks.
+-- a mark that may stand in front of a text: no border, nor any rule
+abbrev pub is_in_front : Mark → Bool
+is_in_front (rule count) = false
+is_in_front (rule_below level count) = false
+is_in_front border = false
+is_in_front (rule_start position) = false
+is_in_front (rule_over position count) = false
+is_in_front (rule_between position) = false
+is_in_front (rule_end position) = false
+is_in_front mark = true
+
+-- a piece is such a mark
+abbrev pub IsInFront : RowSkin → RowPiece → Type 0
+IsInFront skin p = (mark : Mark) × (is_in_front mark ≡ true) × (p.text ≡ mark_text skin mark)
+
+-- a piece is blanks
+abbrev pub IsBlank : RowPiece → Type 0
+IsBlank p = (count : ℕ) × (p.text ≡ replicate count 32)
+
+-- Pieces are such marks, a text, cut or whole, and blanks. No mark is within the text.
+pub record IsTextBetween (skin : RowSkin) (text : List ℕ) (pieces : List RowPiece) : Type 0 where
+  pub front : List RowPiece
+  pub said : List RowPiece
+  pub back : List RowPiece
+  pub whole : pieces ≡ front ++ (said ++ back)
+  pub marks : AllByRecursion (IsInFront skin) front
+  pub says : flat_map (λ (p : RowPiece). p.text) said ≡ text
+  pub blanks : AllByRecursion IsBlank back
+
+-- Pieces are cells with these texts, each behind a border, and a last border with blanks behind it.
+abbrev pub AreCells : RowSkin → List (List ℕ) → List RowPiece → Type 0
+AreCells skin [] pieces =
+    (last : RowPiece) × (back : List RowPiece) × (pieces ≡ last ∷ back) × (last.text ≡ mark_text skin border) × AllByRecursion IsBlank back
+AreCells skin (text ∷ texts) pieces =
+    (left : RowPiece) × (own : List RowPiece) × (more : List RowPiece) × (pieces ≡ left ∷ (own ++ more)) × (left.text ≡ mark_text skin border) × IsTextBetween skin text own × AreCells skin texts more
+
+-- Pieces are cells, and in front of them marks that are no borders.
+pub record AreCellsBehind (skin : RowSkin) (texts : List (List ℕ)) (pieces : List RowPiece) : Type 0 where
+  pub front : List RowPiece
+  pub cells : List RowPiece
+  pub whole : pieces ≡ front ++ cells
+  pub marks : AllByRecursion (IsInFront skin) front
+  pub are : AreCells skin texts cells
+
+-- Pieces are those of a line: a text between marks, cells, or the marks of a rule.
+abbrev pub ArePiecesOf : RowSkin → FmtLine → List RowPiece → Type 0
+ArePiecesOf skin (Normal l) pieces = IsTextBetween skin (bytes_of (runs_of l)) pieces
+ArePiecesOf skin (TableRow row) pieces = AreCellsBehind skin (map (λ (cell : FmtComposite). bytes_of (runs_of cell)) row.cells.items) pieces
+ArePiecesOf skin _ pieces = AllByRecursion (IsMark skin) pieces
+
+-- A row is the text of its line, or of its cells, between marks.
 pub record IsTextAndMarks (skin : RowSkin) (outer : Option ℕ) (filled : Bool) (row : RowContent) : Type 0 where
-  pub pieces : AreTextAndMarks skin (text_in row.line) (page_row_pieces skin outer filled row)
+  pub pieces : ArePiecesOf skin row.line (page_row_pieces skin outer filled row)
   pub text : runs_text (runs_in row.line) ≡ flat_map (λ text. text) (texts_in row.line)
 
 -- So is each row of a page, whatever its skin, its width and the tones of its code, and whether it is filled up on its right.

@@ -13,7 +13,7 @@ use Rattle.mad_page_rows.specs.Faces.{has_ascii_boxes}
 use Rattle.mad_page_skin.specs.PageSkins.{page_row_skin}
 use Rattle.mad_page_skin.specs.declared.page_skin.PageSkin.{PageSkin}
 use Rattle.markdown_layout.specs.WrittenPages.{IsDressedAt}
-use Rattle.markdown_page_laws.specs.KeptMarkdown.{solid_at, IsShownBy}
+use Rattle.markdown_page_laws.specs.KeptMarkdown.{IsShownBy}
 use Rattle.markdown_page_laws.specs.KeptPages.{lines_of_rows}
 use Rattle.markdown_reader.specs.Markdown.{markdown_sections}
 
@@ -35,13 +35,13 @@ abbrev pub TextIsTold : Type 0
 TextIsTold = (skin : PageSkin) (source : List ℕ) (width : ℕ) (rows : List RowContent) → 3 ≤ width → width < 2 ^ 64 - 1 → IsDressedAt skin (Some width) (markdown_sections source) rows
     → EachBecomes IsShownBy (lines_in skin width (markdown_sections source)) (lines_of_rows rows)
 
--- Two lists of rows show the same: they fall into as many parts as there are lines. In their cells of the same number both have the same characters that aren't
--- whitespace, in the same order and with the same flags.
+-- Two lists of rows show the same: they fall into as many parts as there are lines, and each two show this line. In their cells of the same number both have its
+-- characters that aren't whitespace, in the same order and with the same flags.
 abbrev pub ShowAlike : List LineContent → List FmtLine → List FmtLine → Type 0
 ShowAlike [] rows others = (rows ≡ []) × (others ≡ [])
 ShowAlike (line ∷ lines) rows others =
     (own : List FmtLine) × (more : List FmtLine) × (rows ≡ own ++ more) × (like : List FmtLine) × (likes : List FmtLine) × (others ≡ like ++ likes)
-    × ((i : ℕ) → solid_at i own ≡ solid_at i like) × ShowAlike lines more likes
+    × IsShownBy line own × IsShownBy line like × ShowAlike lines more likes
 
 -- The rows of a text in two skins show the same, at each width from three columns on and of fewer than 2^64 - 1. Both or neither have boxes of ASCII characters, both
 -- or neither have marks at words, both or neither have blanks beside cells, and both have the same character in front of pictures.

@@ -38,7 +38,8 @@ pub fn output_is_kept()
     ensures shown { AreasShow }
 {}
 
-/// Beside the text of its line a row has marks alone: blanks, bars, bullets, numbers, boxes, signs, rules and borders.
+/// A row has the text of its line between marks: in front of it blanks, bars, bullets, numbers, boxes and signs, and behind it blanks. So has each cell of a
+/// table, behind a border. A rule is marks alone.
 pub fn others_are_marks()
     ensures { OthersAreMarks }
 {}

@@ -1,5 +1,5 @@
 -- An item ends at a line that is indented by less.
-use Rattle.std.proofs.Common.{◌≡◌, ◌⊎◌, inl, inr, ℕ, zero, suc, ◌<◌, Bool, true, false, cond, not, ◌&&◌, ◌==◌, List, [], ◌∷◌, ◌++◌, map, length, replicate, Some, None, refl, sym, ap, ◌∙◌, append_assoc, append-nil, arith}
+use Rattle.std.proofs.Common.{◌≡◌, ◌⊎◌, inl, inr, ℕ, zero, suc, ◌<◌, Bool, true, false, cond, not, ◌&&◌, ◌==◌, List, [], ◌∷◌, ◌++◌, map, length, replicate, Some, None, refl, sym, ap, subst, ◌∙◌, append_assoc, append-nil, arith}
 use Rattle.std.proofs.lemmas.Bool.{and_left, and_parts, ne_eqb, not-true, or_parts}
 use Rattle.std.proofs.lemmas.List.{map-append}
 use Rattle.std.specs.List.{list_all}
@@ -35,9 +35,11 @@ use Rattle.markdown_laws.proofs.HeldLemmas.{AllGoOn, behind_lines, begun_in, end
 use Rattle.markdown_laws.proofs.ItemLemmas.{goes, item_begins}
 use Rattle.markdown_laws.proofs.LineLemmas.{blank_outside}
 use Rattle.markdown_laws.proofs.RoomLemmas.{rooms_of}
-use Rattle.markdown_sign_laws.specs.ItemEnds.{BeginsLess, IsLess, ItemEndsAtLess, item_then}
+use Rattle.markdown_sign_laws.specs.ItemEnds.{ItemEndsBehindBlock, BeginsLess, IsLess, ItemEndsAtLess, item_then}
 use Rattle.markdown_sign_laws.specs.Words.{is_space_or_tab}
 use Rattle.markdown_sign_laws.proofs.ClosedLemmas.{none_open}
+use Rattle.markdown_sign_laws.proofs.LastLeafLemmas.{none_open_behind}
+use Rattle.markdown_sign_laws.specs.Ends.{EndsInBlock}
 use Rattle.markdown_sign_laws.proofs.EndLemmas.{IsAfter, container_ends}
 use Rattle.markdown_sign_laws.proofs.IdleLemmas.{closed_kind}
 use Rattle.markdown_sign_laws.proofs.OpenLemmas.{idle, opens, opens_flat, opens_from, same_parts}
@@ -218,15 +220,28 @@ item_lines first (c ∷ cs) lines held after marker content b i full h room behi
     ∙ ap (λ (ps : List PartContent). begins item false ∷ ps) (map-append spelled (ended nothing_told (map flat_event inner)) (ends ∷ rest))
     ∙ ap (λ (ps : List PartContent). with_rest marker content ps (map spelled rest)) (spelled_back ((c ∷ cs) ∷ held))
 
--- an item ends at a line with less, where its last line is blank
-pub ends_at_less : ItemEndsAtLess
-ends_at_less text held after first one lines others marker content are holds b i full h room last less =
+-- an item ends at a line with less, where no paragraph is open behind its lines
+ends_by : (text held after first one : List ℕ) (lines others : List (List ℕ)) (marker : Marker) (content : ℕ) → text_lines text ≡ first ∷ (lines ++ text_lines after) → text_lines held ≡ one ∷ others
+    → BeginsItem first one marker content → AreIndented content lines others → begins_text one ≡ true → list_all has_no_tab (text_lines held) ≡ true → has_room 63 (parts_of held) ≡ true
+    → is_paragraph (behind_lines at_first (text_lines held)).leaf ≡ false → BeginsLess content (text_lines after)
+    → (map spelled (parts_of text) ≡ item_then marker content (map spelled (parts_of held)) (10 ∷ after)) ⊎ (map spelled (parts_of text) ≡ item_then marker content (map spelled (parts_of held)) after)
+ends_by text held after first one lines others marker content are holds b i full h room none less =
     let read : ended nothing_told (events_from at_first (one ∷ others)) ≡ parts_of held = ap (λ (ls : List (List ℕ)). ended nothing_told (events_from at_first ls)) (sym holds) ∙ sym (read_of held) in
-    let closed_last : is_paragraph (behind_lines at_first (one ∷ others)).leaf ≡ false =
-    ap (λ (ls : List (List ℕ)). is_paragraph (behind_lines at_first ls).leaf) (sym holds ∙ last.whole) ∙ none_open last.before last.last at_first last.blank in
+    let closed_last : is_paragraph (behind_lines at_first (one ∷ others)).leaf ≡ false = ap (λ (ls : List (List ℕ)). is_paragraph (behind_lines at_first ls).leaf) (sym holds) ∙ none in
     let told_rest = told_after (closed (told_of (one ∷ others))).passed (map flat_event (events_from at_first (text_lines after))) in
     by_passed (closed (told_of (one ∷ others))).passed (map spelled (parts_of text)) (map spelled (parts_of held)) after marker content
     (ap (map spelled) (read_of text ∙ ap (λ (ls : List (List ℕ)). ended nothing_told (events_from at_first ls)) are)
     ∙ item_lines first one lines others (text_lines after) marker content b i full (ap (list_all has_no_tab) (sym holds) ∙ h) (ap (has_room 63) read ∙ room)
     (is_after marker.sign marker.number content (behind_lines at_first (one ∷ others)) (text_lines after) closed_last less)
     ∙ ap (λ (ps : List PartContent). with_rest marker content (map spelled ps) (map spelled told_rest)) read)
+
+-- so it is where its last line is blank
+pub ends_at_less : ItemEndsAtLess
+ends_at_less text held after first one lines others marker content are holds b i full h room last less =
+    ends_by text held after first one lines others marker content are holds b i full h room
+    (ap (λ (ls : List (List ℕ)). is_paragraph (behind_lines at_first ls).leaf) last.whole ∙ none_open last.before last.last at_first last.blank) less
+
+-- and where its last leaf is no paragraph
+pub item_behind_block : ItemEndsBehindBlock
+item_behind_block text held after first one lines others marker content are holds b i full h room last less =
+    ends_by text held after first one lines others marker content are holds b i full h room (none_open_behind (text_lines held) (subst EndsInBlock (read_of held) last)) less

@@ -14,3 +14,10 @@ pub mod UnderlineLemmas
 pub mod SignLemmas
 pub mod ClosedLemmas
 pub mod ItemLemmas
+pub mod LineSignLemmas
+pub mod LineStartLemmas
+pub mod LineDoneLemmas
+pub mod ToldLineLemmas
+pub mod AllToldLemmas
+pub mod HtmlLemmas
+pub mod LastLeafLemmas

@@ -77,7 +77,7 @@ sign_behind : (front rest : List ℕ) → slice_index (front ++ rest) (length fr
 sign_behind [] rest = refl
 sign_behind (b ∷ bs) rest = sign_behind bs rest
 
-rest_behind : (front : List ℕ) (c : ℕ) (cs : List ℕ) → drop (length front + 1) (front ++ c ∷ cs) ≡ cs
+pub rest_behind : (front : List ℕ) (c : ℕ) (cs : List ℕ) → drop (length front + 1) (front ++ c ∷ cs) ≡ cs
 rest_behind front c cs =
     ap (λ (xs : List ℕ). drop (length front + 1) xs) (sym (append_assoc front (c ∷ []) cs)) ∙ drop_at (front ++ c ∷ []) cs (length front + 1) (length_push front c)
 

@@ -31,10 +31,11 @@ use Rattle.markdown_laws.proofs.FlatLemmas.{flat_event, flat_told, spelled_flat,
 use Rattle.markdown_laws.proofs.HeldLemmas.{AllGoOn, behind_lines, ended_flat, fits_flat, no_tabs, told_then}
 use Rattle.markdown_laws.proofs.RoomLemmas.{rooms_of}
 use Rattle.markdown_part_laws.proofs.BlankLemmas.{blank_begun, blank_taken, no_opens}
-use Rattle.markdown_sign_laws.specs.Ends.{BeginsUnsigned, QuoteEndsAtBlank, QuoteEndsBehindBlank, begins_blank}
+use Rattle.markdown_sign_laws.specs.Ends.{EndsInBlock, QuoteEndsBehindBlock, BeginsUnsigned, QuoteEndsAtBlank, QuoteEndsBehindBlank, begins_blank}
 use Rattle.markdown_sign_laws.specs.QuoteSigns.{HasQuoteSign}
 use Rattle.markdown_sign_laws.specs.Words.{are_blanks, is_space_or_tab}
 use Rattle.markdown_sign_laws.proofs.ClosedLemmas.{none_open}
+use Rattle.markdown_sign_laws.proofs.LastLeafLemmas.{none_open_behind}
 use Rattle.markdown_sign_laws.proofs.EndLemmas.{IsAfter, container_ends}
 use Rattle.markdown_sign_laws.proofs.IdleLemmas.{closed_around, closed_fresh, closed_kind, lines_idle}
 use Rattle.markdown_sign_laws.proofs.OpenLemmas.{idle, opens, opens_flat, opens_from, same_parts}
@@ -282,3 +283,8 @@ pub ends_behind_blank : QuoteEndsBehindBlank
 ends_behind_blank text held after quoted are q some h room last unsigned =
     ends_before text held after quoted are q some h room (unsigned_after (behind_lines at_first (text_lines held)) (text_lines after)
     (ap (λ (ls : List (List ℕ)). is_paragraph (behind_lines at_first ls).leaf) last.whole ∙ none_open last.before last.last at_first last.blank) unsigned)
+
+-- and where the last leaf that it holds is no paragraph
+pub ends_behind_block : QuoteEndsBehindBlock
+ends_behind_block text held after quoted are q some h room last unsigned =
+    ends_before text held after quoted are q some h room (unsigned_after (behind_lines at_first (text_lines held)) (text_lines after) (none_open_behind (text_lines held) (subst EndsInBlock (read_of held) last)) unsigned)

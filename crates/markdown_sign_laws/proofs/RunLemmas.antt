@@ -69,7 +69,7 @@ cut_here p (b ∷ bs) rest h e =
 
 -- ---- runs of one sign
 
-same_signs : (sign : ℕ) (bytes : List ℕ) → list_all (λ b. b == sign) bytes ≡ true → bytes ≡ replicate (length bytes) sign
+pub same_signs : (sign : ℕ) (bytes : List ℕ) → list_all (λ b. b == sign) bytes ≡ true → bytes ≡ replicate (length bytes) sign
 same_signs sign [] h = refl
 same_signs sign (b ∷ bs) h =
     let both = and_parts (b == sign) (list_all (λ b. b == sign) bs) h in

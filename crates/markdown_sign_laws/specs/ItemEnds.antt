@@ -8,7 +8,7 @@ use Rattle.markdown_leaves.specs.Parts.{PartContent, begins, ends}
 use Rattle.markdown_leaves.specs.Told.{parts_of}
 use Rattle.markdown_laws.specs.Items.{AreIndented, BeginsItem, begins_text}
 use Rattle.markdown_laws.specs.Quotes.{has_no_tab, has_room, spelled}
-use Rattle.markdown_sign_laws.specs.Ends.{EndsBlank}
+use Rattle.markdown_sign_laws.specs.Ends.{EndsBlank, EndsInBlock}
 use Rattle.markdown_sign_laws.specs.Words.{is_space_or_tab}
 
 -- a line is fewer spaces than so many, and then a byte that is no blank
@@ -35,4 +35,11 @@ abbrev pub ItemEndsAtLess : Type 0
 ItemEndsAtLess = (text held after first one : List ℕ) (lines others : List (List ℕ)) (marker : Marker) (content : ℕ)
     → text_lines text ≡ first ∷ (lines ++ text_lines after) → text_lines held ≡ one ∷ others → BeginsItem first one marker content → AreIndented content lines others
     → begins_text one ≡ true → list_all has_no_tab (text_lines held) ≡ true → has_room 63 (parts_of held) ≡ true → EndsBlank (text_lines held) → BeginsLess content (text_lines after)
+    → (map spelled (parts_of text) ≡ item_then marker content (map spelled (parts_of held)) (10 ∷ after)) ⊎ (map spelled (parts_of text) ≡ item_then marker content (map spelled (parts_of held)) after)
+
+-- So it is where the last leaf that the item holds is no paragraph.
+abbrev pub ItemEndsBehindBlock : Type 0
+ItemEndsBehindBlock = (text held after first one : List ℕ) (lines others : List (List ℕ)) (marker : Marker) (content : ℕ)
+    → text_lines text ≡ first ∷ (lines ++ text_lines after) → text_lines held ≡ one ∷ others → BeginsItem first one marker content → AreIndented content lines others
+    → begins_text one ≡ true → list_all has_no_tab (text_lines held) ≡ true → has_room 63 (parts_of held) ≡ true → EndsInBlock (parts_of held) → BeginsLess content (text_lines after)
     → (map spelled (parts_of text) ≡ item_then marker content (map spelled (parts_of held)) (10 ∷ after)) ⊎ (map spelled (parts_of text) ≡ item_then marker content (map spelled (parts_of held)) after)

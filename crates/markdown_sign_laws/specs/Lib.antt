@@ -1,8 +1,10 @@
+pub mod AllLines
 pub mod Blocks
 pub mod Breaks
 pub mod Ends
 pub mod Fences
 pub mod Headings
+pub mod HtmlBlocks
 pub mod ItemEnds
 pub mod Markers
 pub mod QuoteSigns

@@ -1,11 +1,13 @@
-//! Where a line is a sign of a block, and where a text has these lines: exactly where its bytes are so.
+//! Where a line is a sign of a block, and where a text has these lines: exactly where its bytes are so. Where blocks end, and that all lines are told.
 
+ghost use Rattle.markdown_sign_laws.specs.AllLines.{AllLinesAreTold};
 ghost use Rattle.markdown_sign_laws.specs.Blocks.{BreakIsRead, CodeIsRead, HeadingIsRead, OpenCodeIsRead};
 ghost use Rattle.markdown_sign_laws.specs.Breaks.{BreaksAreSaid};
-ghost use Rattle.markdown_sign_laws.specs.Ends.{QuoteEndsAtBlank, QuoteEndsBehindBlank};
+ghost use Rattle.markdown_sign_laws.specs.Ends.{QuoteEndsAtBlank, QuoteEndsBehindBlank, QuoteEndsBehindBlock};
 ghost use Rattle.markdown_sign_laws.specs.Fences.{ClosingIsSaid, FencesAreSaid};
 ghost use Rattle.markdown_sign_laws.specs.Headings.{HeadingsAreSaid};
-ghost use Rattle.markdown_sign_laws.specs.ItemEnds.{ItemEndsAtLess};
+ghost use Rattle.markdown_sign_laws.specs.HtmlBlocks.{HtmlEndsAtBlank, HtmlIsRead, HtmlLineIsRead, OpenHtmlIsRead};
+ghost use Rattle.markdown_sign_laws.specs.ItemEnds.{ItemEndsAtLess, ItemEndsBehindBlock};
 ghost use Rattle.markdown_sign_laws.specs.Markers.{MarkersAreSaid};
 ghost use Rattle.markdown_sign_laws.specs.QuoteSigns.{QuoteSignsAreSaid};
 ghost use Rattle.markdown_sign_laws.specs.TextLines.{LastLineIsCut, LineIsCut, LinesAreSaid};
@@ -98,4 +100,44 @@ pub fn quote_ends_behind_blank()
 /// Where the last line that an item holds is blank, it ends at a line that is indented by less.
 pub fn item_ends_at_less()
     ensures { ItemEndsAtLess }
+{}
+
+/// The parts of a text tell all its lines in their order, each once and behind its signs: quotes, markers, and the sign of a heading or of a fence. Lines that
+/// aren't told are blank, the end of a fence, or what underlines a heading.
+#[tactic(auto, using(crate::proofs::AllToldLemmas::all_lines_told))]
+pub fn all_lines_are_told()
+    ensures { AllLinesAreTold }
+{}
+
+/// Lines from one that begins a comment, an instruction, a declaration or a CDATA section to the first that has its end are html, blank ones too.
+#[tactic(auto, using(crate::proofs::HtmlLemmas::html_read))]
+pub fn html_is_read()
+    ensures { HtmlIsRead }
+{}
+
+/// Where the first line has the end, it is html by itself.
+pub fn html_line_is_read()
+    ensures { HtmlLineIsRead }
+{}
+
+/// Where no line has it, html is all of the text.
+#[tactic(auto, using(crate::proofs::HtmlLemmas::open_html_read))]
+pub fn open_html_is_read()
+    ensures { OpenHtmlIsRead }
+{}
+
+/// Html that begins with the tag of a block, or with another tag alone, ends before a blank line.
+#[tactic(auto, using(crate::proofs::HtmlLemmas::html_ends_at_blank))]
+pub fn html_ends_at_blank()
+    ensures { HtmlEndsAtBlank }
+{}
+
+/// Where the last leaf that a quote holds is no paragraph, it ends at a line without its sign.
+pub fn quote_ends_behind_block()
+    ensures { QuoteEndsBehindBlock }
+{}
+
+/// Where the last leaf that an item holds is no paragraph, it ends at a line that is indented by less.
+pub fn item_ends_behind_block()
+    ensures { ItemEndsBehindBlock }
 {}

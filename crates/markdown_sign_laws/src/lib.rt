@@ -1,4 +1,4 @@
-//! What signs Markdown's blocks have and what its lines are, in words about bytes alone. Each law is a function that does nothing and states it.
+//! What signs Markdown's blocks have, what its lines are and where blocks end, in words about bytes. Each law is a function that does nothing and states it.
 #![tactic(auto)]
 
 pub mod laws;

@@ -1,1 +1,3 @@
+pub mod EnoughLemmas
+pub mod OpeningLemmas
 pub mod ShownLemmas

@@ -4,7 +4,6 @@
 ghost use Rattle.markdown_text_laws.specs.Shown.{EachPieceIsShown};
 
 /// Each piece of a leaf's text is shown once, in order: words and code as they are, without their markup.
-#[tactic(auto, using(crate::proofs::ShownLemmas::each_shown))]
 pub fn each_piece_is_shown()
     ensures { EachPieceIsShown }
 {}

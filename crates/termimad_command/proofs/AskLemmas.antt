@@ -12,7 +12,7 @@ use Rattle.termimad_command.specs.Calls.{AreMistaken, Asks, AsksAnswer, IsRefuse
 use Rattle.termimad_command.specs.declared.asking.Request.{Request}
 use Rattle.termimad_command.specs.declared.asking.Request.TheVariants.{Call as SomeCall, Answer}
 use Rattle.termimad_command.specs.declared.refusals.Refusal.{Refusal}
-use Rattle.termimad_command.specs.declared.refusals.Refusal.TheVariants.{Mistaken, Undecoded, Lacking, Skin, FaultySkin, Unreadable, NotUtf8, Output, Unread, Memory}
+use Rattle.termimad_command.specs.declared.refusals.Refusal.TheVariants.{Mistaken, Undecoded, Lacking, Misplaced, Skin, FaultySkin, Unreadable, NotUtf8, Output, Unread, Memory}
 
 abbrev is_told : ErrorKind → Bool
 is_told DisplayHelp = true
@@ -66,9 +66,10 @@ told_of_words words e (Ok (Answer text)) is h = answer_asked words e is h
 told_of_words words e (Err (Mistaken text)) is h = mistake_made words e is h.0 h.1
 told_of_words words e (Err Undecoded) is h = absurd h
 told_of_words words e (Err Lacking) is h = absurd h
-told_of_words words e (Err (Skin word)) is h = absurd h
+told_of_words words e (Err Misplaced) is h = absurd h
+told_of_words words e (Err (Skin word obstacle)) is h = absurd h
 told_of_words words e (Err (FaultySkin line)) is h = absurd h
-told_of_words words e (Err (Unreadable name)) is h = absurd h
+told_of_words words e (Err (Unreadable name obstacle)) is h = absurd h
 told_of_words words e (Err NotUtf8) is h = absurd h
 told_of_words words e (Err Output) is h = absurd h
 told_of_words words e (Err Unread) is h = absurd h

@@ -1,4 +1,5 @@
 mod AskLemmas
+mod NoticeLemmas
 mod ReadLemmas
 mod RunLemmas
 mod SayLemmas

@@ -1,17 +1,17 @@
 -- What the words of a call ask for, and why they are no call.
-use Rattle.std.specs.Prelude.{◌≡◌, ◌≢◌, ◌⊎◌, ◌&&◌, ◌||◌, Bool, true, false, List, [], ◌∷◌, map, drop, Option, is_some, option_map, codes, ⊤, if◌then◌else◌}
+use Rattle.std.specs.Prelude.{◌≡◌, ◌≢◌, ◌⊎◌, ◌&&◌, ◌||◌, Bool, true, false, List, [], ◌∷◌, map, drop, Option, Some, None, is_some, option_map, codes, ⊤, if◌then◌else◌}
 use Rattle.std.specs.Borrow.{Bor}
 use Rattle.std.specs.Str.{bytes_eq}
 use Rattle.clap.specs.Words.{IsAmong, Text}
 use Rattle.clap.specs.declared.error.kind.ErrorKind.{ErrorKind}
 use Rattle.clap.specs.declared.error.kind.ErrorKind.TheVariants.{OutOfMemory}
 use Rattle.termimad_options.specs.Calls.{AreOtherLinks, IsAnswer, IsCallOf, mistakes_of}
-use Rattle.termimad_options.specs.Places.{place_said, words_left}
+use Rattle.termimad_options.specs.Places.{has_controls, place_said, words_left}
 use Rattle.termimad_options.specs.declared.calls.Call.{Call}
 use Rattle.termimad_command.specs.declared.asking.Request.{Request}
 use Rattle.termimad_command.specs.declared.asking.Request.TheVariants.{Call as SomeCall, Answer}
 use Rattle.termimad_command.specs.declared.refusals.Refusal.{Refusal}
-use Rattle.termimad_command.specs.declared.refusals.Refusal.TheVariants.{Mistaken, Lacking, Memory}
+use Rattle.termimad_command.specs.declared.refusals.Refusal.TheVariants.{Mistaken, Lacking, Misplaced, Memory}
 
 -- ---- the words
 
@@ -24,7 +24,7 @@ asks_plan (arg ∷ args) = bytes_eq arg (codes "--plan")
 abbrev pub words_behind : List Text → List Text
 words_behind args = if asks_plan args then drop 1 args else args
 
--- The words of a call: the program's name and those behind it. Of these some are options, and one says a row.
+-- The words of a call: the program's name and those behind it. Of these some are options, and one says where a text is shown first.
 pub record AreParted (args options : List Text) (place : Option Text) : Type 0 where
   pub words : List (Bor Text)
   pub all : map (λ word. word.now) words ≡ codes "termimad" ∷ words_behind args
@@ -56,6 +56,15 @@ RefusesCall words (Mistaken text) = AreMistaken words
 RefusesCall words Lacking = (call : Call) × IsCallOf words call × (asks_more call ≡ true)
 RefusesCall words Memory = ⊤
 RefusesCall words _ = ⊥
+
+-- the word that says where a text is shown first has characters that a terminal obeys
+abbrev pub is_misplaced : Option Text → Bool
+is_misplaced None = false
+is_misplaced (Some word) = has_controls word
+
+-- why a call is refused: by the word that says where a text is shown first, or by the others
+abbrev pub RefusesWords : List Text → Option Text → Refusal → Type 0
+RefusesWords words place refusal = ((refusal ≡ Misplaced) × (is_misplaced place ≡ true)) ⊎ RefusesCall words refusal
 
 -- ---- by the kind of an error
 

@@ -1,4 +1,5 @@
 pub mod Calls
+pub mod Notices
 pub mod Refusals
 pub mod Runs
 pub mod Skins

@@ -11,6 +11,7 @@ use Rattle.mad_page_skin.specs.declared.page_skin.PageSkin.{PageSkin}
 use Rattle.termimad_given.specs.Given.{Held}
 use Rattle.termimad_words.specs.GivenSkins.{page_skin_given}
 use Rattle.termimad_words.specs.SkinFaults.{text_fault_said}
+use Rattle.termimad_command.specs.Refusals.{obstacle_of}
 use Rattle.termimad_command.specs.declared.refusals.Refusal.{Refusal}
 use Rattle.termimad_command.specs.declared.refusals.Refusal.TheVariants.{Skin, FaultySkin, Memory}
 
@@ -29,9 +30,9 @@ begins_as_json (b ∷ bs) = b == 123
 abbrev pub is_said : List ℕ → Bool
 is_said word = begins_as_json word || is_made word
 
--- the text says this skin, and perhaps keys that name no part of one
-abbrev pub SaysSkin : List ℕ → PageSkin → Type 0
-SaysSkin text skin = (unknown : List (List ℕ)) × (page_skin_given (Some text) ≡ Some (skin, unknown))
+-- the text says this skin, and these keys that name no part of one
+abbrev pub SaysSkin : List ℕ → PageSkin × List (List ℕ) → Type 0
+SaysSkin text read = page_skin_given (Some text) ≡ Some read
 
 -- the line that says what is wrong with a text that says no skin: what is printable of that
 abbrev pub fault_line : List ℕ → List ℕ
@@ -52,15 +53,15 @@ RefusesText text _ = ⊥
 -- what a fault of this kind in reading the text that a word for a skin names makes of a call
 abbrev pub unread_by : Bor (List ℕ) → ErrorKind → Refusal
 unread_by word OutOfMemory = Memory
-unread_by word _ = Skin word
+unread_by word kind = Skin word (obstacle_of kind)
 
--- the word says this skin, or the text that it names does
-abbrev pub IsSkinOf : Held → List ℕ → PageSkin → Type 0
-IsSkinOf holds word skin = ((is_said word ≡ true) × SaysSkin word skin) ⊎ ((is_said word ≡ false) × ((text : List ℕ) × holds word text × SaysSkin text skin))
+-- the word says this skin and these unknown keys, or the text that it names does
+abbrev pub IsSkinOf : Held → List ℕ → PageSkin × List (List ℕ) → Type 0
+IsSkinOf holds word read = ((is_said word ≡ true) × SaysSkin word read) ⊎ ((is_said word ≡ false) × ((text : List ℕ) × holds word text × SaysSkin text read))
 
 -- the word names no skin, or there is no memory for one
 abbrev pub IsNoSkin : List ℕ → Refusal → Type 0
-IsNoSkin word (Skin named) = named.now ≡ word
+IsNoSkin word (Skin named obstacle) = named.now ≡ word
 IsNoSkin word (FaultySkin line) = ⊤
 IsNoSkin word Memory = ⊤
 IsNoSkin word _ = ⊥

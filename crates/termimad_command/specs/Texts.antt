@@ -11,6 +11,7 @@ use Rattle.termimad_run.specs.Reading.{ReadsSome, ReadsToFault, ReadsWhole}
 use Rattle.termimad_words.specs.declared.failure.Failure.{Failure}
 use Rattle.termimad_words.specs.declared.failure.Failure.TheVariants.{Memory as NoMemory}
 use Rattle.termimad_command.specs.Written.{FailsInStream, IsStreamed, RefusesBytes, Streams, WritesText, text_of}
+use Rattle.termimad_command.specs.declared.refusals.Obstacle.TheVariants.{Other}
 use Rattle.termimad_command.specs.declared.refusals.Refusal.{Refusal}
 use Rattle.termimad_command.specs.declared.refusals.Refusal.TheVariants.{Unreadable, Memory}
 use Rattle.termimad_command.specs.declared.writing.Look.{Look}
@@ -20,17 +21,17 @@ use Rattle.termimad_command.specs.declared.writing.Look.{Look}
 -- what makes of a call that the input isn't read, which has that name
 abbrev pub input_refusal : Bor (List ℕ) → Failure → Refusal
 input_refusal name NoMemory = Memory
-input_refusal name _ = Unreadable name
+input_refusal name _ = Unreadable name Other
 
 -- why the input isn't read whole: a fault, or no memory for its bytes
 abbrev pub FailsAtInput : List ℕ → Trace → Refusal → Trace → Type 0
-FailsAtInput name old (Unreadable given) new = (given.now ≡ name) × ReadsToFault old new
+FailsAtInput name old (Unreadable given obstacle) new = (given.now ≡ name) × ReadsToFault old new
 FailsAtInput name old Memory new = ReadsSome old new
 FailsAtInput name old _ new = ⊥
 
 -- why the text of a name isn't read
 abbrev pub IsUnreadable : List ℕ → Refusal → Type 0
-IsUnreadable name (Unreadable given) = given.now ≡ name
+IsUnreadable name (Unreadable given obstacle) = given.now ≡ name
 IsUnreadable name Memory = ⊤
 IsUnreadable name _ = ⊥
 

@@ -4,7 +4,7 @@ ghost use Rattle.std.specs.Prelude.{◌≡◌, MatchResult};
 ghost use Rattle.termimad_run.specs.Reading.{ReadsWhole};
 ghost use Rattle.termimad_command.specs.Texts.{FailsAtInput, IsReadAs, IsUnread, input_refusal};
 
-use crate::refusals::{Refusal, refusal_reading};
+use crate::refusals::{Obstacle, Refusal, refusal_reading};
 use mad_term::Source;
 use std::alloc::Global;
 use termimad_given::Texts;
@@ -55,6 +55,6 @@ fn input_refusal<'a>(name: &'a str, failure: Failure) -> Refusal<'a>
 {
     match failure {
         Failure::Memory => Refusal::Memory,
-        _ => Refusal::Unreadable(name),
+        _ => Refusal::Unreadable(name, Obstacle::Other),
     }
 }

@@ -1,10 +1,12 @@
 //! A call.
 
-ghost use Rattle.std.specs.Prelude.{◌≡◌, map, option_map, string_bytes};
-ghost use Rattle.termimad_command.specs.Runs.{Acts, Answers, Fulfils, HasRun, Performs, ShowsTexts, TellsPlan, look_of, names_of, place_text};
+ghost use Rattle.std.specs.Prelude.{◌≡◌, MatchResult, map, option_map, string_bytes};
+ghost use Rattle.termimad_command.specs.Calls.{is_misplaced};
+ghost use Rattle.termimad_command.specs.Runs.{Acts, Answers, Fulfils, HasRun, IsNoted, IsUnnoted, Performs, ShowsTexts, TellsPlan, look_of, names_of, place_text};
 ghost use Rattle.termimad_command.specs.Written.{streams};
 
 use crate::asking::{Request, asked};
+use crate::notices::say_notices;
 use crate::refusals::{Refusal, refuse};
 use crate::showing::show_texts;
 use crate::skins::skin_of_word;
@@ -14,14 +16,15 @@ use mad_page_skin::PageSkin;
 use mad_term::{Out, Source};
 use std::alloc::Global;
 use termimad_given::Texts;
-use termimad_options::{Call, Plan, Surroundings, plan_line, plan_of};
+use termimad_options::{Call, Plan, Surroundings, has_controls, plan_line, plan_of};
 
 /// Does what the words after the program's name ask for, and answers the status.
 ///
 /// The texts are written in their order, each as it is read, in the columns and the skin that are planned where the call is made, and then the
 /// output is flushed; without a name the input is written. With `--stream` the input is written and flushed as it comes; with
 /// `--live` it is shown so on a terminal, and what still changes is redrawn in place. Help and the version are written
-/// too. Where the first word is `--plan`, what the call would do is written instead, as a line that a shell reads. A refusal is said once, on `err`.
+/// too. Where the first word is `--plan`, what the call would do is written instead, as a line that a shell reads. Before texts are written, `err` gets a
+/// line for each key that names no part of a skin, and one for a language that isn't known. A refusal is said once, on `err`.
 /// Statuses are 0, and of a refusal 1 to 5 and 141.
 pub fn run<T: Texts, I: Source, O: Out, E: Out>(
     alloc: Global,
@@ -49,6 +52,7 @@ pub fn run<T: Texts, I: Source, O: Out, E: Out>(
         texts,
         input,
         out,
+        err,
     );
     answer(alloc, err, ran)
 }
@@ -85,7 +89,7 @@ fn answer<E: Out>(alloc: Global, err: &mut E, ran: Result<(), Refusal>) -> u8
 }
 
 // Does what the words ask for, or plans it.
-fn perform<'a, T: Texts, I: Source, O: Out>(
+fn perform<'a, T: Texts, I: Source, O: Out, E: Out>(
     alloc: Global,
     plans: bool,
     words: &'a [&str],
@@ -94,16 +98,30 @@ fn perform<'a, T: Texts, I: Source, O: Out>(
     texts: &T,
     input: &mut I,
     out: &mut O,
+    err: &mut E,
 ) -> Result<(), Refusal<'a>>
     ensures { Performs (T.holds texts.now) plans (map (λ word. word.now) words.now) (option_map (λ word. word.now) place.entry) around.now
-        (streams (I.seen input.old) (O.seen out.old)) result (streams (I.seen input.new) (O.seen out.new)) }
+        (streams (I.seen input.old) (O.seen out.old)) (E.seen err.old) result (streams (I.seen input.new) (O.seen out.new)) (E.seen err.new) }
 {
+    if is_misplaced(place) {
+        return Err(Refusal::Misplaced);
+    }
     let request = asked(alloc, words)?;
-    fulfil(alloc, plans, request, place, around, texts, input, out)
+    fulfil(alloc, plans, request, place, around, texts, input, out, err)
+}
+
+// Whether the word that says where a text is shown first has characters that a terminal obeys.
+fn is_misplaced(place: Option<&str>) -> bool
+    ensures { result ≡ is_misplaced (option_map (λ word. word.now) place.entry) }
+{
+    match place {
+        Some(word) => has_controls(word),
+        None => false,
+    }
 }
 
 // Does what is asked for: a call, or the text of an answer is written.
-fn fulfil<'a, T: Texts, I: Source, O: Out>(
+fn fulfil<'a, T: Texts, I: Source, O: Out, E: Out>(
     alloc: Global,
     plans: bool,
     request: Request<'a>,
@@ -112,21 +130,22 @@ fn fulfil<'a, T: Texts, I: Source, O: Out>(
     texts: &T,
     input: &mut I,
     out: &mut O,
+    err: &mut E,
 ) -> Result<(), Refusal<'a>>
     ensures { Fulfils (T.holds texts.now) plans request.entry (option_map (λ word. word.now) place.entry) around.now
-        (streams (I.seen input.old) (O.seen out.old)) result (streams (I.seen input.new) (O.seen out.new)) }
+        (streams (I.seen input.old) (O.seen out.old)) (E.seen err.old) result (streams (I.seen input.new) (O.seen out.new)) (E.seen err.new) }
 {
     match request {
         Request::Answer(text) => write_out(out, &text),
         Request::Call(call) => {
             let plan = plan_of(&call, around);
-            act(alloc, plans, &call, &plan, place, texts, input, out)
+            act(alloc, plans, &call, &plan, place, texts, input, out, err)
         }
     }
 }
 
 // Does a call that is planned so, or tells the plan.
-fn act<'a, T: Texts, I: Source, O: Out>(
+fn act<'a, T: Texts, I: Source, O: Out, E: Out>(
     alloc: Global,
     plans: bool,
     call: &Call<'a>,
@@ -135,14 +154,15 @@ fn act<'a, T: Texts, I: Source, O: Out>(
     texts: &T,
     input: &mut I,
     out: &mut O,
+    err: &mut E,
 ) -> Result<(), Refusal<'a>>
     ensures { Acts (T.holds texts.now) plans call.now plan.now (option_map (λ word. word.now) place.entry)
-        (streams (I.seen input.old) (O.seen out.old)) result (streams (I.seen input.new) (O.seen out.new)) }
+        (streams (I.seen input.old) (O.seen out.old)) (E.seen err.old) result (streams (I.seen input.new) (O.seen out.new)) (E.seen err.new) }
 {
     if plans {
         tell_plan(alloc, call, plan, place, out)
     } else {
-        show(alloc, call, plan, texts, input, out)
+        show(alloc, call, plan, texts, input, out, err)
     }
 }
 
@@ -164,7 +184,7 @@ fn tell_plan<'a, O: Out>(
     write_out(out, &line)
 }
 
-// The word that says the row, or no text without one.
+// The word that says where a text is shown first, or no text without one.
 fn place_text(place: Option<&str>) -> &str
     ensures { result.now ≡ place_text (option_map (λ word. word.now) place.entry) }
 {
@@ -175,17 +195,19 @@ fn place_text(place: Option<&str>) -> &str
 }
 
 // Shows the texts of a call. Where one can't be shown, those before it go out before that is said.
-fn show<'a, T: Texts, I: Source, O: Out>(
+fn show<'a, T: Texts, I: Source, O: Out, E: Out>(
     alloc: Global,
     call: &Call<'a>,
     plan: &Plan<'a>,
     texts: &T,
     input: &mut I,
     out: &mut O,
+    err: &mut E,
 ) -> Result<(), Refusal<'a>>
-    ensures { ShowsTexts (T.holds texts.now) call.now plan.now (streams (I.seen input.old) (O.seen out.old)) result (streams (I.seen input.new) (O.seen out.new)) }
+    ensures { ShowsTexts (T.holds texts.now) call.now plan.now (streams (I.seen input.old) (O.seen out.old)) (E.seen err.old) result
+        (streams (I.seen input.new) (O.seen out.new)) (E.seen err.new) }
 {
-    let skin = skin_of_word(alloc, texts, plan.skin)?;
+    let skin = skin_noted(alloc, call, plan, texts, err)?;
     let look = look_of(plan, skin);
     let names = names_of(call);
     match show_texts(alloc, &look, call.grammar, names, texts, input, out) {
@@ -195,6 +217,22 @@ fn show<'a, T: Texts, I: Source, O: Out>(
             Err(refusal)
         }
     }
+}
+
+// The skin of a call; what isn't known of it and of the language is said.
+fn skin_noted<'a, T: Texts, E: Out>(
+    alloc: Global,
+    call: &Call<'a>,
+    plan: &Plan<'a>,
+    texts: &T,
+    err: &mut E,
+) -> Result<PageSkin, Refusal<'a>>
+    ensures { MatchResult result (λ skin. IsNoted (T.holds texts.now) call.now plan.now skin (E.seen err.old) (E.seen err.new))
+        (λ refusal. IsUnnoted plan.now refusal (E.seen err.old) (E.seen err.new)) }
+{
+    let read = skin_of_word(alloc, texts, plan.skin)?;
+    say_notices(alloc, err, call.grammar, read.1.as_slice())?;
+    Ok(read.0)
 }
 
 // How texts are written by a plan, in this skin.

@@ -1,11 +1,11 @@
 //! The skin of a call.
 
-ghost use Rattle.std.specs.Prelude.{◌≡◌, IfOk, MatchResult, Some, string_bytes};
+ghost use Rattle.std.specs.Prelude.{◌≡◌, IfOk, MatchResult, Some, map, string_bytes};
 ghost use Rattle.std.specs.IoError.{error_kind};
 ghost use Rattle.termimad_words.specs.GivenSkins.{RefusesPageSkin};
 ghost use Rattle.termimad_command.specs.Skins.{IsNoSkin, IsSkinOf, RefusesSkinWord, RefusesText, SaysFault, SaysSkin, begins_as_json, fault_line, is_made, is_said, unread_by};
 
-use crate::refusals::Refusal;
+use crate::refusals::{Obstacle, Refusal, obstacle_of};
 use mad_measure::printable;
 use mad_page_skin::PageSkin;
 use std::alloc::{AllocError, Global};
@@ -13,7 +13,8 @@ use std::io::{self, ErrorKind};
 use termimad_given::Texts;
 use termimad_words::{Failure, page_skin_fault, page_skin_of_word};
 
-/// The skin of a word: the made one of that name, what it says as JSON text, or what the text of that name says so.
+/// The skin of a word: the made one of that name, what it says as JSON text, or what the text of that name says so. With it come those of its keys that
+/// name no part of one.
 ///
 /// # Errors
 ///
@@ -22,8 +23,8 @@ pub(crate) fn skin_of_word<'a, T: Texts>(
     alloc: Global,
     texts: &T,
     word: &'a str,
-) -> Result<PageSkin, Refusal<'a>>
-    ensures { MatchResult result (IsSkinOf (T.holds texts.now) word.now) (RefusesSkinWord word.now) }
+) -> Result<(PageSkin, Vec<String>), Refusal<'a>>
+    ensures { MatchResult result (λ read. IsSkinOf (T.holds texts.now) word.now (read.0, map string_bytes read.1.items)) (RefusesSkinWord word.now) }
 {
     if is_said(word) {
         return skin_said(alloc, word);
@@ -40,16 +41,20 @@ fn skin_unread<'a>(word: &'a str, error: &io::Error) -> Refusal<'a>
 {
     match error.kind() {
         ErrorKind::OutOfMemory => Refusal::Memory,
-        _ => Refusal::Skin(word),
+        kind => Refusal::Skin(word, obstacle_of(kind)),
     }
 }
 
 // The skin that the text says which a word names, and which these bytes are.
-fn skin_in<'a>(alloc: Global, word: &'a str, bytes: &[u8]) -> Result<PageSkin, Refusal<'a>>
-    ensures { MatchResult result (SaysSkin bytes.now) (IsNoSkin word.now) }
+fn skin_in<'a>(
+    alloc: Global,
+    word: &'a str,
+    bytes: &[u8],
+) -> Result<(PageSkin, Vec<String>), Refusal<'a>>
+    ensures { MatchResult result (λ read. SaysSkin bytes.now (read.0, map string_bytes read.1.items)) (IsNoSkin word.now) }
 {
     let Ok(text) = str::from_utf8(bytes) else {
-        return Err(Refusal::Skin(word));
+        return Err(Refusal::Skin(word, Obstacle::NoText));
     };
     skin_said(alloc, text)
 }
@@ -79,12 +84,12 @@ fn is_made(word: &str) -> bool
     matches!(word, "default" | "dark" | "light" | "sixteen" | "none")
 }
 
-// The skin that a text says.
-fn skin_said<'a>(alloc: Global, text: &str) -> Result<PageSkin, Refusal<'a>>
-    ensures { MatchResult result (SaysSkin text.now) (RefusesText text.now) }
+// The skin that a text says, and its unknown keys.
+fn skin_said<'a>(alloc: Global, text: &str) -> Result<(PageSkin, Vec<String>), Refusal<'a>>
+    ensures { MatchResult result (λ read. SaysSkin text.now (read.0, map string_bytes read.1.items)) (RefusesText text.now) }
 {
     match page_skin_of_word(alloc, Some(text)) {
-        Ok((skin, _)) => Ok(skin),
+        Ok(read) => Ok(read),
         Err(failure) => Err(skin_refusal(alloc, text, failure)),
     }
 }

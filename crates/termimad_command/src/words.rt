@@ -6,7 +6,7 @@ ghost use Rattle.termimad_command.specs.Calls.{AreParted, asks_plan, words_behin
 use std::alloc::{AllocError, Global};
 use termimad_options::{Parted, part_places};
 
-/// Whether the words behind the program's name ask for the plan of a call alone, and these words parted: options, and the row that a text is shown from.
+/// Whether the words behind the program's name ask for the plan of a call alone, and these words parted: options, and where a text is shown first.
 ///
 /// # Errors
 ///

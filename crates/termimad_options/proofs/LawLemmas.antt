@@ -1,12 +1,19 @@
 -- What callers rely on.
-use Rattle.std.proofs.Common.{◌≡◌, ◌&&◌, List, [], ◌∷◌, Option, Some, None, Bool, true, false, refl, ap, map, option_map, is_some, unwrap_or, true≢false}
+use Rattle.std.proofs.Common.{◌≡◌, ◌&&◌, List, [], ◌∷◌, Option, Some, None, Bool, true, false, refl, ap, map, option_map, is_some, unwrap_or, true≢false, ℕ, nat_lt, codes, ltb-true}
+use Rattle.std.proofs.lemmas.Str.{chars-IsAscii}
+use Rattle.std.proofs.lemmas.Str.Ascii.{IsAscii-cons, IsAscii-nil}
+use Rattle.std.specs.Char.{is_control}
+use Rattle.std.specs.List.{list_all, list_any}
+use Rattle.std.specs.Str.{IsAscii}
+use Rattle.clap.proofs.WalkLemmas.{both}
 use Rattle.clap.proofs.OnLiterals.{clap_on_literals}
 use Rattle.termimad_options.specs.Rules.{termimad_rules}
 use Rattle.code_names.specs.Names.{language_names}
 use Rattle.code_words.specs.Words.{file_names}
 use Rattle.termimad_options.specs.declared.calls.Links.TheVariants.{Auto, Always, Never}
+use Rattle.termimad_options.specs.Places.{has_controls, is_place}
 use Rattle.termimad_options.specs.Plans.{obeys}
-use Rattle.termimad_options.specs.Laws.{LinksNeedStyles, NamesAskNothing, OptionsWin, PipesStayPlain, SomeCalls, SomeNames, TerminalsPage}
+use Rattle.termimad_options.specs.Laws.{LinksNeedStyles, NamesAskNothing, OptionsWin, PipesStayPlain, SomeCalls, SomeLanguages, SomeNames, SomePlaces, TerminalsPage}
 
 pub pipes_plain : PipesStayPlain
 pipes_plain call around e = (rw e refl, rw e refl, λ s t. rw (s, t, e) refl, rw e refl)
@@ -84,4 +91,35 @@ names_read = record {
   markdown = refl;
   other = refl;
   input = refl;
+}
+
+pub languages_understood : SomeLanguages
+unfolding file_names language_names
+languages_understood = record { rust = refl; file = refl; known = refl; none = refl; unknown = refl; other_file = refl; empty = refl }
+
+ascii_text : (bs : List ℕ) → list_all (λ b. nat_lt b 128) bs ≡ true → IsAscii bs
+ascii_text [] e = IsAscii-nil
+ascii_text (b ∷ bs) e =
+    let parts = both _ _ e in
+    IsAscii-cons b bs (ltb-true _ _ parts.0) (ascii_text bs parts.1)
+
+-- a text of ASCII has the controls that its bytes are
+has_as_bytes : (bs : List ℕ) → list_all (λ b. nat_lt b 128) bs ≡ true → has_controls bs ≡ list_any is_control bs
+has_as_bytes bs e = ap (list_any is_control) (chars-IsAscii bs (ascii_text bs e))
+
+pub places_read : SomePlaces
+unfolding is_place
+places_read = record {
+  row = refl;
+  end = refl;
+  follows = refl;
+  on = refl;
+  back = refl;
+  nothing = refl;
+  no_text = refl;
+  word = refl;
+  mixed = refl;
+  file = refl;
+  escape = has_as_bytes (43 ∷ 47 ∷ 27 ∷ []) refl;
+  text = has_as_bytes (codes "+/it's so") refl;
 }

@@ -5,7 +5,8 @@ use Rattle.std.specs.Str.{bytes_eq}
 use Rattle.clap.specs.Words.{Row, Text, matches_of}
 use Rattle.termimad_options.specs.Rules.{termimad_rules}
 use Rattle.termimad_options.specs.Calls.{IsCallOf, Reading, as_code, as_markdown, as_plain, columns_written, is_call, is_said, last_said}
-use Rattle.termimad_options.specs.Names.{reading_of_file}
+use Rattle.termimad_options.specs.Names.{is_understood, reading_of_file}
+use Rattle.termimad_options.specs.Places.{has_controls, is_place}
 use Rattle.termimad_options.specs.Plans.{columns_of, obeys, says_links, screen_of, skin_of, suiting, way_of}
 use Rattle.termimad_options.specs.declared.calls.Call.{Call}
 use Rattle.termimad_options.specs.declared.calls.Links.{Links}
@@ -93,3 +94,28 @@ pub record SomeNames : Type 0 where
   pub markdown : reading_of_file None (codes "README.md") ≡ as_markdown
   pub other : reading_of_file None (codes "README") ≡ as_markdown
   pub input : reading_of_file None (codes "-") ≡ as_markdown
+
+-- Some words of --code: whether they are understood.
+pub record SomeLanguages : Type 0 where
+  pub rust : is_understood (codes "rust") ≡ true
+  pub file : is_understood (codes "src/main.rs") ≡ true
+  pub known : is_understood (codes "CMakeLists.txt") ≡ true
+  pub none : is_understood (codes "text") ≡ true
+  pub unknown : is_understood (codes "zzz") ≡ false
+  pub other_file : is_understood (codes "notes.zzz") ≡ false
+  pub empty : is_understood [] ≡ false
+
+-- Some words: whether they say where a text is shown first.
+pub record SomePlaces : Type 0 where
+  pub row : is_place (codes "+20") ≡ true
+  pub end : is_place (codes "+G") ≡ true
+  pub follows : is_place (codes "+F") ≡ true
+  pub on : is_place (codes "+/it's (so|no)") ≡ true
+  pub back : is_place (codes "+?a") ≡ true
+  pub nothing : is_place (codes "+") ≡ false
+  pub no_text : is_place (codes "+/") ≡ false
+  pub word : is_place (codes "+Go") ≡ false
+  pub mixed : is_place (codes "+2G") ≡ false
+  pub file : is_place (codes "a+20") ≡ false
+  pub escape : has_controls (43 ∷ 47 ∷ 27 ∷ []) ≡ true
+  pub text : has_controls (codes "+/it's so") ≡ false

@@ -1,8 +1,9 @@
 -- How a text is read by its file's name.
-use Rattle.std.specs.Prelude.{◌-◌, ◌||◌, Bool, length, drop, Option, unwrap_or, codes, if◌then◌else◌}
+use Rattle.std.specs.Prelude.{◌-◌, ◌||◌, Bool, length, drop, Option, is_some, unwrap_or, codes, if◌then◌else◌}
 use Rattle.std.specs.Str.{bytes_eq}
 use Rattle.clap.specs.Words.{Text}
-use Rattle.code_words.specs.Words.{names_language}
+use Rattle.code_names.specs.Names.{language_of}
+use Rattle.code_words.specs.Words.{language_word, names_language}
 use Rattle.termimad_options.specs.Calls.{Reading, as_code, as_markdown, as_plain}
 
 -- the name ends with this
@@ -20,3 +21,7 @@ reading_by_name name = if names_language name then as_code name else if is_plain
 -- how a file is read: as an option says, or else by its name
 abbrev pub reading_of_file : Option Reading → Text → Reading
 reading_of_file said name = unwrap_or said (reading_by_name name)
+
+-- a word of --code is understood: it says that there is no language, or names one, or a file of one
+abbrev pub is_understood : Text → Bool
+is_understood word = bytes_eq word (codes "text") || bytes_eq word (codes "plain") || is_some (language_of (language_word word))

@@ -1,6 +1,6 @@
 //! What callers rely on.
 
-ghost use Rattle.termimad_options.specs.Laws.{LinksNeedStyles, NamesAskNothing, OptionsWin, PipesStayPlain, SomeCalls, SomeNames, TerminalsPage};
+ghost use Rattle.termimad_options.specs.Laws.{LinksNeedStyles, NamesAskNothing, OptionsWin, PipesStayPlain, SomeCalls, SomeLanguages, SomeNames, SomePlaces, TerminalsPage};
 
 /// Where standard output is no terminal, texts are written, nothing is redrawn, and there are no styles where no skin is named.
 #[tactic(auto, using(crate::proofs::LawLemmas::pipes_plain))]
@@ -42,4 +42,16 @@ pub fn calls_are_read()
 #[tactic(auto, using(crate::proofs::LawLemmas::names_read))]
 pub fn names_are_read()
     ensures { SomeNames }
+{}
+
+/// Which languages some words say.
+#[tactic(auto, using(crate::proofs::LawLemmas::languages_understood))]
+pub fn languages_are_understood()
+    ensures { SomeLanguages }
+{}
+
+/// Which words say where a text is shown first.
+#[tactic(auto, using(crate::proofs::LawLemmas::places_read))]
+pub fn places_are_read()
+    ensures { SomePlaces }
 {}

@@ -2,7 +2,7 @@
 //!
 //! 1. [`rules`]: which options there are.
 //! 2. [`calls`]: what the words of a call ask for.
-//! 3. [`places`]: the row that a text is shown from, which words say too.
+//! 3. [`places`]: where a text is shown first, which words say too.
 //! 4. [`names`]: how a text is read by its file's name.
 //! 5. [`plans`]: what a call does where it is made.
 //! 6. [`telling`]: what is known of where it is made; [`plan_lines`]: the plan as a line that a shell reads.
@@ -19,8 +19,8 @@ mod rules;
 mod telling;
 
 pub use calls::{Call, Grammar, Links, call_of, columns_written};
-pub use names::grammar_of_file;
-pub use places::{Parted, part_places};
+pub use names::{grammar_of_file, is_understood};
+pub use places::{Parted, has_controls, part_places};
 pub use plan_lines::plan_line;
 pub use plans::{Plan, Screen, Shade, Surroundings, Way, plan_of};
 pub use rules::options;

@@ -2,10 +2,11 @@
 
 ghost use Rattle.std.specs.Prelude.{◌≡◌, option_map};
 ghost use Rattle.termimad_options.specs.Calls.{reading_of};
-ghost use Rattle.termimad_options.specs.Names.{ends_with, is_plain_name, reading_by_name, reading_of_file};
+ghost use Rattle.termimad_options.specs.Names.{ends_with, is_plain_name, is_understood, reading_by_name, reading_of_file};
 
 use crate::calls::Grammar;
-use code_words::names_language;
+use code_names::language_of;
+use code_words::{language_word, names_language};
 
 /// How a file of this name is read: as an option says, or else by the name.
 pub fn grammar_of_file<'a>(said: Option<Grammar<'a>>, name: &'a str) -> Grammar<'a>
@@ -15,6 +16,13 @@ pub fn grammar_of_file<'a>(said: Option<Grammar<'a>>, name: &'a str) -> Grammar<
         Some(grammar) => grammar,
         None => grammar_by_name(name),
     }
+}
+
+/// Whether a word of `--code` is understood: it says a language, as a name of it or of a file does, or that there is none.
+pub fn is_understood(word: &str) -> bool
+    ensures { result ≡ is_understood word.now }
+{
+    word == "text" || word == "plain" || language_of(language_word(word)).is_some()
 }
 
 // How a file of this name is read where no option says it.

@@ -1,24 +1,35 @@
 -- What the words after the program's name ask for. A word is its bytes.
-use Rattle.std.specs.Prelude.{◌≡◌, ℕ, ◌^◌, ◌<◌, true, false, List, [], ◌∷◌, codes, Option, Some, None, unwrap_or, if◌then◌else◌}
+use Rattle.std.specs.Prelude.{◌≡◌, ℕ, ◌^◌, ◌<◌, true, false, List, [], ◌∷◌, codes, Option, Some, None, option_map, unwrap_or, if◌then◌else◌}
 use Rattle.std.specs.Str.{bytes_eq}
 use Rattle.std.specs.Str.Parse.{IsNumeral, digits_value}
 use Rattle.mad_page.specs.Pages.{files_named}
 use Rattle.mad_page.specs.declared.page.Files.{Files}
+use Rattle.mad_pager.specs.Following.{name_within}
 use Rattle.termimad_page_run.specs.declared.program.Grammar.{Grammar}
 use Rattle.termimad_page_run.specs.declared.program.Grammar.TheVariants.{Lines, Markdown, Plain}
 use Rattle.termimad_words.specs.Numbers.{IsNumber}
+use Rattle.termimad_page.specs.declared.call.Beginning.{Beginning}
 use Rattle.termimad_page.specs.declared.call.Place.{Place}
 use Rattle.termimad_page.specs.declared.call.Place.TheVariants.{OnScreen, Whole}
 
--- where a text is shown: under a name on a screen of so many columns and rows, with these files beside it, from the row of this number on; or whole, in
--- so many columns
+-- where a text begins: the number of the row on top, or else the name of a link that leads to the place there; and which keys come first
+pub record Start : Type 0 where
+  pub row : ℕ
+  pub target : Option (List ℕ)
+  pub keys : List ℕ
+
+-- where a text is shown: under a name on a screen of so many columns and rows, with these files beside it, from there on; or whole, in so many columns
 pub data Where : Type 0 where
-  on_screen : List ℕ → ℕ → ℕ → Files → ℕ → Where
+  on_screen : List ℕ → ℕ → ℕ → Files → Start → Where
   as_whole : ℕ → Where
+
+-- where it begins
+abbrev pub start_of : Beginning → Start
+start_of begins = record { row = begins.row; target = option_map (λ name. name.now) begins.target; keys = begins.keys.now }
 
 -- where a place is
 abbrev pub where_of : Place → Where
-where_of (OnScreen screen) = on_screen screen.name.now screen.columns screen.rows screen.files screen.start
+where_of (OnScreen screen) = on_screen screen.name.now screen.columns screen.rows screen.files (start_of screen.begins)
 where_of (Whole columns) = as_whole columns
 
 -- no files beside it
@@ -31,21 +42,35 @@ pub record IsRowNumber (word : List ℕ) (n : ℕ) : Type 0 where
   pub value : n ≡ digits_value 10 word
   pub limit : n < 2 ^ 64
 
--- the words after PLACE: ROW, which is 0 without one
-abbrev pub SaysStart : List (List ℕ) → ℕ → Type 0
-SaysStart [] start = start ≡ 0
-SaysStart (r ∷ []) start = IsRowNumber r start
+-- the word names a place, as `#name`, if there is a name, and else is the number of a row
+abbrev pub SaysRowOr : Option (List ℕ) → List ℕ → Start → Type 0
+SaysRowOr (Some name) word start = (start.row ≡ 0) × (start.target ≡ Some name)
+SaysRowOr None word start = IsRowNumber word start.row × (start.target ≡ None)
+
+-- it says where a text begins
+abbrev pub SaysRow : List ℕ → Start → Type 0
+SaysRow word start = SaysRowOr (name_within word) word start
+
+-- at the text's start, by no keys
+abbrev pub at_start : Start
+at_start = record { row = 0; target = None; keys = [] }
+
+-- the words after PLACE: ROW, or `#` and a name, and KEYS, which are any bytes
+abbrev pub SaysStart : List (List ℕ) → Start → Type 0
+SaysStart [] start = start ≡ at_start
+SaysStart (r ∷ []) start = SaysRow r start × (start.keys ≡ [])
+SaysStart (r ∷ k ∷ []) start = SaysRow r start × (start.keys ≡ k)
 SaysStart _ start = ⊥
 
--- the words after ROWS: SKIN, NAME, which is FILE without one, PLACE, and ROW; those at the end may be left out
-abbrev pub SaysMore : List ℕ → List (List ℕ) → Option (List ℕ) → List ℕ → Files → ℕ → Type 0
-SaysMore file [] skin name files start = (skin ≡ None) × (name ≡ file) × (files ≡ no_files) × (start ≡ 0)
-SaysMore file (s ∷ []) skin name files start = (skin ≡ Some s) × (name ≡ file) × (files ≡ no_files) × (start ≡ 0)
-SaysMore file (s ∷ n ∷ []) skin name files start = (skin ≡ Some s) × (name ≡ n) × (files ≡ no_files) × (start ≡ 0)
+-- the words after ROWS: SKIN, NAME, which is FILE without one, PLACE, ROW and KEYS; those at the end may be left out
+abbrev pub SaysMore : List ℕ → List (List ℕ) → Option (List ℕ) → List ℕ → Files → Start → Type 0
+SaysMore file [] skin name files start = (skin ≡ None) × (name ≡ file) × (files ≡ no_files) × (start ≡ at_start)
+SaysMore file (s ∷ []) skin name files start = (skin ≡ Some s) × (name ≡ file) × (files ≡ no_files) × (start ≡ at_start)
+SaysMore file (s ∷ n ∷ []) skin name files start = (skin ≡ Some s) × (name ≡ n) × (files ≡ no_files) × (start ≡ at_start)
 SaysMore file (s ∷ n ∷ p ∷ rest) skin name files start = (skin ≡ Some s) × (name ≡ n) × (files_named p ≡ Some files) × SaysStart rest start
 
--- the words after `page`: FILE COLUMNS ROWS [SKIN [NAME [PLACE [ROW]]]]
-abbrev pub AsksScreen : List (List ℕ) → List ℕ → Option (List ℕ) → List ℕ → ℕ → ℕ → Files → ℕ → Type 0
+-- the words after `page`: FILE COLUMNS ROWS [SKIN [NAME [PLACE [ROW [KEYS]]]]]
+abbrev pub AsksScreen : List (List ℕ) → List ℕ → Option (List ℕ) → List ℕ → ℕ → ℕ → Files → Start → Type 0
 AsksScreen (given ∷ wide ∷ high ∷ more) file skin name columns rows files start =
     (file ≡ given) × IsNumber wide columns × IsNumber high rows × SaysMore given more skin name files start
 AsksScreen _ file skin name columns rows files start = ⊥

@@ -20,18 +20,20 @@ use Rattle.termimad_page.specs.declared.failing.Refusal.TheVariants.{Failed, Unr
 -- editor was, 10 where a link is to be followed, and else 0
 abbrev pub status_of_end : End → ℕ
 status_of_end Quits = 0
-status_of_end NextFile = 6
-status_of_end PreviousFile = 7
+status_of_end (NextFile row) = 6
+status_of_end (PreviousFile row) = 7
 status_of_end (Reload row) = 8
 status_of_end (Edit row) = 9
 status_of_end (Follow row link) = 10
 
 -- the number of the row that an end tells, if it tells one
 abbrev pub row_of_end : End → Option ℕ
+row_of_end Quits = None
+row_of_end (NextFile row) = Some row
+row_of_end (PreviousFile row) = Some row
 row_of_end (Reload row) = Some row
 row_of_end (Edit row) = Some row
 row_of_end (Follow row link) = Some row
-row_of_end end = None
 
 -- the line that tells it: `row 12`, and a newline (10)
 abbrev pub row_line : ℕ → List ℕ
@@ -54,7 +56,7 @@ status_of Unread = 141
 -- the line that is said of a failure
 abbrev pub failure_line : Failure → List ℕ
 failure_line Io = codes "termimad-page: the file can't be read, or the output failed\n"
-failure_line Usage = codes "usage: termimad-page [--grows MARK] [GRAMMAR] page FILE COLUMNS ROWS [SKIN [NAME [PLACE [ROW]]]] | [GRAMMAR] whole FILE [SKIN [COLUMNS]]; GRAMMAR is --lines, --plain or --plain=none\n"
+failure_line Usage = codes "usage: termimad-page [--grows MARK] [GRAMMAR] page FILE COLUMNS ROWS [SKIN [NAME [PLACE [ROW [KEYS]]]]] | [GRAMMAR] whole FILE [SKIN [COLUMNS]]; GRAMMAR is --lines, --plain or --plain=none\n"
 failure_line NotUtf8 = codes "termimad-page: the file is not UTF-8\n"
 failure_line Skin = codes "termimad-page: skin\n"
 failure_line Memory = codes "termimad-page: memory\n"

@@ -1,13 +1,13 @@
 -- What a run does to its devices, and how it ends.
 use Rattle.std.specs.Str.Lossy.{utf8_lossy}
-use Rattle.std.specs.Prelude.{◌≡◌, ◌⊎◌, ℕ, Bool, true, false, List, Option, Some, None, Result, Ok, Err, MatchResult, IsErrOf, IsUtf8, ⊤}
+use Rattle.std.specs.Prelude.{◌≡◌, ◌⊎◌, ℕ, Bool, true, false, List, Option, Some, None, option_map, Result, Ok, Err, MatchResult, IsErrOf, IsUtf8, ⊤}
 use Rattle.mad_layout.specs.RowSkins.{row_skin}
 use Rattle.mad_layout.specs.WrittenParts.{WritesParts}
 use Rattle.mad_page.specs.declared.page.Files.{Files}
 use Rattle.mad_plain_rows.specs.PlainRows.{WritesPlain}
 use Rattle.mad_page_skin.specs.declared.page_skin.PageSkin.{PageSkin}
 use Rattle.mad_pager.specs.declared.session.End.TheVariants.{Quits}
-use Rattle.mad_term.specs.Trace.{Trace, failed, flushed}
+use Rattle.mad_term.specs.Trace.{Trace, ahead_all, failed, flushed}
 use Rattle.mad_term.specs.declared.errors.Error.{Error}
 use Rattle.mad_term.specs.declared.errors.Error.TheVariants.{Memory as NoMemory}
 use Rattle.markdown_layout.specs.WrittenPages.{WritesDressed}
@@ -24,7 +24,7 @@ use Rattle.termimad_page_run.specs.declared.program.Grammar.TheVariants.{Lines, 
 use Rattle.termimad_page_run.specs.declared.program.Sheet.{Sheet}
 use Rattle.termimad_words.specs.declared.failure.Failure.{Failure}
 use Rattle.termimad_words.specs.declared.failure.Failure.TheVariants.{Io, Usage, NotUtf8, Memory}
-use Rattle.termimad_page.specs.Calls.{Asks, IsNoCall, Where, as_whole, on_screen}
+use Rattle.termimad_page.specs.Calls.{Asks, IsNoCall, Start, Where, as_whole, on_screen}
 use Rattle.termimad_page.specs.Ends.{Says, SaysEnd, end_lines, refusal_of, status_of, status_of_end}
 use Rattle.termimad_page.specs.Skins.{RefusesSkinFor, skin_for}
 use Rattle.termimad_page.specs.declared.failing.Refusal.{Refusal}
@@ -99,24 +99,25 @@ WritesWhole grammar skin columns text old r new = MatchResult r
     (λ left. (left ≡ quitting) × HasWritten grammar skin columns text old flushed new)
     (λ refusal. IsUnwritten grammar skin columns text old refusal new)
 
--- The sheet has this text, read so, in this skin, under this name, on a screen of so many columns and rows, with these files beside it, from the row of this
--- number on.
-pub record IsSheetOf (grammar : Grammar) (skin : PageSkin) (name : List ℕ) (columns rows : ℕ) (files : Files) (start : ℕ) (text : List ℕ) (sheet : Sheet) : Type 0 where
+-- The sheet has this text, read so, in this skin, under this name, on a screen of so many columns and rows, with these files beside it, from there on.
+pub record IsSheetOf (grammar : Grammar) (skin : PageSkin) (name : List ℕ) (columns rows : ℕ) (files : Files) (start : Start) (text : List ℕ) (sheet : Sheet) : Type 0 where
   pub grammar_is : sheet.grammar ≡ grammar
   pub skin_is : sheet.skin.now ≡ skin
   pub name_is : sheet.name.now ≡ name
   pub columns_are : sheet.columns ≡ columns
   pub rows_are : sheet.rows ≡ rows
   pub files_are : sheet.files ≡ files
-  pub start_is : sheet.start ≡ start
+  pub start_is : sheet.start ≡ start.row
+  pub target_is : option_map (λ name. name.now) sheet.target ≡ start.target
   pub text_is : sheet.text.now ≡ text
 
--- a text is paged until a key or the input ends it, or up to a fault
-abbrev pub PagesText : Grammar → PageSkin → List ℕ → ℕ → ℕ → Files → ℕ → List ℕ → Trace → Trace → Result Leaving Refusal → Trace → Trace → Type 0
+-- A text is paged by the keys that come first and then by those of the input, until a key or the input ends it, or up to a fault. Some of the first ones may
+-- be left then.
+abbrev pub PagesText : Grammar → PageSkin → List ℕ → ℕ → ℕ → Files → Start → List ℕ → Trace → Trace → Result Leaving Refusal → Trace → Trace → Type 0
 PagesText grammar skin name columns rows files start text keys screen r new_keys new_screen =
-    (sheet : Sheet) × IsSheetOf grammar skin name columns rows files start text sheet
-    × MatchResult r (λ left. IsPagedTo sheet left keys new_keys screen new_screen)
-    (λ refusal. (e : Error) × (refusal ≡ refusal_of e) × IsBrokenRun sheet e keys new_keys screen new_screen)
+    (sheet : Sheet) × IsSheetOf grammar skin name columns rows files start text sheet × (rest : List ℕ)
+    × MatchResult r (λ left. IsPagedTo sheet left (ahead_all start.keys keys) (ahead_all rest new_keys) screen new_screen)
+    (λ refusal. (e : Error) × (refusal ≡ refusal_of e) × IsBrokenRun sheet e (ahead_all start.keys keys) (ahead_all rest new_keys) screen new_screen)
 
 -- a text is shown in its place; the devices of the other one are left alone
 abbrev pub ShowsText : Grammar → PageSkin → Where → List ℕ → Devices → Result Leaving Refusal → Devices → Type 0
@@ -150,22 +151,23 @@ abbrev pub comes : Option (List ℕ) → Where → Bool
 comes (Some mark) (on_screen name columns rows files start) = true
 comes mark place = false
 
--- The frame has this name, grammar and skin, on a screen of so many columns and rows, with these files beside the text, from the row of this number on.
-pub record IsFrameOf (grammar : Grammar) (skin : PageSkin) (name : List ℕ) (columns rows : ℕ) (files : Files) (start : ℕ) (frame : Frame) : Type 0 where
+-- The frame has this name, grammar and skin, on a screen of so many columns and rows, with these files beside the text, from the row of this number on: the
+-- start for a place that is named.
+pub record IsFrameOf (grammar : Grammar) (skin : PageSkin) (name : List ℕ) (columns rows : ℕ) (files : Files) (start : Start) (frame : Frame) : Type 0 where
   pub grammar_is : frame.grammar ≡ grammar
   pub skin_is : frame.skin.now ≡ skin
   pub name_is : frame.name.now ≡ name
   pub columns_are : frame.columns ≡ columns
   pub rows_are : frame.rows ≡ rows
   pub files_are : frame.files ≡ files
-  pub start_is : frame.start ≡ start
+  pub start_is : frame.start ≡ start.row
 
--- a text that comes is paged until a key or the input ends it, or up to a fault
-abbrev pub PagesComing : Grammar → PageSkin → List ℕ → ℕ → ℕ → Files → ℕ → Arrival → Trace → Trace → Result Leaving Refusal → Trace → Trace → Type 0
+-- a text that comes is paged so
+abbrev pub PagesComing : Grammar → PageSkin → List ℕ → ℕ → ℕ → Files → Start → Arrival → Trace → Trace → Result Leaving Refusal → Trace → Trace → Type 0
 PagesComing grammar skin name columns rows files start coming keys screen r new_keys new_screen =
-    (frame : Frame) × IsFrameOf grammar skin name columns rows files start frame
-    × MatchResult r (λ left. IsPagedGrowing frame left coming keys new_keys screen new_screen)
-    (λ refusal. (e : Error) × (refusal ≡ refusal_of e) × IsBrokenGrowing frame e coming keys new_keys screen new_screen)
+    (frame : Frame) × IsFrameOf grammar skin name columns rows files start frame × (rest : List ℕ)
+    × MatchResult r (λ left. IsPagedGrowing frame left coming (ahead_all start.keys keys) (ahead_all rest new_keys) screen new_screen)
+    (λ refusal. (e : Error) × (refusal ≡ refusal_of e) × IsBrokenGrowing frame e coming (ahead_all start.keys keys) (ahead_all rest new_keys) screen new_screen)
 
 -- nothing was read of a text that comes
 pub record IsFreshArrival (coming : Arrival) : Type 0 where

@@ -1,5 +1,5 @@
 -- The program's run on the standard streams.
-use Rattle.std.specs.Prelude.{◌≡◌, ◌⊎◌, ℕ, List, Result}
+use Rattle.std.specs.Prelude.{◌≡◌, ◌⊎◌, ℕ, List, [], Some, Result}
 use Rattle.mad_term.specs.Stream.{untold}
 use Rattle.mad_term.specs.Trace.{Trace}
 use Rattle.termimad_given.specs.Given.{Args, GivesWords, LacksWords, files}
@@ -20,12 +20,16 @@ refusal_of_words NoMemory = Failed Memory
 abbrev pub RefusesGiven : {E : Type 0} → Result Args E → Refusal → Type 0
 RefusesGiven given refusal = (refusal ≡ Failed Memory) ⊎ ((lacking : NoWords) × LacksWords given lacking × (refusal ≡ refusal_of_words lacking))
 
+-- a screen in which nothing was put
+abbrev pub nothing_put : Trace
+nothing_put = record { bytes = Some []; faults = 0; flushes = 0 }
+
 -- A run on the words that are given, on devices that had done nothing yet, ended with this status. Standard error went from the one trace to the other.
 pub record HasRunGiven {E : Type 0} (given : Result Args E) (old : Trace) (status : ℕ) (new : Trace) : Type 0 where
   pub words : List (List ℕ)
   pub gives : GivesWords given words
   pub ended : Devices
-  pub ran : HasRun files words (devices untold untold untold) old status ended new
+  pub ran : HasRun files words (devices untold nothing_put untold) old status ended new
 
 -- nothing is run, which is said, with its status
 pub record IsRefused {E : Type 0} (given : Result Args E) (old : Trace) (status : ℕ) (new : Trace) : Type 0 where

@@ -2,7 +2,8 @@
 
 ghost use Rattle.std.specs.Prelude.{◌≡◌, ℕ, List, Option, MatchOption, map, option_map, string_bytes};
 ghost use Rattle.mad_page.specs.declared.page.Files.{Files as SomeFiles};
-ghost use Rattle.termimad_page.specs.Calls.{Asks, AsksPlace, AsksScreen, AsksWhole, IsNoCall, IsRowNumber, SaysMore, SaysStart, Where, grammar_said, mark_said, named_grammar, where_of, words_behind, words_unmarked};
+ghost use Rattle.mad_pager.specs.Following.{name_within};
+ghost use Rattle.termimad_page.specs.Calls.{Asks, AsksPlace, AsksScreen, AsksWhole, IsNoCall, IsRowNumber, SaysMore, SaysRow, SaysStart, Start, Where, grammar_said, mark_said, named_grammar, start_of, where_of, words_behind, words_unmarked};
 
 use termimad_page_run::{Files, Grammar};
 use termimad_words::parse_number;
@@ -45,11 +46,29 @@ pub(crate) struct Screen<'w> {
     pub rows: u16,
     /// Which files there are beside FILE.
     pub files: Files,
-    /// The number of the row that is on top at first; 0 for the text's start.
-    pub start: usize,
+    /// Where the text begins.
+    pub begins: Beginning<'w>,
 }
 
-/// The call that the words after the program's name are: `page FILE COLUMNS ROWS [SKIN [NAME [PLACE [ROW]]]]` or `whole FILE [SKIN [COLUMNS]]`, with
+/// Where a text begins.
+#[derive(Clone, Copy)]
+pub(crate) struct Beginning<'w> {
+    /// The number of the row that is on top at first; 0 for the text's start.
+    pub row: usize,
+    /// The name of a link that leads to the place on top, in the row's stead.
+    pub target: Option<&'w str>,
+    /// The keys that come before those that are typed.
+    pub keys: &'w str,
+}
+
+// A text's start, by no keys.
+const AT_START: Beginning<'static> = Beginning {
+    row: 0,
+    target: None,
+    keys: "",
+};
+
+/// The call that the words after the program's name are: `page FILE COLUMNS ROWS [SKIN [NAME [PLACE [ROW [KEYS]]]]]` or `whole FILE [SKIN [COLUMNS]]`, with
 /// `--lines` before them where each line of the text stands for itself, `--plain` where it isn't Markdown, and `--plain=none` where its styles aren't shown
 /// either. Before all of them may stand `--grows MARK`, where the text of a page still comes. None, where they are neither.
 pub(crate) fn parse_call(words: &[String]) -> Option<Call<'_>>
@@ -128,59 +147,80 @@ fn parse_place(words: &[String]) -> Option<(&str, Option<&str>, Place<'_>)>
 // The words after `page`.
 fn parse_page(words: &[String]) -> Option<(&str, Option<&str>, Screen<'_>)>
     ensures { MatchOption result
-        ((file : List ℕ) (skin : Option (List ℕ)) (name : List ℕ) (columns rows : ℕ) (files : SomeFiles) (start : ℕ)
+        ((file : List ℕ) (skin : Option (List ℕ)) (name : List ℕ) (columns rows : ℕ) (files : SomeFiles) (start : Start)
         → ¬ (AsksScreen (map string_bytes words.now) file skin name columns rows files start))
         (λ asked. AsksScreen (map string_bytes words.now) asked.0.now (option_map (λ word. word.now) asked.1)
-        asked.2.name.now asked.2.columns asked.2.rows asked.2.files asked.2.start) }
+        asked.2.name.now asked.2.columns asked.2.rows asked.2.files (start_of asked.2.begins)) }
 {
     let [file, columns, rows, more @ ..] = words else {
         return None;
     };
     let columns = parse_number(columns.as_str())?;
     let rows = parse_number(rows.as_str())?;
-    let (skin, name, files, start) = parse_more(file.as_str(), more)?;
+    let (skin, name, files, begins) = parse_more(file.as_str(), more)?;
     let screen = Screen {
         name,
         columns,
         rows,
         files,
-        start,
+        begins,
     };
     Some((file.as_str(), skin, screen))
 }
 
-// The words after ROWS, of which those at the end may be left out: for the skin, the name, which is the file's without one, the place, and the row that is
-// on top at first.
+// The words after ROWS, of which those at the end may be left out: for the skin, the name, which is the file's without one, the place, and where the text
+// begins.
 fn parse_more<'w>(
     file: &'w str,
     words: &'w [String],
-) -> Option<(Option<&'w str>, &'w str, Files, usize)>
+) -> Option<(Option<&'w str>, &'w str, Files, Beginning<'w>)>
     ensures { MatchOption result
-        ((skin : Option (List ℕ)) (name : List ℕ) (files : SomeFiles) (start : ℕ)
+        ((skin : Option (List ℕ)) (name : List ℕ) (files : SomeFiles) (start : Start)
         → ¬ (SaysMore file.entry.now (map string_bytes words.entry.now) skin name files start))
-        (λ said. SaysMore file.entry.now (map string_bytes words.entry.now) (option_map (λ word. word.now) said.0) said.1.now said.2 said.3) }
+        (λ said. SaysMore file.entry.now (map string_bytes words.entry.now) (option_map (λ word. word.now) said.0) said.1.now said.2 (start_of said.3)) }
 {
     match words {
-        [] => Some((None, file, Files::NONE, 0)),
-        [skin] => Some((Some(skin.as_str()), file, Files::NONE, 0)),
-        [skin, name] => Some((Some(skin.as_str()), name.as_str(), Files::NONE, 0)),
+        [] => Some((None, file, Files::NONE, AT_START)),
+        [skin] => Some((Some(skin.as_str()), file, Files::NONE, AT_START)),
+        [skin, name] => Some((Some(skin.as_str()), name.as_str(), Files::NONE, AT_START)),
         [skin, name, place, rest @ ..] => {
             let files = Files::named(place.as_str())?;
-            let start = parse_start(rest)?;
-            Some((Some(skin.as_str()), name.as_str(), files, start))
+            let begins = parse_start(rest)?;
+            Some((Some(skin.as_str()), name.as_str(), files, begins))
         }
     }
 }
 
-// The words after PLACE: the number of the row that is on top at first, which may be left out.
-fn parse_start(words: &[String]) -> Option<usize>
-    ensures { MatchOption result ((start : ℕ) → ¬ (SaysStart (map string_bytes words.now) start)) (λ start. SaysStart (map string_bytes words.now) start) }
+// The words after PLACE, which may be left out: the row or the place that is on top at first, and the keys that come first.
+fn parse_start(words: &[String]) -> Option<Beginning<'_>>
+    ensures { MatchOption result ((start : Start) → ¬ (SaysStart (map string_bytes words.now) start)) (λ begins. SaysStart (map string_bytes words.now) (start_of begins)) }
 {
     match words {
-        [] => Some(0),
-        [row] => parse_row(row.as_str()),
+        [] => Some(AT_START),
+        [row] => parse_top(row.as_str(), ""),
+        [row, keys] => parse_top(row.as_str(), keys.as_str()),
         _ => None,
     }
+}
+
+// Where a text begins whose row is said by a word, with these keys first.
+fn parse_top<'w>(word: &'w str, keys: &'w str) -> Option<Beginning<'w>>
+    ensures { MatchOption result ((start : Start) → ¬ (SaysRow word.entry.now start))
+        (λ begins. SaysRow word.entry.now (start_of begins) × (begins.keys.now ≡ keys.entry.now)) }
+{
+    let target = named_place(word);
+    let row = match target {
+        Some(_) => 0,
+        None => parse_row(word)?,
+    };
+    Some(Beginning { row, target, keys })
+}
+
+// The name of a place that a word says, as `#name`.
+fn named_place(word: &str) -> Option<&str>
+    ensures { option_map (λ name. name.now) result ≡ name_within word.now }
+{
+    word.strip_prefix('#')
 }
 
 // The number of a row that a word is: one or more ASCII digits of a value of 64 bits, and nothing else.

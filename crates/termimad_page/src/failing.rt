@@ -31,8 +31,8 @@ fn status(end: End) -> u8
 {
     match end {
         End::Quits => 0,
-        End::NextFile => NEXT_FILE,
-        End::PreviousFile => PREVIOUS_FILE,
+        End::NextFile(_) => NEXT_FILE,
+        End::PreviousFile(_) => PREVIOUS_FILE,
         End::Reload(_) => RELOAD,
         End::Edit(_) => EDIT,
         End::Follow(_, _) => FOLLOW,
@@ -83,9 +83,10 @@ fn row_of_end(end: End) -> Option<usize>
     ensures { result ≡ row_of_end end }
 {
     match end {
+        End::NextFile(row) | End::PreviousFile(row) => Some(row),
         End::Reload(row) | End::Edit(row) => Some(row),
         End::Follow(row, _) => Some(row),
-        _ => None,
+        End::Quits => None,
     }
 }
 
@@ -143,7 +144,7 @@ fn line(failure: Failure) -> &'static [u8]
     match failure {
         Failure::Io => b"termimad-page: the file can't be read, or the output failed\n",
         Failure::Usage => {
-            b"usage: termimad-page [--grows MARK] [GRAMMAR] page FILE COLUMNS ROWS [SKIN [NAME [PLACE [ROW]]]] | [GRAMMAR] whole FILE [SKIN [COLUMNS]]; GRAMMAR is --lines, --plain or --plain=none\n"
+            b"usage: termimad-page [--grows MARK] [GRAMMAR] page FILE COLUMNS ROWS [SKIN [NAME [PLACE [ROW [KEYS]]]]] | [GRAMMAR] whole FILE [SKIN [COLUMNS]]; GRAMMAR is --lines, --plain or --plain=none\n"
         }
         Failure::NotUtf8 => b"termimad-page: the file is not UTF-8\n",
         Failure::Skin => b"termimad-page: skin\n",

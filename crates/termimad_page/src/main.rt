@@ -3,11 +3,12 @@
 //! 1. [`call`]: what the arguments ask for.
 //! 2. [`skins`]: the skin that a text is shown in.
 //! 3. [`failing`]: how a run ends.
-//! 4. [`sources`]: files that are read on; [`running`]: a run, over any devices.
+//! 4. [`sources`]: files that are read on; [`keys`]: those that a run begins with; [`running`]: a run, over any devices.
 #![tactic(auto)]
 
 mod call;
 mod failing;
+mod keys;
 mod running;
 mod skins;
 mod sources;
@@ -16,7 +17,9 @@ ghost use Rattle.std.specs.Prelude.{◌≡◌, MatchResult};
 ghost use Rattle.termimad_page.specs.Streams.{HasEnded, HasRunGiven, RefusesGiven, refusal_of_words};
 
 use crate::failing::{Refusal, refuse};
-use crate::running::run;
+use crate::keys::KeysFirst;
+use crate::running::run_sparing;
+use mad_frames::Sparing;
 use mad_term::{Out, Stream};
 use std::io::BufWriter;
 use std::process::ExitCode;
@@ -39,8 +42,8 @@ fn finish<E: Out>(rt: &HostRuntime, given: io::Result<env::Args>, err: &mut E) -
     }
 }
 
-// Keys come from standard input. The screen is drawn on standard output picture by picture; a whole text is written there through a buffer, so that
-// no row is a call of the system.
+// Keys come from standard input. The screen is drawn on standard output picture by picture, of each what changes; a whole text is written there through a
+// buffer, so that no row is a call of the system.
 fn run_given<E: Out>(
     rt: &HostRuntime,
     given: io::Result<env::Args>,
@@ -56,11 +59,13 @@ fn run_given<E: Out>(
     let Ok(writer) = BufWriter::new(rt.alloc(), io::writer(rt)) else {
         return Err(Refusal::Failed(Failure::Memory));
     };
-    let mut keys = Stream::new(rt.reader());
-    let mut screen = Stream::new(io::writer(rt));
+    let mut keys = KeysFirst::new(Stream::new(rt.reader()));
+    let Ok(mut screen) = Sparing::new(rt.alloc(), Stream::new(io::writer(rt)), 0, 0) else {
+        return Err(Refusal::Failed(Failure::Memory));
+    };
     let mut out = Stream::new(writer);
     let texts = Folder { rt };
-    Ok(run(
+    Ok(run_sparing(
         rt.alloc(),
         words.as_slice(),
         &texts,

@@ -6,15 +6,18 @@ ghost use Rattle.std.specs.Str.Lossy.{utf8_lossy};
 ghost use Rattle.termimad_page.specs.declared.failing.Refusal.TheVariants.{Failed};
 ghost use Rattle.termimad_words.specs.declared.failure.Failure.TheVariants.{Memory, NotUtf8};
 ghost use Rattle.mad_pager.specs.declared.session.End.TheVariants.{Quits};
-ghost use Rattle.termimad_page.specs.Calls.{where_of};
+ghost use Rattle.mad_frames.specs.Sparing.{spared_trace, IsSparing};
+ghost use Rattle.termimad_page.specs.Calls.{start_of, where_of};
 ghost use Rattle.termimad_page.specs.declared.call.Place.TheVariants.{OnScreen};
 ghost use Rattle.termimad_page_run.specs.Comings.{arrival};
 ghost use Rattle.termimad_page.specs.Runs.{comes, HasRun, IsBegun, IsNoText, IsSheetOf, IsTextOf, IsUnbegun, PagesComing, PagesText, Performs, ReadsFile, Shows, WritesRows, WritesWhole, devices};
 
 use crate::call::{Call, Place, Screen, parse_call};
 use crate::failing::{Refusal, refusal_of, refusal_reading, refuse, say_end};
+use crate::keys::KeysFirst;
 use crate::skins::skin_for;
 use crate::sources::Growing;
+use mad_frames::{Shows, Sparing};
 use mad_measure::printable;
 use mad_page_skin::PageSkin;
 use mad_plain::lossy_text;
@@ -29,51 +32,71 @@ use termimad_given::Texts;
 use termimad_page_run::{Coming, Frame, Grammar, Leaving, Sheet, run as page, run_growing};
 use termimad_words::Failure;
 
-/// Does what the words after the program's name ask for, and answers the status: keys come from the input, and a text is paged on the screen, or
-/// written whole on the output, which is then flushed.
+/// Does what the words after the program's name ask for, and answers the status: keys come from the words and then from the input, and a text is paged on
+/// the screen, or written whole on the output, which is then flushed.
 ///
 /// The words are checked first, then the skin, and then the file is read. Statuses are 0, after the keys for another file 6 and 7, after those for the
 /// file as it is now and for an editor 8 and 9, for a link 10, and of a refusal 1 to 5 and 141. A refusal is said on `err`, in one line, and of 8, 9 and 10 the
 /// row on top. Of 10 the address of the link is said too.
-pub(crate) fn run<T: Texts + Growing, I: Source, S: Out, O: Out, E: Out>(
+pub(crate) fn run<'w, T: Texts + Growing, I: Source, S: Shows, O: Out, E: Out>(
     alloc: Global,
-    words: &[String],
+    words: &'w [String],
     texts: &T,
-    input: &mut I,
+    keys: &mut KeysFirst<'w, I>,
     screen: &mut S,
     out: &mut O,
     err: &mut E,
 ) -> u8
-    ensures { HasRun (T.holds texts.now) (map string_bytes words.now) (devices (I.seen input.old) (S.seen screen.old) (O.seen out.old)) (E.seen err.old)
-        result (devices (I.seen input.new) (S.seen screen.new) (O.seen out.new)) (E.seen err.new) }
+    ensures { HasRun (T.holds texts.now) (map string_bytes words.entry.now) (devices (I.seen keys.old.input) (S.seen screen.old) (O.seen out.old)) (E.seen err.old)
+        result (devices (I.seen keys.new.input) (S.seen screen.new) (O.seen out.new)) (E.seen err.new) }
 {
-    match perform(alloc, words, texts, input, screen, out) {
+    match perform(alloc, words, texts, keys, screen, out) {
         Ok(left) => say_end(alloc, err, &left),
         Err(refusal) => refuse(err, refusal),
     }
 }
 
-// Does what the words ask for.
-fn perform<T: Texts + Growing, I: Source, S: Out, O: Out>(
+/// Does the same on a screen that is sent only what changes. A terminal that scrolls and has read what the device below the screen took shows what the
+/// pictures show that were put.
+pub(crate) fn run_sparing<'w, T: Texts + Growing, I: Source, S: Out, O: Out, E: Out>(
     alloc: Global,
-    words: &[String],
+    words: &'w [String],
     texts: &T,
-    input: &mut I,
+    keys: &mut KeysFirst<'w, I>,
+    screen: &mut Sparing<S>,
+    out: &mut O,
+    err: &mut E,
+) -> u8
+    ensures run { HasRun (T.holds texts.now) (map string_bytes words.entry.now) (devices (I.seen keys.old.input) (spared_trace screen.old) (O.seen out.old)) (E.seen err.old)
+        result (devices (I.seen keys.new.input) (spared_trace screen.new) (O.seen out.new)) (E.seen err.new) }
+    ensures shown { IsSparing screen.new }
+{
+    let status = run(alloc, words, texts, keys, screen, out, err);
+    screen.stays_true();
+    status
+}
+
+// Does what the words ask for.
+fn perform<'w, T: Texts + Growing, I: Source, S: Shows, O: Out>(
+    alloc: Global,
+    words: &'w [String],
+    texts: &T,
+    keys: &mut KeysFirst<'w, I>,
     screen: &mut S,
     out: &mut O,
 ) -> Result<Leaving, Refusal>
-    ensures { Performs (T.holds texts.now) (map string_bytes words.now) (devices (I.seen input.old) (S.seen screen.old) (O.seen out.old))
-        result (devices (I.seen input.new) (S.seen screen.new) (O.seen out.new)) }
+    ensures { Performs (T.holds texts.now) (map string_bytes words.entry.now) (devices (I.seen keys.old.input) (S.seen screen.old) (O.seen out.old))
+        result (devices (I.seen keys.new.input) (S.seen screen.new) (O.seen out.new)) }
 {
     let (call, skin) = begin(alloc, words)?;
     match mark_and_screen(call.mark, call.place) {
         Some((mark, place)) => {
             let coming = open(texts, call.file, mark)?;
-            page_coming(alloc, &place, call.grammar, &skin, coming, input, screen)
+            page_coming(alloc, &place, call.grammar, &skin, coming, keys, screen)
         }
         None => {
             let bytes = read(alloc, texts, call.file)?;
-            show(alloc, &call, &skin, bytes.as_slice(), input, screen, out)
+            show(alloc, &call, &skin, bytes.as_slice(), keys, screen, out)
         }
     }
 }
@@ -135,18 +158,18 @@ fn open_file<T: Growing>(texts: &T, name: &str) -> Result<T::File, Refusal>
 }
 
 // Pages a text that still comes.
-fn page_coming<F: Source + Drop, I: Source, S: Out>(
+fn page_coming<'w, F: Source + Drop, I: Source, S: Shows>(
     alloc: Global,
-    place: &Screen,
+    place: &Screen<'w>,
     grammar: Grammar,
     skin: &PageSkin,
     coming: Coming<F, F>,
-    input: &mut I,
+    keys: &mut KeysFirst<'w, I>,
     screen: &mut S,
 ) -> Result<Leaving, Refusal>
-    ensures { PagesComing grammar skin.now place.now.name.now place.now.columns place.now.rows place.now.files place.now.start
+    ensures { PagesComing grammar skin.now place.now.name.now place.now.columns place.now.rows place.now.files (start_of place.now.begins)
         (arrival (F.seen coming.text) (F.seen coming.mark) coming.ended coming.is_whole)
-        (I.seen input.old) (S.seen screen.old) result (I.seen input.new) (S.seen screen.new) }
+        (I.seen keys.old.input) (S.seen screen.old) result (I.seen keys.new.input) (S.seen screen.new) }
 {
     let mut coming = coming;
     let frame = Frame {
@@ -155,32 +178,33 @@ fn page_coming<F: Source + Drop, I: Source, S: Out>(
         skin,
         columns: place.columns,
         rows: place.rows,
-        start: place.start,
+        start: place.begins.row,
         files: place.files,
     };
-    match run_growing(alloc, &mut coming, &frame, input, screen) {
+    keys.begin_with(place.begins.keys.as_bytes());
+    match run_growing(alloc, &mut coming, &frame, keys, screen) {
         Ok(left) => Ok(left),
         Err(e) => Err(refusal_of(e)),
     }
 }
 
 // Shows the text that bytes are.
-fn show<I: Source, S: Out, O: Out>(
+fn show<'w, I: Source, S: Shows, O: Out>(
     alloc: Global,
-    call: &Call,
+    call: &Call<'w>,
     skin: &PageSkin,
     bytes: &[u8],
-    input: &mut I,
+    keys: &mut KeysFirst<'w, I>,
     screen: &mut S,
     out: &mut O,
 ) -> Result<Leaving, Refusal>
-    ensures { Shows call.now.grammar skin.now (where_of call.now.place) bytes.now (devices (I.seen input.old) (S.seen screen.old) (O.seen out.old))
-        result (devices (I.seen input.new) (S.seen screen.new) (O.seen out.new)) }
+    ensures { Shows call.now.grammar skin.now (where_of call.now.place) bytes.now (devices (I.seen keys.old.input) (S.seen screen.old) (O.seen out.old))
+        result (devices (I.seen keys.new.input) (S.seen screen.new) (O.seen out.new)) }
 {
     let whole = text_of(alloc, call.grammar, bytes)?;
     let text = behind_mark(&whole);
     match call.place {
-        Place::OnScreen(place) => page_text(alloc, &place, call.grammar, skin, text, input, screen),
+        Place::OnScreen(place) => page_text(alloc, &place, call.grammar, skin, text, keys, screen),
         Place::Whole(columns) => write_whole(alloc, out, call.grammar, skin, columns, text),
     }
 }
@@ -217,17 +241,17 @@ fn any_text(alloc: Global, bytes: &[u8]) -> Result<CowStr<'_, Global>, Refusal>
 }
 
 // Pages a text.
-fn page_text<I: Source, S: Out>(
+fn page_text<'w, I: Source, S: Shows>(
     alloc: Global,
-    place: &Screen,
+    place: &Screen<'w>,
     grammar: Grammar,
     skin: &PageSkin,
     text: &str,
-    input: &mut I,
+    keys: &mut KeysFirst<'w, I>,
     screen: &mut S,
 ) -> Result<Leaving, Refusal>
-    ensures { PagesText grammar skin.now place.now.name.now place.now.columns place.now.rows place.now.files place.now.start text.now
-        (I.seen input.old) (S.seen screen.old) result (I.seen input.new) (S.seen screen.new) }
+    ensures { PagesText grammar skin.now place.now.name.now place.now.columns place.now.rows place.now.files (start_of place.now.begins) text.now
+        (I.seen keys.old.input) (S.seen screen.old) result (I.seen keys.new.input) (S.seen screen.new) }
 {
     let sheet = Sheet {
         name: place.name,
@@ -236,10 +260,12 @@ fn page_text<I: Source, S: Out>(
         skin,
         columns: place.columns,
         rows: place.rows,
-        start: place.start,
+        start: place.begins.row,
+        target: place.begins.target,
         files: place.files,
     };
-    match page(alloc, &sheet, input, screen) {
+    keys.begin_with(place.begins.keys.as_bytes());
+    match page(alloc, &sheet, keys, screen) {
         Ok(left) => Ok(left),
         Err(e) => Err(refusal_of(e)),
     }

@@ -12,11 +12,12 @@ use Rattle.mad_input.specs.declared.input.Mode.{Mode}
 use Rattle.mad_input.specs.declared.input.Mode.TheVariants.{Types, Pastes, Drops, Escapes}
 use Rattle.mad_input.specs.declared.input.TerminalInput.{TerminalInput}
 use Rattle.mad_page.specs.PageKeys.{after_key}
+use Rattle.mad_page.specs.Pages.{row_number}
 use Rattle.mad_page.specs.declared.page.Page.{Page}
 use Rattle.mad_pager.proofs.PagerSteps.{turn_after}
 use Rattle.mad_pager.specs.Following.{has_numbers, is_numbered}
 use Rattle.mad_pager.specs.Pagers.{Leaf, View, answer_or, has_choice, key_answer, key_over, link_answer, turn_answered, turn_at, turn_over}
-use Rattle.mad_pager.specs.Sessions.{State, asks_size, end_of, turn_asked}
+use Rattle.mad_pager.specs.Sessions.{State, asks_size, end_of, turn_asked, turn_below}
 use Rattle.mad_pager.specs.declared.session.End.{End}
 use Rattle.mad_pager.specs.declared.session.Turn.{Turn}
 use Rattle.mad_pager.specs.declared.session.Turn.TheVariants.{Goes, AsksSize, Opens, Ends}
@@ -149,7 +150,7 @@ closes_it false over text = refl
 over_goes : (over text : Leaf) → turn_over (Key escape_key) over text ≡ Goes
 over_goes over text =
     by_if (λ answer. turn_answered answer (Key escape_key) over text ≡ Goes) (over.state.is_typing || over.state.page.has_colon) _ (key_answer escape_key over)
-    (key_goes over.state.is_typing over.state.page)
+    (ap (turn_below (row_number text.state.page)) (key_goes over.state.is_typing over.state.page))
     (ap (λ o. turn_answered (answer_or o (key_over escape_key (has_choice over.content))) (Key escape_key) over text) (says_nothing over) ∙ closes_it (has_choice over.content) over text)
 
 escape_goes : (over : Option Leaf) (text : Leaf) → turn_at over (Key escape_key) text ≡ Goes

@@ -28,7 +28,7 @@ use Rattle.mad_plain.specs.Runs.{StyledChar}
 use Rattle.mad_plain_page.specs.PlainTexts.{lines_shown}
 use Rattle.mad_outline.specs.Sources.{TextSaid, links_of, plain_said, rows_said}
 use Rattle.mad_pager.proofs.PagerOrder.{pasted_view_order, step_order, view_settled_order}
-use Rattle.mad_pager.specs.Pagers.{View, begun, pasted_in, IsOpened, IsOrderlyView, IsViewShown}
+use Rattle.mad_pager.specs.Pagers.{View, pasted_in, IsOpened, IsOrderlyView, IsViewShown}
 use Rattle.mad_pager.specs.declared.pager.Pager.{Pager}
 use Rattle.mad_pager.specs.declared.session.End.{End}
 use Rattle.mad_pager.specs.declared.session.End.TheVariants.{Quits}
@@ -36,7 +36,7 @@ use Rattle.mad_term.specs.declared.errors.Error.TheVariants.{Memory}
 use Rattle.termimad_page_run.specs.Leavings.{led_to, IsFollowing}
 use Rattle.termimad_page_run.specs.declared.leaving.Leaving.{Leaving}
 use Rattle.termimad_page_run.specs.Blocks.{IsBlockDone, IsEndedIn, IsHeardStep, IsSession}
-use Rattle.termimad_page_run.specs.Runs.{AreTurns, EndsAtInput, IsBrokenOff, IsBrokenRun, IsFaultyTurn, IsLastTurn, IsPastLast, IsPagedTo, IsTurn, IsTurned, Moment, block_room, moment, name_row, printed_text, row_char, said_in, markdown_says_links, sheet_said, shown_text}
+use Rattle.termimad_page_run.specs.Runs.{begun_on, AreTurns, EndsAtInput, IsBrokenOff, IsBrokenRun, IsFaultyTurn, IsLastTurn, IsPastLast, IsPagedTo, IsTurn, IsTurned, Moment, block_room, moment, name_row, printed_text, row_char, said_in, markdown_says_links, sheet_said, shown_text}
 use Rattle.markdown_reader.specs.Markdown.{markdown_sections, markdown_links}
 use Rattle.mad_steady.specs.Steady.{steady_text}
 use Rattle.termimad_page_run.specs.declared.program.Grammar.{Grammar}
@@ -193,19 +193,19 @@ pub unled : (v : View) (end : End) (old_input new_input old_out new_out : Trace)
 unled v end old_input new_input old_out new_out h follows = record { blocks = h.blocks; last = h.last; turns = h.turns; fault = unled_at h.blocks h.last end new_input new_out h.ends follows }
 
 -- a fault of a run from the start of a sheet's text
-pub sheet_broken : (sheet : Sheet) (v w : View) (e : Error) (old_input new_input old_out new_out : Trace) → IsOpened sheet.skin.now (name_row sheet.name.now) (sheet_said sheet) sheet.columns sheet.rows sheet.files v → w ≡ begun sheet.start v
+pub sheet_broken : (sheet : Sheet) (v w : View) (e : Error) (old_input new_input old_out new_out : Trace) → IsOpened sheet.skin.now (name_row sheet.name.now) (sheet_said sheet) sheet.columns sheet.rows sheet.files v → w ≡ begun_on sheet v
     → IsBrokenOff w e old_input new_input old_out new_out → IsBrokenRun sheet e old_input new_input old_out new_out
 sheet_broken sheet v w e old_input new_input old_out new_out start is h =
     inl (record { start = v; is = start; turned = subst (λ (x : View). IsBrokenOff x e old_input new_input old_out new_out) is h })
 
 -- its end, and the address of the link that is to be followed
 pub sheet_left : (sheet : Sheet) (v w : View) (end : End) (left : Leaving) (text : TextSaid) (old_input new_input old_out new_out : Trace) → IsOpened sheet.skin.now (name_row sheet.name.now) (sheet_said sheet) sheet.columns sheet.rows sheet.files v
-    → w ≡ begun sheet.start v → IsTurned w end old_input new_input old_out new_out → left.end ≡ end → text ≡ sheet_said sheet → option_map string_bytes left.address ≡ led_to text end → IsPagedTo sheet left old_input new_input old_out new_out
+    → w ≡ begun_on sheet v → IsTurned w end old_input new_input old_out new_out → left.end ≡ end → text ≡ sheet_said sheet → option_map string_bytes left.address ≡ led_to text end → IsPagedTo sheet left old_input new_input old_out new_out
 sheet_left sheet v w end left text old_input new_input old_out new_out start is h same said leads = record {
   paged = record {
     start = v;
     is = start;
-    turned = subst (λ (e : End). IsTurned (begun sheet.start v) e old_input new_input old_out new_out) (sym same) (subst (λ (x : View). IsTurned x end old_input new_input old_out new_out) is h);
+    turned = subst (λ (e : End). IsTurned (begun_on sheet v) e old_input new_input old_out new_out) (sym same) (subst (λ (x : View). IsTurned x end old_input new_input old_out new_out) is h);
   };
   address = leads ∙ ap (λ (t : TextSaid). led_to t end) said ∙ ap (led_to (sheet_said sheet)) (sym same);
 }

@@ -12,7 +12,7 @@ use Rattle.markdown_reader.specs.Anchors.{markdown_anchors}
 use Rattle.markdown_reader.specs.LinkMarks.{markdown_link_marks}
 use Rattle.markdown_reader.specs.Markdown.{markdown_sections, markdown_links}
 use Rattle.mad_outline.specs.LinkLists.{TextLinks}
-use Rattle.mad_pager.specs.Pagers.{View, begun, IsOpened, IsOrderlyView, IsViewShown, IsViewUnshown, view_of}
+use Rattle.mad_pager.specs.Pagers.{View, begun, begun_at_name, IsOpened, IsOrderlyView, IsViewShown, IsViewUnshown, view_of}
 use Rattle.mad_outline.specs.Sources.{TextSaid, plain_said, rows_said}
 use Rattle.mad_plain_page.specs.PlainTexts.{lines_shown}
 use Rattle.mad_input.specs.Hearing.{awaiting, quiet_input}
@@ -145,11 +145,15 @@ pub record IsBrokenOff (v : View) (e : Error) (old_input new_input old_out new_o
   pub turns : AreTurns blocks (record { view = v; terminal = quiet_input; asks = false; input = old_input; out = old_out }) last
   pub fault : IsFaultyTurn last e new_input new_out
 
--- The text is paged from its start on, or from the row of the sheet on, and what is printable of its name is shown. It ends so.
+-- the text at the place that the sheet's target names, if it names one, or else from its row on
+abbrev pub begun_on : Sheet → View → View
+begun_on sheet v = begun_at_name (option_map (λ name. name.now) sheet.target) (begun sheet.start v)
+
+-- The text is paged from its start on, or from where the sheet has it begin, and what is printable of its name is shown. It ends so.
 pub record IsPaged (sheet : Sheet) (end : End) (old_input new_input old_out new_out : Trace) : Type 0 where
   pub start : View
   pub is : IsOpened sheet.skin.now (name_row sheet.name.now) (sheet_said sheet) sheet.columns sheet.rows sheet.files start
-  pub turned : IsTurned (begun sheet.start start) end old_input new_input old_out new_out
+  pub turned : IsTurned (begun_on sheet start) end old_input new_input old_out new_out
 
 -- The text is paged so, and the address is told of the link that is to be followed then, if one is.
 pub record IsPagedTo (sheet : Sheet) (left : Leaving) (old_input new_input old_out new_out : Trace) : Type 0 where
@@ -160,7 +164,7 @@ pub record IsPagedTo (sheet : Sheet) (left : Leaving) (old_input new_input old_o
 pub record IsPagedSoFar (sheet : Sheet) (e : Error) (old_input new_input old_out new_out : Trace) : Type 0 where
   pub start : View
   pub is : IsOpened sheet.skin.now (name_row sheet.name.now) (sheet_said sheet) sheet.columns sheet.rows sheet.files start
-  pub turned : IsBrokenOff (begun sheet.start start) e old_input new_input old_out new_out
+  pub turned : IsBrokenOff (begun_on sheet start) e old_input new_input old_out new_out
 
 -- nothing was read or drawn, since there was no memory
 pub record IsUnbegun (e : Error) (old_input new_input old_out new_out : Trace) : Type 0 where

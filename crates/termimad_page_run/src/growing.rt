@@ -12,6 +12,7 @@ use crate::leaving::Leaving;
 use crate::program::{Grammar, name_row};
 use crate::stretches::{Course, Scene, Stretch, page_stretch};
 use mad_dressing::dressings_of;
+use mad_frames::Shows;
 use mad_measure::printable;
 use mad_page_skin::PageSkin;
 use mad_pager::Files;
@@ -19,7 +20,7 @@ use mad_plain::lossy_text;
 use mad_plain_page::PlainText;
 use mad_search::PagedText;
 use mad_steady::steady;
-use mad_term::{Error, Out, Source};
+use mad_term::{Error, Source};
 use markdown_lines::texts::behind_mark;
 use markdown_reader::Markdown;
 use std::alloc::Global;
@@ -53,7 +54,7 @@ pub struct Frame<'s> {
 /// # Errors
 ///
 /// The first fault of a device or a source, or out of memory. What went out by then is whole pictures, unless the output failed.
-pub fn run_growing<T: Source, F: Source, I: Source, O: Out>(
+pub fn run_growing<T: Source, F: Source, I: Source, O: Shows>(
     alloc: Global,
     coming: &mut Coming<T, F>,
     frame: &Frame,
@@ -89,7 +90,7 @@ fn first_part(start: usize) -> usize
 }
 
 // Shows what was read up to where it grows, or to the end.
-fn show_read<T: Source, F: Source, I: Source, O: Out>(
+fn show_read<T: Source, F: Source, I: Source, O: Shows>(
     alloc: Global,
     coming: &mut Coming<T, F>,
     frame: &Frame,
@@ -117,7 +118,7 @@ fn show_read<T: Source, F: Source, I: Source, O: Out>(
 }
 
 // Shows the text that was read.
-fn show_text<T: Source, F: Source, I: Source, O: Out>(
+fn show_text<T: Source, F: Source, I: Source, O: Shows>(
     alloc: Global,
     coming: &mut Coming<T, F>,
     scene: &Scene,
@@ -154,7 +155,7 @@ fn show_text<T: Source, F: Source, I: Source, O: Out>(
 }
 
 // Shows a text whose lines stand for themselves.
-fn show_lines<T: Source, F: Source, I: Source, O: Out>(
+fn show_lines<T: Source, F: Source, I: Source, O: Shows>(
     alloc: Global,
     coming: &mut Coming<T, F>,
     scene: &Scene,
@@ -182,7 +183,7 @@ fn show_lines<T: Source, F: Source, I: Source, O: Out>(
 }
 
 // Shows a text that isn't Markdown.
-fn show_plain<T: Source, F: Source, I: Source, O: Out>(
+fn show_plain<T: Source, F: Source, I: Source, O: Shows>(
     alloc: Global,
     coming: &mut Coming<T, F>,
     scene: &Scene,

@@ -9,7 +9,9 @@ ghost use Rattle.termimad_page_run.specs.Runs.{moment, name_row, row_char, sheet
 
 use crate::blocks::apply_block;
 use crate::leaving::{Leaving, leave};
+use crate::showing::show;
 use mad_dressing::dressings_of;
+use mad_frames::Shows;
 use mad_input::TerminalInput;
 use mad_measure::printable;
 use mad_page_skin::PageSkin;
@@ -17,7 +19,7 @@ use mad_pager::{End, Files, Pager, Turn};
 use mad_plain_page::PlainText;
 use mad_search::PagedText;
 use mad_steady::steady;
-use mad_term::{Error, Out, Source};
+use mad_term::{Error, Source};
 use markdown_reader::Markdown;
 use std::alloc::{AllocError, Global};
 
@@ -52,6 +54,8 @@ pub struct Sheet<'s> {
     pub rows: u16,
     /// The number of the text's row that is on top at first, counted from 1; 0 for its start. One that is past the text's last row is that row.
     pub start: usize,
+    /// The name of a link `#name`, if the text begins where that leads; where it leads nowhere, `start` counts.
+    pub target: Option<&'s str>,
     /// Which files there are beside that of the text.
     pub files: Files,
 }
@@ -70,7 +74,7 @@ pub struct Sheet<'s> {
 ///
 /// The first fault of a device, or out of memory. What went out by then is whole pictures, unless the output failed.
 #[tactic(auto, using(crate::proofs::RunLemmas::lines_said, crate::proofs::RunLemmas::markdown_said, crate::proofs::RunLemmas::plain_text_said))]
-pub fn run<I: Source, O: Out>(
+pub fn run<I: Source, O: Shows>(
     alloc: Global,
     sheet: &Sheet,
     input: &mut I,
@@ -101,7 +105,7 @@ pub fn run<I: Source, O: Out>(
 }
 
 // Pages the text of a sheet whose lines stand for themselves.
-fn page_lines<I: Source, O: Out>(
+fn page_lines<I: Source, O: Shows>(
     alloc: Global,
     sheet: &Sheet,
     name: &str,
@@ -118,7 +122,7 @@ fn page_lines<I: Source, O: Out>(
 }
 
 // Pages the text of a sheet that isn't Markdown.
-fn page_plain<I: Source, O: Out>(
+fn page_plain<I: Source, O: Shows>(
     alloc: Global,
     sheet: &Sheet,
     name: &str,
@@ -135,7 +139,7 @@ fn page_plain<I: Source, O: Out>(
 }
 
 // Pages the text of a sheet, whose name and text are handed over as they are shown.
-fn page<I: Source, O: Out>(
+fn page<I: Source, O: Shows>(
     alloc: Global,
     sheet: &Sheet,
     name: &str,
@@ -158,13 +162,14 @@ fn page<I: Source, O: Out>(
         sheet.files,
     )?;
     pager.begin_at(sheet.start);
+    pager.begin_at_name(alloc, sheet.target)?;
     let end = turn_pages(alloc, &mut pager, input, out)?;
     let left = leave(alloc, text, end)?;
     Ok(left)
 }
 
 // Makes one turn after the other.
-fn turn_pages<I: Source, O: Out>(
+fn turn_pages<I: Source, O: Shows>(
     alloc: Global,
     pager: &mut Pager,
     input: &mut I,
@@ -187,7 +192,7 @@ fn turn_pages<I: Source, O: Out>(
 }
 
 // Draws the screen, reads a block of bytes and does what it says. The answer to a question for the size counts.
-fn turn_page<I: Source, O: Out>(
+fn turn_page<I: Source, O: Shows>(
     alloc: Global,
     pager: &mut Pager,
     terminal: &mut TerminalInput,
@@ -203,7 +208,7 @@ fn turn_page<I: Source, O: Out>(
     ensures fault { IfErr result (λ e.
         IsFaultyTurn (moment pager.old terminal.old asks (I.seen input.old) (O.seen out.old)) e (I.seen input.new) (O.seen out.new)) }
 {
-    pager.show(alloc, out, asks)?;
+    show(alloc, pager, out, asks)?;
     terminal.await_size(asks);
     let mut block = [0; BLOCK];
     let count = input.fill(&mut block)?;

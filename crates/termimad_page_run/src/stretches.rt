@@ -16,14 +16,16 @@ use crate::blocks::apply_block;
 use crate::coming::{Coming, read_more};
 use crate::growing::Frame;
 use crate::leaving::{Leaving, leave};
+use crate::showing::show;
 use crate::wishes::{Wish, bytes_wanted, follows_after, key_again, wish_in, wish_left};
+use mad_frames::Shows;
 use mad_growth::whole_lines;
 use mad_input::TerminalInput;
 use mad_outline::Source as Shown;
 use mad_pager::{End, Pager, Turn};
 use mad_regrown::{Kept, keep, resume};
 use mad_search::PagedText;
-use mad_term::{Error, Event, KeyEvent, Out, Source};
+use mad_term::{Error, Event, KeyEvent, Source};
 use std::alloc::{AllocError, Global};
 
 // How many bytes one fill is asked for.
@@ -106,7 +108,7 @@ pub(crate) struct Scene<'f, 's, 'n, 'r> {
 }
 
 /// Shows what was read of a text up to where it grows, or to the end.
-pub(crate) fn page_stretch<T: Source, F: Source, I: Source, O: Out>(
+pub(crate) fn page_stretch<T: Source, F: Source, I: Source, O: Shows>(
     alloc: Global,
     coming: &mut Coming<T, F>,
     scene: &Scene,
@@ -178,7 +180,7 @@ fn grown(pager: Pager, going: Going, again: Option<KeyEvent>, left: u64) -> Stre
 }
 
 // A turn, and what is read on behind it. Where the text doesn't grow, a key may be done once more.
-fn make_turn<T: Source, F: Source, I: Source, O: Out>(
+fn make_turn<T: Source, F: Source, I: Source, O: Shows>(
     alloc: Global,
     pager: &mut Pager,
     going: &mut Going,
@@ -257,7 +259,7 @@ fn do_again(alloc: Global, pager: &mut Pager, key: Option<KeyEvent>) -> Result<(
 }
 
 // Draws the screen, reads a block of bytes and does what it says. It answers how the session goes on, and what is wanted of the text.
-fn turn_page<I: Source, O: Out>(
+fn turn_page<I: Source, O: Shows>(
     alloc: Global,
     pager: &mut Pager,
     terminal: &mut TerminalInput,
@@ -273,7 +275,7 @@ fn turn_page<I: Source, O: Out>(
     ensures fault { IfErr result (λ e.
         IsFaultyTurn (moment pager.old terminal.old asks (I.seen input.old) (O.seen out.old)) e (I.seen input.new) (O.seen out.new)) }
 {
-    pager.show(alloc, out, asks)?;
+    show(alloc, pager, out, asks)?;
     terminal.await_size(asks);
     let mut block = [0; BLOCK];
     let count = input.fill(&mut block)?;

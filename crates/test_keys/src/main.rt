@@ -8,8 +8,9 @@
 //! 4. [`queued`]: what each writing call writes. [`devices`]: devices that fail, and those of the standard library.
 //! 5. [`screens`]: what a screen shows of bytes, and what leads from one screen to another.
 //! 6. [`frames`]: what a frame sends, and what a terminal for tests says of a picture.
-//! 7. [`tables`]: margins, indents and borders.
-//! 8. [`keys`]: what a terminal sends, and the events that it is. [`blocks`]: the bytes of a block. [`events`], [`event_words`]: an event as a
+//! 7. [`sparing`]: what a device sends that sends only what changes.
+//! 8. [`tables`]: margins, indents and borders.
+//! 9. [`keys`]: what a terminal sends, and the events that it is. [`blocks`]: the bytes of a block. [`events`], [`event_words`]: an event as a
 //!    word, and the event of a word.
 #![tactic(auto)]
 
@@ -22,6 +23,7 @@ mod frames;
 mod keys;
 mod queued;
 mod screens;
+mod sparing;
 mod tables;
 mod texts;
 mod words;
@@ -43,6 +45,7 @@ impl Calls for TerminalCalls {
             "changes" => screens::changed(alloc, rest, text),
             "frame" => frames::framed(alloc, rest, text),
             "terminal" => frames::compared(alloc, rest, text),
+            "sparing" => sparing::spared(alloc, rest, text),
             "cursor" => screens::screen(alloc, rest, text, false),
             "margins" => tables::margins(alloc, rest),
             "written_margins" => tables::written_margins(alloc, rest),

@@ -2,6 +2,7 @@
 
 ghost use Rattle.std.specs.Prelude.{◌^◌, ◌-◌, None};
 
+use mad_frames::Shows;
 use mad_term::{Out, Source};
 use std::alloc::Global;
 use std::io;
@@ -158,4 +159,8 @@ impl Out for Pictures {
             Err(_) => Err(io::Error::from(io::ErrorKind::OutOfMemory)),
         }
     }
+}
+
+impl Shows for Pictures {
+    fn sized(&mut self, _columns: u16, _rows: u16) {}
 }

@@ -15,7 +15,8 @@ const SIZE_QUESTION: &[u8] = b"\x1b[999;999H\x1b[6n";
 
 /// What a session shows. The call has the columns and rows of the screen, and the name, after the word `markdown` where the text is read as
 /// people write Markdown, and after `colors` or `bare` where it is read as no Markdown, in its styles or without. Before the columns stands what files
-/// there are beside it, if there are some: `first`, `between` or `last`, and after that `+N`, where the row of this number is on top at first. With the
+/// there are beside it, if there are some: `first`, `between` or `last`, and after that `+N`, where the row of this number is on top at first, or `#NAME`, where
+/// the place of this name is. With the
 /// word `plain` before these the skin has no style; with `dark`, `light`, `sixteen` or `none` it is that of a page. With `pens` before that each picture is
 /// shown once more as letters of its pens. With `grows` or `cut` before all of them the text comes in parts, and is cut off at its end or not. The text comes first, then a line `==`, and a block a line.
 pub fn shown(alloc: Global, call: &str, text: &str) -> Result<String, AllocError> {
@@ -30,6 +31,7 @@ pub fn shown(alloc: Global, call: &str, text: &str) -> Result<String, AllocError
     skin.text.whole_words = grammar == Grammar::Markdown;
     let (files, call) = files_in(call);
     let (start, call) = start_in(call);
+    let (target, call) = target_in(call);
     let mut words = call.splitn(3, ' ');
     let columns = number(words.next());
     let rows = number(words.next());
@@ -46,7 +48,10 @@ pub fn shown(alloc: Global, call: &str, text: &str) -> Result<String, AllocError
         files,
     };
     let mut out = Pictures::new(alloc);
-    let ended = end_of(alloc, coming, &frame, text.as_str(), blocks, &mut out);
+    let ended = match coming {
+        Some(byte) => end_growing(alloc, byte, &frame, text.as_str(), blocks, &mut out),
+        None => end_of(alloc, &frame, target, text.as_str(), blocks, &mut out),
+    };
     let mut answer = String::new(alloc);
     let setting = Setting {
         size: (columns, rows),
@@ -62,21 +67,31 @@ pub fn shown(alloc: Global, call: &str, text: &str) -> Result<String, AllocError
     Ok(answer)
 }
 
-// How a session ends over a text that is there, or over one that comes, whose mark has this byte after its last part.
-fn end_of(
+// How a session ends over a text that comes, whose mark has this byte after its last part.
+fn end_growing(
     alloc: Global,
-    coming: Option<u8>,
+    byte: u8,
     frame: &Frame,
     text: &str,
     blocks: &str,
     out: &mut Pictures,
 ) -> Result<Leaving, Error> {
     let mut input = Blocks::new(blocks);
-    if let Some(byte) = coming {
-        let looks = text.split("++\n").count().saturating_sub(1);
-        let mut coming = Coming::new(Parts::new(text), Mark::new(looks, byte));
-        return run_growing(alloc, &mut coming, frame, &mut input, out);
-    }
+    let looks = text.split("++\n").count().saturating_sub(1);
+    let mut coming = Coming::new(Parts::new(text), Mark::new(looks, byte));
+    run_growing(alloc, &mut coming, frame, &mut input, out)
+}
+
+// How it ends over a text that is there, which begins where a name is, if one is said.
+fn end_of(
+    alloc: Global,
+    frame: &Frame,
+    target: Option<&str>,
+    text: &str,
+    blocks: &str,
+    out: &mut Pictures,
+) -> Result<Leaving, Error> {
+    let mut input = Blocks::new(blocks);
     let sheet = Sheet {
         name: frame.name,
         text,
@@ -86,6 +101,7 @@ fn end_of(
         rows: frame.rows,
         files: frame.files,
         start: frame.start,
+        target,
     };
     run(alloc, &sheet, &mut input, out)
 }
@@ -150,12 +166,21 @@ fn start_in(call: &str) -> (usize, &str) {
     }
 }
 
+// Which name a call says is that of the place on top at first, as `#name`, and the rest of it.
+fn target_in(call: &str) -> (Option<&str>, &str) {
+    let (word, rest) = call.split_once(' ').unwrap_or((call, ""));
+    match word.strip_prefix('#') {
+        Some(name) => (Some(name), rest),
+        None => (None, call),
+    }
+}
+
 // How a session ended, in a line.
 fn push_end(answer: &mut String, left: &Leaving) -> Result<(), AllocError> {
     match left.end {
         End::Quits => answer.push_str("ended\n"),
-        End::NextFile => answer.push_str("ended for the next file\n"),
-        End::PreviousFile => answer.push_str("ended for the file before\n"),
+        End::NextFile(row) => write!(answer, "ended for the next file, at row {row}\n"),
+        End::PreviousFile(row) => write!(answer, "ended for the file before, at row {row}\n"),
         End::Reload(row) => write!(answer, "ended for the file as it is, at row {row}\n"),
         End::Edit(row) => write!(answer, "ended for an editor at row {row}\n"),
         End::Follow(row, _) => push_link(answer, row, left),

@@ -3,8 +3,11 @@
 //! The call `run WORDS` runs the program on words with bars between them. It answers what goes out, the status, and what the program says.
 //! `run_in_twenty_bytes` does the same on a device with that room. [`runs`] has both, and devices and inputs that fail. `comes STEP WORDS` does
 //! it on an input that comes in steps of so many bytes.
+//!
+//! The call `command WORDS` runs the command `termimad` so, where standard output is no terminal; [`commands`] has it, and the texts that it finds.
 #![tactic(auto)]
 
+mod commands;
 mod runs;
 
 use std::alloc::{AllocError, Global};
@@ -24,6 +27,7 @@ impl Calls for RunCalls {
             "run" => runs::run(alloc, runs::ROOM, words, text),
             "run_in_twenty_bytes" => runs::run(alloc, 20, words, text),
             "comes" => runs::comes(alloc, words, text),
+            "command" => commands::run(alloc, words, text),
             "devices" => on_devices(alloc, words, text),
             _ => String::from_str(alloc, "no such call"),
         }

@@ -38,7 +38,8 @@ fn on_input(
     told(alloc, status, &out, &err)
 }
 
-fn input_of(text: &str) -> &[u8] {
+/// The input that a row says.
+pub fn input_of(text: &str) -> &[u8] {
     if text == "<ff>" {
         b"\xff"
     } else {
@@ -109,7 +110,8 @@ impl ProgramCall<'_> {
 /// More bytes than the runs of these rows write.
 pub const ROOM: usize = 2000;
 
-fn args_of(alloc: Global, words: &str) -> Result<Vec<String>, AllocError> {
+/// The arguments that words with bars between them are.
+pub fn args_of(alloc: Global, words: &str) -> Result<Vec<String>, AllocError> {
     let mut args = Vec::new(alloc);
     if words.is_empty() {
         return Ok(args);
@@ -120,7 +122,8 @@ fn args_of(alloc: Global, words: &str) -> Result<Vec<String>, AllocError> {
     Ok(args)
 }
 
-fn told(alloc: Global, status: u8, out: &CutOut, err: &CutOut) -> Result<String, AllocError> {
+/// What went out, the status, and what was said.
+pub fn told(alloc: Global, status: u8, out: &CutOut, err: &CutOut) -> Result<String, AllocError> {
     let out = str::from_utf8(out.taken()).unwrap_or("no text");
     let err = str::from_utf8(err.taken()).unwrap_or("no text");
     let end = if out.is_empty() || out.ends_with('\n') {

@@ -94,7 +94,7 @@ def table(rows: Union[Iterable[Record], "os.PathLike[str]"], width: Optional[int
     """A table laid out in `width` columns, each row with a newline. Its first row has its headers; of dicts, these are their keys.
 
     A path stands for the rows of its CSV file. A cell is a text as it is, or what `str` makes of it: no mark is read in it, and it is made
-    printable here. Short rows are filled up.
+    printable here. Short rows are filled up. Without a column it is nothing: `table([])` is "".
 
     >>> print(table([["disk", "used"], ["/", 7]], width=40, aligns=[Align.LEFT, Align.RIGHT]), end="")
     ┌────┬────┐
@@ -106,9 +106,10 @@ def table(rows: Union[Iterable[Record], "os.PathLike[str]"], width: Optional[int
     True
     """
     lines = _lines_of(rows)
-    columns = max((len(line) for line in lines), default=1) or 1
+    columns = max(map(len, lines), default=0)
     cells = [_cell(word, f"rows[{at}][{column}]") for at, line in enumerate(lines) for column, word in enumerate([*line, *[""] * (columns - len(line))])]
-    return table_of_cells(cells, columns, columns_of(width), aligns, skin)
+    made = table_of_cells(cells, columns or 1, columns_of(width), aligns, skin)
+    return made if columns else ""
 
 
 def area(markdown: Words, left: int, top: int, width: int, height: int, skin: Skin = "") -> str:

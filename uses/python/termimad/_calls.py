@@ -18,7 +18,7 @@ class Refused(Exception):
     ...     Markdown("a").show(skin="drak")
     ... except Refused as refusal:
     ...     print(refusal)
-    skin='drak' is no name of a skin, and no JSON text of one.
+    skin='drak' is no name of a skin, and no JSON text.
     """
 
 
@@ -41,11 +41,11 @@ class NotUtf8(Refused, ValueError):
 
 
 class WrongSkin(Refused, ValueError):
-    """A skin is no name of one, and no JSON text that says one.
+    """A skin is no name of one, and no JSON text that says one. Where one of its keys is to blame, that is named.
 
     >>> Markdown("a").rows(skin={"bold": "pissenlit"})
     Traceback (most recent call last):
-    termimad.WrongSkin: skin='{"bold": "pissenlit"}' is no name of a skin, and no JSON text of one.
+    termimad.WrongSkin: skin='{"bold": "pissenlit"}' says no skin: bold doesn't take 'pissenlit'.
     """
 
 
@@ -260,7 +260,8 @@ def _checked(answer: Any, texts: Mapping[str, bytes], numbers: Mapping[str, int]
         wrong = [name for name, text in texts.items() if not _is_utf8(text)] or [*texts]
         raise NotUtf8(f"{' and '.join(wrong)} is not UTF-8.")
     if answer.status == _SKIN:
-        raise WrongSkin(f"skin={texts['skin'].decode()!r} is no name of a skin, and no JSON text of one.")
+        word = texts["skin"].decode()
+        raise WrongSkin(f"skin={word!r} {_fault_of_skin(word)}.")
     raise OutOfMemory("There was no memory for the result.")
 
 
@@ -274,6 +275,32 @@ def _said_of(numbers: Mapping[str, int]) -> str:
         pairs = [("left", "width"), ("top", "height")]
         said += [f"{a}={numbers[a]} and {b}={numbers[b]} are together over {_MOST}" for a, b in pairs if numbers[a] + numbers[b] > _MOST]
     return f"{'; '.join(said) or 'a number is none that the call takes'}."
+
+
+def _fault_of_skin(word: str) -> str:
+    """What is wrong with a skin that the library refuses, which doesn't say it: a key is to blame that it refuses alone too."""
+    try:
+        given = json.loads(word)
+    except ValueError:
+        return "is no name of a skin, and no JSON text"
+    if not isinstance(given, dict):
+        return "is JSON text, but no object"
+    page = given.pop("page", {})
+    parts = [(key, {key: value}, value) for key, value in given.items()]
+    if isinstance(page, dict):
+        parts += [(f"page.{key}", {"page": {key: value}}, value) for key, value in page.items()]
+    else:
+        parts += [("page", {"page": page}, page)]
+    for name, alone, value in parts:
+        if not _says_skin(alone):
+            return f"says no skin: {name} doesn't take {value!r}"
+    return "says no skin"
+
+
+def _says_skin(skin: Mapping[str, object]) -> bool:
+    """Whether the library takes a skin of a page."""
+    word = json.dumps(skin).encode()
+    return bool(_library.termimad_markdown(b"", 0, word, len(word), 0, ctypes.create_string_buffer(1), 1).status in (_DONE, _SHORT))
 
 
 def _is_utf8(text: bytes) -> bool:

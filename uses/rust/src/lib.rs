@@ -210,7 +210,7 @@ impl fmt::Display for Refused {
     fn fmt(&self, f: &mut fmt::Formatter<'_>) -> fmt::Result {
         f.write_str(match self {
             Refused::Number => "a number is none that the call takes",
-            Refused::Skin => "that is no skin",
+            Refused::Skin => "the skin is no name of one, and no JSON text that says one",
             Refused::Memory => "out of memory",
         })
     }

@@ -28,7 +28,7 @@ pub fn text_screen(alloc: Global, text: &str, page_skin: &PageSkin) -> Result<Sc
 }
 
 /// A screen that shows a pager on a text in a skin, after some keys.
-pub fn page_screen(alloc: Global, text: &str, skin: &PageSkin) -> Result<Screen, Error> {
+pub fn page_screen<'s>(alloc: Global, text: &'s str, skin: &'s PageSkin) -> Result<Screen, Error> {
     let sheet = Sheet {
         name: "readme.md",
         text,
@@ -37,6 +37,7 @@ pub fn page_screen(alloc: Global, text: &str, skin: &PageSkin) -> Result<Screen,
         columns: COLUMNS,
         rows: PAGE_ROWS,
         start: 0,
+        target: None,
         files: Files::NONE,
     };
     let mut terminal = TestTerminal::new(alloc, COLUMNS, PAGE_ROWS);

@@ -1,4 +1,4 @@
-use Rattle.markdown_page_laws.proofs.MarkLemmas as lemmas
+use Rattle.markdown_page_laws.proofs.BetweenLemmas as lemmas
 use Rattle.markdown_page_laws.proofs.others_are_marks.Goals as goal
 
 pub returns : goal.returns

@@ -2,8 +2,11 @@ use Rattle.std.proofs.Common.{◌≡◌, length, string_bytes, refl, ap, sym, �
 use Rattle.mad_screen.specs.Grid.{plain_pen}
 use Rattle.mad_frames.specs.Mending.{mended_row}
 use Rattle.mad_frames.specs.Whole.{are_whole}
-use Rattle.mad_frames.proofs.MendLemmas.{adds_mended, same_mended, bound_mended, mended_length, mended_whole, whole_stays}
+use Rattle.mad_frames.proofs.MendLemmas.{adds_mended, adds_same, same_mended, bound_mended, mended_length, mended_whole, whole_stays}
 use Rattle.mad_frames.proofs.writing.push_mended_row.Goals as goal
+
+pub returns-then-same_rows-clause-leads : goal.returns-then-same_rows-clause-leads
+returns-then-same_rows-clause-leads c = adds_same c.args.old.now c.args.new.now c.args.y (string_bytes c.args.out.now) (c.if-same_rows.ensures refl)
 
 pub returns-then-are_whole-2-clause-leads : goal.returns-then-are_whole-2-clause-leads
 returns-then-are_whole-2-clause-leads c =

@@ -6,7 +6,7 @@ use Rattle.termimad_given.specs.Given.{Held}
 use Rattle.termimad_page_run.specs.Comings.{Arrival, arrival}
 use Rattle.termimad_page_run.specs.declared.leaving.Leaving.{Leaving}
 use Rattle.termimad_page_run.specs.declared.program.Grammar.{Grammar}
-use Rattle.termimad_page.specs.Calls.{Where, on_screen, where_of}
+use Rattle.termimad_page.specs.Calls.{Where, on_screen, start_of, where_of}
 use Rattle.termimad_page.specs.Runs.{comes, Devices, IsBegun, IsFreshArrival, PagesComing, Performs, ReadsFile, Shows, ShowsComing, devices}
 use Rattle.termimad_page.specs.declared.call.Place.{Place}
 use Rattle.termimad_page.specs.declared.call.Place.TheVariants.{OnScreen}
@@ -27,7 +27,7 @@ shown_run holds words old new r mark file bytes slice grammar place skin begun w
 -- a run that pages a text which comes
 coming_run : (holds : Held) (words : List (List ℕ)) (old : Devices) (r : Result Leaving Refusal) (keys drawn : Trace) (mark : Option (List ℕ)) (named file : List ℕ) (grammar : Grammar) (place : Place) (screen : Screen) (skin : PageSkin) (a : Arrival)
     → mark ≡ Some named → place ≡ OnScreen screen → IsBegun words mark file grammar (where_of place) skin → IsFreshArrival a
-    → PagesComing grammar skin screen.name.now screen.columns screen.rows screen.files screen.start a old.keys old.screen r keys drawn → Performs holds words old r (devices keys drawn old.out)
+    → PagesComing grammar skin screen.name.now screen.columns screen.rows screen.files (start_of screen.begins) a old.keys old.screen r keys drawn → Performs holds words old r (devices keys drawn old.out)
 coming_run holds words old r keys drawn mark named file grammar place screen skin a is shown begun fresh pages =
     inr (inl (record {
       mark = mark;
@@ -48,7 +48,7 @@ returns-in_err-coming-in-Some g c =
 
 pub returns-in_ok-coming-in-Some : goal.returns-in_ok-coming-in-Some
 returns-in_ok-coming-in-Some g c =
-    coming_run _ _ (devices (g.I.Source.seen c.args.input.now) (g.S.Out.seen c.args.screen.now) (g.O.Out.seen c.args.out.now)) _ _ _ _ _ c.in_ok-call.call.file.now c.in_ok-call.call.grammar c.in_ok-call.call.place c.in-Some.place
+    coming_run _ _ (devices (g.I.Source.seen c.args.keys.now.input) (g.S.Out.seen c.args.screen.now) (g.O.Out.seen c.args.out.now)) _ _ _ _ _ c.in_ok-call.call.file.now c.in_ok-call.call.grammar c.in_ok-call.call.place c.in-Some.place
     c.in_ok-call.skin _ c.in-Some.ensures.0 c.in-Some.ensures.1 c.in_ok-call.ensures (record { ended = c.in_ok-coming-in-Some.ensures.0; is_whole = c.in_ok-coming-in-Some.ensures.1 }) c.page_coming.ensures
 
 pub returns-in_err-bytes-in-None : goal.returns-in_err-bytes-in-None

@@ -6,7 +6,7 @@ use Rattle.mad_term.specs.Trace.{Trace}
 use Rattle.markdown_lines.specs.Texts.{behind_mark}
 use Rattle.termimad_page_run.specs.declared.leaving.Leaving.{Leaving}
 use Rattle.termimad_page_run.specs.declared.program.Grammar.{Grammar}
-use Rattle.termimad_page.specs.Calls.{Where, where_of}
+use Rattle.termimad_page.specs.Calls.{Where, start_of, where_of}
 use Rattle.termimad_page.specs.Runs.{Devices, IsNoText, IsTextOf, PagesText, Shows, WritesWhole, devices}
 use Rattle.termimad_page.specs.declared.call.Place.{Place}
 use Rattle.termimad_page.specs.declared.call.Place.TheVariants.{OnScreen, Whole}
@@ -15,10 +15,10 @@ use Rattle.termimad_page.specs.declared.failing.Refusal.{Refusal}
 use Rattle.termimad_page.proofs.running.show.Goals as goal
 
 -- what is paged of bytes that are a text
-pages_shown : (grammar : Grammar) (skin : PageSkin) (place : Place) (screen : Screen) (bytes whole slice text : List ℕ) (old : Devices) (r : Result Leaving Refusal) (keys drawn : Trace) → place ≡ OnScreen screen → IsTextOf grammar bytes whole → slice ≡ whole → text ≡ behind_mark slice → PagesText grammar skin screen.name.now screen.columns screen.rows screen.files screen.start text old.keys old.screen r keys drawn → Shows grammar skin (where_of place) bytes old r (devices keys drawn old.out)
+pages_shown : (grammar : Grammar) (skin : PageSkin) (place : Place) (screen : Screen) (bytes whole slice text : List ℕ) (old : Devices) (r : Result Leaving Refusal) (keys drawn : Trace) → place ≡ OnScreen screen → IsTextOf grammar bytes whole → slice ≡ whole → text ≡ behind_mark slice → PagesText grammar skin screen.name.now screen.columns screen.rows screen.files (start_of screen.begins) text old.keys old.screen r keys drawn → Shows grammar skin (where_of place) bytes old r (devices keys drawn old.out)
 pages_shown grammar skin place screen bytes whole slice text old r keys drawn is of p q pages =
     subst (λ (w : Place). Shows grammar skin (where_of w) bytes old r (devices keys drawn old.out)) (sym is)
-    (inl (whole, of, (subst (λ (t : List ℕ). PagesText grammar skin screen.name.now screen.columns screen.rows screen.files screen.start t old.keys old.screen r keys drawn) (q ∙ ap behind_mark p) pages, refl)))
+    (inl (whole, of, (subst (λ (t : List ℕ). PagesText grammar skin screen.name.now screen.columns screen.rows screen.files (start_of screen.begins) t old.keys old.screen r keys drawn) (q ∙ ap behind_mark p) pages, refl)))
 
 -- what is written of them
 whole_shown : (grammar : Grammar) (skin : PageSkin) (place : Place) (columns : ℕ) (bytes whole slice text : List ℕ) (old : Devices) (r : Result Leaving Refusal) (out : Trace) → place ≡ Whole columns → IsTextOf grammar bytes whole → slice ≡ whole → text ≡ behind_mark slice → WritesWhole grammar skin columns text old.out r out → Shows grammar skin (where_of place) bytes old r (devices old.keys old.screen out)
@@ -38,11 +38,11 @@ returns-in_err-whole g c =
 pub returns-in-OnScreen : goal.returns-in-OnScreen
 returns-in-OnScreen g c =
     pages_shown c.args.call.now.grammar c.args.skin.now c.args.call.now.place c.in-OnScreen.place c.args.bytes.now (cow_str_bytes c.in_ok-whole.whole) c.deref.result.now _
-    (devices (g.I.Source.seen c.args.input.now) (g.S.Out.seen c.args.screen.now) (g.O.Out.seen c.args.out.now)) _ _ _
+    (devices (g.I.Source.seen c.args.keys.now.input) (g.S.Out.seen c.args.screen.now) (g.O.Out.seen c.args.out.now)) _ _ _
     c.in-OnScreen.is c.in_ok-whole.ensures c.deref.ensures.value c.behind_mark-text.ensures c.page_text.ensures
 
 pub returns : goal.returns
 returns g c =
     whole_shown c.args.call.now.grammar c.args.skin.now c.args.call.now.place c.in-Whole.columns c.args.bytes.now (cow_str_bytes c.in_ok-whole.whole) c.deref.result.now _
-    (devices (g.I.Source.seen c.args.input.now) (g.S.Out.seen c.args.screen.now) (g.O.Out.seen c.args.out.now)) _ _
+    (devices (g.I.Source.seen c.args.keys.now.input) (g.S.Out.seen c.args.screen.now) (g.O.Out.seen c.args.out.now)) _ _
     c.in-Whole.is c.in_ok-whole.ensures c.deref.ensures.value c.behind_mark-text.ensures c.write_whole.ensures
