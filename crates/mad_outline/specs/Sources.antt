@@ -7,9 +7,9 @@ use Rattle.mad_md.specs.Scan.{lines_of}
 use Rattle.mad_md.specs.declared.composite.CompositeStyle.{CompositeStyle}
 use Rattle.mad_md.specs.declared.composite.CompositeStyle.TheVariants.{Header, ListItem, ListItemFollowUp}
 use Rattle.mad_plain.specs.Runs.{StyledChar}
-use Rattle.mad_plain_page.specs.PlainTexts.{lines_kept, painted_rows}
+use Rattle.mad_plain_page.specs.PlainTexts.{drawn_rows, lines_kept}
 use Rattle.mad_style.specs.declared.styled_chars.StyledChar.{StyledChar as PaintedChar}
-use Rattle.mad_search.specs.PagedTexts.{grouped, paged_groups, paged_sections, plain_sections, row_sections}
+use Rattle.mad_search.specs.PagedTexts.{grouped, paged_groups, paged_sections, plain_rows, plain_sections, wrapped_at}
 use Rattle.mad_sections.specs.Sections.{SectionContent}
 use Rattle.mad_search.specs.declared.paged.PagedText.{PagedText}
 use Rattle.mad_search.specs.declared.paged.PagedText.TheVariants.{Lines, Markdown, Plain}
@@ -78,9 +78,18 @@ headers_listed page chosen = or_said (codes "There are no headers.") (items_by (
 abbrev pub alone_each : List SectionContent → List (List SectionContent)
 alone_each page = grouped [] page
 
--- the sections that are shown at each width, in groups, as one with the rule below it
+-- sections that are shown, in groups, as one with the rule below it, and the width that they are laid out at, if they are at one
+pub record PageShown : Type 0 where
+  pub width : Option ℕ
+  pub groups : List (List SectionContent)
+
+-- what is shown at each width
 abbrev pub PageAt : Type 0
-PageAt = ℕ → List (List SectionContent)
+PageAt = ℕ → PageShown
+
+-- groups of sections, laid out at the width itself
+abbrev pub laid_at : ℕ → List (List SectionContent) → PageShown
+laid_at width groups = record { width = Some width; groups = groups }
 
 -- What a text says: its sections, those that are shown at a width, and its links, if it can have some. If it has rows in styles of their own, those at a
 -- width.
@@ -94,12 +103,16 @@ pub record TextSaid : Type 0 where
 abbrev pub plain_said : List ℕ → TextSaid
 plain_said text =
     let page = plain_sections (lines_of (unread_text false text)) in
-    record { page = page; shown = λ width. alone_each page; drawn = None; links = None }
+    record { page = page; shown = λ width. laid_at width (alone_each page); drawn = None; links = None }
 
--- what a text says that isn't Markdown, whose lines show this: no sections but its rows, which have styles of their own, shown or not
-abbrev pub rows_said : Bool → List (List StyledChar) → TextSaid
-rows_said is_styled lines =
-    record { page = []; shown = λ width. alone_each (row_sections width lines); drawn = Some (λ width. painted_rows is_styled width lines); links = None }
+-- What a text says that isn't Markdown, whose lines show this: no sections but its rows. They have styles of their own, shown or not, and are wrapped or cut.
+abbrev pub rows_said : Option ℕ → Bool → List (List StyledChar) → TextSaid
+rows_said cut is_styled lines = record {
+  page = [];
+  shown = λ width. record { width = wrapped_at cut width; groups = alone_each (plain_rows cut width lines) };
+  drawn = Some (λ width. drawn_rows cut is_styled width lines);
+  links = None;
+}
 
 -- what Markdown that was read says of its links, with the text that it was read from
 abbrev pub links_of : MarkdownText → List ℕ → TextLinks
@@ -114,11 +127,11 @@ abbrev pub text_said : PagedText → TextSaid
 text_said (Lines source) = plain_said source.now
 text_said (Markdown markdown dressings source) = record {
   page = paged_sections (Markdown markdown dressings source);
-  shown = paged_groups (Markdown markdown dressings source);
+  shown = λ width. laid_at width (paged_groups (Markdown markdown dressings source) width);
   drawn = None;
   links = Some (links_of markdown.now source.now);
 }
-text_said (Plain text) = rows_said text.now.is_styled (lines_kept text.now)
+text_said (Plain text) = rows_said text.now.cut text.now.is_styled (lines_kept text.now)
 
 -- a text, one whose links have numbers where they stand, links in lines, or the headers of a page, one of which is chosen, by its index
 pub data Content : Type 0 where
@@ -127,12 +140,12 @@ pub data Content : Type 0 where
   addresses : LinksIn → Content
   headers : List SectionContent → ℕ → Content
 
--- the sections of what is shown at a width, in groups
+-- what is shown at a width
 abbrev pub content_page : Content → PageAt
 content_page (a_text text) = text.shown
 content_page (numbered text) = text.shown
-content_page (addresses links) = λ width. alone_each (plain_sections (links_listed links))
-content_page (headers page chosen) = λ width. alone_each (plain_sections (headers_listed page chosen))
+content_page (addresses links) = λ width. laid_at width (alone_each (plain_sections (links_listed links)))
+content_page (headers page chosen) = λ width. laid_at width (alone_each (plain_sections (headers_listed page chosen)))
 
 -- what a session shows, whatever its address
 abbrev pub content_of : Source → Content
@@ -141,7 +154,7 @@ content_of (Numbered text) = numbered (text_said text)
 content_of (Links markdown source from to) = addresses (links_between markdown.now source.now from to)
 content_of (Contents text chosen) = headers (paged_sections text) chosen
 
--- the sections of what a session shows at a width, in groups
+-- what a session shows at a width
 abbrev pub source_page : Source → PageAt
 source_page source = content_page (content_of source)
 

@@ -35,7 +35,7 @@ pub enum Source<'s> {
 impl<'s> Source<'s> {
     // The sections of what is shown at a width, each with what is put into the page with it.
     fn dressed(self, alloc: Global, width: usize) -> Result<Vec<Dressed<'s>>, AllocError>
-        ensures { IfOk result (λ dressed. map sections_dressed dressed.items ≡ source_page self.entry width) }
+        ensures { IfOk result (λ dressed. map sections_dressed dressed.items ≡ (source_page self.entry width).groups) }
     {
         match self {
             Source::Text(text) => {
@@ -59,7 +59,19 @@ impl<'s> Source<'s> {
         }
     }
 
-    /// What is shown, laid out at a width, in columns. Boxes of tasks are of ASCII characters, or not.
+    // The width that this is laid out at for one of these columns.
+    fn width_laid(self, width: usize) -> Option<usize>
+        ensures { result ≡ (source_page self.entry width).width }
+    {
+        match self {
+            Source::Text(text) => text.width_laid(width),
+            Source::Numbered(text) => text.width_laid(width),
+            Source::Links(_, _, _, _) => Some(width),
+            Source::Contents(_, _) => Some(width),
+        }
+    }
+
+    /// What is shown, laid out at a width, in columns, or, where lines are cut, at none. Boxes of tasks are of ASCII characters, or not.
     ///
     /// # Errors
     ///
@@ -71,10 +83,10 @@ impl<'s> Source<'s> {
         width: usize,
         ascii: bool,
     ) -> Result<PagedPage<'s>, AllocError>
-        ensures { IfOk result (λ laid. IsPagedAt (S.rules skin.now) ascii (Some width) (source_page self.entry width) laid) }
+        ensures { IfOk result (λ laid. IsPagedAt (S.rules skin.now) ascii (source_page self.entry width).width (source_page self.entry width).groups laid) }
     {
         let page = self.dressed(alloc, width)?;
-        let laid = lay_beside(alloc, skin, page, Some(width), ascii)?;
+        let laid = lay_beside(alloc, skin, page, self.width_laid(width), ascii)?;
         Ok(laid)
     }
 }

@@ -34,6 +34,7 @@ use Rattle.mad_layout.specs.Drawable.{AreDrawable}
 use Rattle.mad_layout.specs.Shown.{area_bytes, area_row}
 use Rattle.mad_layout.specs.declared.skin.MadSkin.{MadSkin}
 use Rattle.mad_style.specs.declared.compound_styles.CompoundStyle.{CompoundStyle}
+use Rattle.mad_style.specs.declared.styled_chars.StyledChar.{StyledChar}
 use Rattle.mad_page_skin.specs.declared.page_skin.PageSkin.{PageSkin}
 use Rattle.mad_rows.specs.declared.row_skin.RowSkin.{RowSkin}
 use Rattle.mad_hits.specs.FrontHits.{AreRowsMarked}
@@ -45,7 +46,7 @@ use Rattle.mad_pager.proofs.PageFills.{text_fills}
 use Rattle.std.proofs.lemmas.Bool.{ltb-false}
 use Rattle.std.proofs.lemmas.Bool.Decides.{nat_tests}
 use Rattle.regex.specs.Patterns.{Re}
-use Rattle.mad_pager.specs.Screens.{status_skin, is_small, area_of, bar_of, text_pane, field_pane, prompt_pane, prompt_row, status_pane, status_words, AreHitsDrawn, AreNumbersDrawn, ArePanesDrawn, IsFieldShown, IsLineIn, IsStatusLine, AreLinesShown, IsFieldRow, IsLastRow, IsStatus, IsDrawing, IsPicture, IsTypingShown, IsStatusShown, IsFieldInRow, IsShowing, IsShown, IsUnshown, WritesStatus, own_rows, question, room_of}
+use Rattle.mad_pager.specs.Screens.{status_skin, is_small, area_of, bar_of, text_pane, field_pane, lines_shown, prompt_pane, prompt_row, status_pane, status_words, AreHitsDrawn, AreNumbersDrawn, ArePanesDrawn, IsFieldShown, IsLineIn, IsStatusLine, AreLinesShown, IsFieldRow, IsLastRow, IsStatus, IsDrawing, IsPicture, IsTypingShown, IsStatusShown, IsFieldInRow, IsShowing, IsShown, IsUnshown, WritesStatus, own_rows, question, room_of}
 use Rattle.mad_pager.specs.Sessions.{State, paged_skin, field_row, last_row, prompt_cell, text_area}
 
 -- ---- what is shown
@@ -121,26 +122,26 @@ showable s some h = record {
   takes = λ plain. all_each (λ (c : ℕ). 0 < char_columns c) (λ (c : ℕ). is_newline c ≡ false → 0 < char_columns c) (λ c takes inside. takes) s.field.content.text h.typed;
 }
 
-typing_shown : (skin : PageSkin) (s : State) (a b : List ℕ) → 1 < s.page.columns → AreLinesShown skin s a → IsFieldRow s b → IsTypingShown skin s (a ++ b)
-typing_shown skin s a b wide lines row keeps field =
+typing_shown : (skin : PageSkin) (own : Option (List (List StyledChar))) (s : State) (a b : List ℕ) → 1 < s.page.columns → AreLinesShown skin own s a → IsFieldRow s b → IsTypingShown skin own s (a ++ b)
+typing_shown skin own s a b wide lines row keeps field =
     let columns = s.page.columns in
     let rows = s.page.rows in
     let text_field = subst (λ (x : Area). AreApart (area_of s) x) (sym field.area) (field_apart columns rows) in
     let slash_field = subst (λ (x : Area). AreApart (prompt_cell rows) x) (sym field.area) (prompt_field_apart columns rows) in
-    panes_shown (text_pane skin s ∷ prompt_pane s ∷ field_pane s ∷ []) (a ++ b) ((prompt_apart columns rows, (text_field, tt)), ((slash_field, tt), (tt, tt))) (a, b, refl, (lines keeps).whole, row wide field)
+    panes_shown (text_pane skin own s ∷ prompt_pane s ∷ field_pane s ∷ []) (a ++ b) ((prompt_apart columns rows, (text_field, tt)), ((slash_field, tt), (tt, tt))) (a, b, refl, (lines keeps).whole, row wide field)
 
-status_shown : (skin : PageSkin) (name : List ℕ) (s : State) (a b : List ℕ) → AreLinesShown skin s a → IsStatus skin name s b → IsStatusShown skin name s (a ++ b)
-status_shown skin name s a b lines row = record {
+status_shown : (skin : PageSkin) (name : List ℕ) (own : Option (List (List StyledChar))) (s : State) (a b : List ℕ) → AreLinesShown skin own s a → IsStatus skin name s b → IsStatusShown skin name own s (a ++ b)
+status_shown skin name own s a b lines row = record {
   dress = row.dress;
   dressed = row.dressed;
   line = row.line;
   status = row.is;
-  shown = λ keeps drawable. both_shown (text_pane skin s) (status_pane (row_skin row.dress) row.line s) a b (rows_apart s.page.columns s.page.rows) (lines keeps).whole (row.shown drawable);
+  shown = λ keeps drawable. both_shown (text_pane skin own s) (status_pane (row_skin row.dress) row.line s) a b (rows_apart s.page.columns s.page.rows) (lines keeps).whole (row.shown drawable);
 }
 
 -- the text and the last row, drawn in turn
-pub screen_shown : (skin : PageSkin) (name : List ℕ) (s : State) → is_small s ≡ false → (a b : List ℕ) → AreLinesShown skin s a → IsLastRow skin name s b → ArePanesDrawn skin name s (a ++ b)
-screen_shown skin name s large a b lines row =
+pub screen_shown : (skin : PageSkin) (name : List ℕ) (own : Option (List (List StyledChar))) (s : State) → is_small s ≡ false → (a b : List ℕ) → AreLinesShown skin own s a → IsLastRow skin name s b → ArePanesDrawn skin name own s (a ++ b)
+screen_shown skin name own s large a b lines row =
     let wide = not_small s large in
     let some : 1 < s.page.columns = omega (arith, wide) in
     record {
@@ -148,8 +149,8 @@ screen_shown skin name s large a b lines row =
       last = b;
       are = refl;
       beside = lines;
-      typing = λ is. typing_shown skin s a b some lines (row.typing is);
-      status = λ is. status_shown skin name s a b lines (row.status is);
+      typing = λ is. typing_shown skin own s a b some lines (row.typing is);
+      status = λ is. status_shown skin name own s a b lines (row.status is);
     }
 
 -- these bytes show the text and the last row, and what is drawn over the text
@@ -157,11 +158,11 @@ pub record IsDrawnOver (skin : PageSkin) (name : List ℕ) (content : Content) (
   pub panes : List ℕ
   pub hits : List ℕ
   pub are : bytes ≡ panes ++ hits
-  pub drawn : ArePanesDrawn skin name s panes
+  pub drawn : ArePanesDrawn skin name (own_rows skin content s) s panes
   pub marked : AreHitsDrawn skin (own_rows skin content s) s hits
 
 -- and then what is drawn over them
-pub over_shown : (skin : PageSkin) (name : List ℕ) (content : Content) (s : State) (a b : List ℕ) → ArePanesDrawn skin name s a → AreHitsDrawn skin (own_rows skin content s) s b → IsDrawnOver skin name content s (a ++ b)
+pub over_shown : (skin : PageSkin) (name : List ℕ) (content : Content) (s : State) (a b : List ℕ) → ArePanesDrawn skin name (own_rows skin content s) s a → AreHitsDrawn skin (own_rows skin content s) s b → IsDrawnOver skin name content s (a ++ b)
 over_shown skin name content s a b panes over = record { panes = a; hits = b; are = refl; drawn = panes; marked = over }
 
 -- and last numbers
@@ -273,13 +274,13 @@ hits_along skin dress style given_room room height rows top text sought shown li
     (subst (λ (fs : List Front). of dress given_room height text shown fs starts) g (subst (λ (ts : List ℕ). of dress given_room height text shown front ts) i h))))))
 
 -- the rows of the text beside its bar, along what is equal
-pub lines_along : (skin : PageSkin) (s : State) (dress : RowSkin) (bar : Option ScrollBar) (shown : List FmtLine) (front : List Front) (room : RowRoom) (height : ℕ) (old new : Trace) → is_small s ≡ false → s.page.columns < 2 ^ 16 → dress ≡ paged_skin skin → bar ≡ bar_of skin s
-    → shown ≡ s.laid.lines.items → front ≡ s.laid.fronts.items → room ≡ room_of skin s → height ≡ s.page.rows - 1 → TookWith old new (ArePageRowsDrawn dress bar shown front s.page.top room s.page.columns height) → TookWith old new (AreLinesShown skin s)
-lines_along skin s dress bar shown front room height old new large narrow a b d e i f h =
+pub lines_along : (skin : PageSkin) (own : Option (List (List StyledChar))) (s : State) (dress : RowSkin) (bar : Option ScrollBar) (shown : List FmtLine) (front : List Front) (room : RowRoom) (height : ℕ) (old new : Trace) → is_small s ≡ false → s.page.columns < 2 ^ 16 → dress ≡ paged_skin skin → bar ≡ bar_of skin s
+    → shown ≡ lines_shown own s.laid.lines.items → front ≡ s.laid.fronts.items → room ≡ room_of skin s → height ≡ s.page.rows - 1 → TookWith old new (ArePageRowsDrawn dress bar shown front s.page.top room s.page.columns height) → TookWith old new (AreLinesShown skin own s)
+lines_along skin own s dress bar shown front room height old new large narrow a b d e i f h =
     let of : RowSkin → Option ScrollBar → List FmtLine → List Front → RowRoom → ℕ → Type 0 = λ k bar ls fs r n. TookWith old new (ArePageRowsDrawn k bar ls fs s.page.top r s.page.columns n) in
-    let lines = s.laid.lines.items in
+    let lines = lines_shown own s.laid.lines.items in
     let fronts = s.laid.fronts.items in
-    took_so old new (ArePageRowsDrawn (paged_skin skin) (bar_of skin s) lines fronts s.page.top (room_of skin s) s.page.columns (s.page.rows - 1)) (AreLinesShown skin s) (λ text drawn keeps. drawn (text_fills skin s (not_small s large) narrow keeps))
+    took_so old new (ArePageRowsDrawn (paged_skin skin) (bar_of skin s) lines fronts s.page.top (room_of skin s) s.page.columns (s.page.rows - 1)) (AreLinesShown skin own s) (λ text drawn keeps. drawn (text_fills skin own s (not_small s large) narrow keeps))
     (subst (λ (k : RowSkin). of k (bar_of skin s) lines fronts (room_of skin s) (s.page.rows - 1)) a
     (subst (λ (x : Option ScrollBar). of dress x lines fronts (room_of skin s) (s.page.rows - 1)) b
     (subst (λ (ls : List FmtLine). of dress bar ls fronts (room_of skin s) (s.page.rows - 1)) d

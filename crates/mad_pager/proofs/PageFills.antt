@@ -2,6 +2,7 @@
 use Rattle.std.proofs.Common.{◌≡◌, ◌⊎◌, inl, inr, ℕ, zero, suc, ◌+◌, ◌-◌, ◌^◌, ◌<◌, ◌≤◌, Bool, true, false, nat_lt, List, [], ◌∷◌, ◌++◌, drop, take, length, Option, Some, None, refl, ap, sym, ◌∙◌, subst, arith}
 use Rattle.std.specs.Prelude.{cond, count_by, slice_get}
 use Rattle.std.specs.List.{AllByRecursion}
+use Rattle.std.proofs.Math.Seq.{drop-nil}
 use Rattle.std.proofs.lemmas.Bool.Decides.{nat_tests}
 use Rattle.std.proofs.lemmas.List.Sums.{sum_by-cons}
 use Rattle.std.proofs.lemmas.Option.{same_Some}
@@ -17,6 +18,7 @@ use Rattle.mad_hits.specs.FrontRows.{row_shown}
 use Rattle.mad_hits.specs.Rooms.{in_room, room_columns}
 use Rattle.mad_hits.specs.declared.rooms.RowRoom.{RowRoom}
 use Rattle.mad_page_skin.specs.declared.page_skin.PageSkin.{PageSkin}
+use Rattle.mad_style.specs.declared.styled_chars.StyledChar.{StyledChar}
 use Rattle.mad_rows.specs.RowStyles.{line_rules}
 use Rattle.mad_rows.specs.declared.row_skin.RowSkin.{RowSkin}
 use Rattle.mad_sections.specs.Sections.{SectionContent}
@@ -161,17 +163,17 @@ blanks_fill : (skin : RowSkin) (width : ℕ) → FillsRow width (blanks skin wid
 blanks_fill skin width = record { shown = shown_spaces skin.paragraph.compound_style width; columns = spaces_columns skin.paragraph.compound_style width }
 
 -- a line on the screen is drawn exactly behind its front
-pub drawable_on_screen : (skin : PageSkin) (s : State) (y : ℕ) (line : FmtLine) → 5 ≤ s.page.columns → s.page.columns < 2 ^ 16 → KeepsTextPremises skin s → y < (area_of s).height → slice_get s.laid.lines.items (s.page.top + y) ≡ Some line
+pub drawable_on_screen : (skin : PageSkin) (s : State) (y : ℕ) (line : FmtLine) → 5 ≤ s.page.columns → s.page.columns < 2 ^ 16 → KeepsTextPremises skin None s → y < (area_of s).height → slice_get s.laid.lines.items (s.page.top + y) ≡ Some line
     → IsDrawableBehind (paged_skin skin) (text_columns skin s) (row_behind (front_at s.laid.fronts.items (s.page.top + y)) line)
 drawable_on_screen skin s y line wide narrow keeps inside is =
     let dress : RowSkin = paged_skin skin in
     let width : ℕ = layout_width skin.room s.page.columns in
     let end : ℕ = s.page.top + (area_of s).height in
     let row : ℕ = s.page.top + y in
-    let groups = keeps.laid.groups_begin in
-    begun_drawable dress width (text_columns skin s) end 0 (keeps.page width) keeps.laid.rows groups.0 (three_wide skin.room s.page.columns wide) (wide_enough skin s) (let short = narrow_enough skin s narrow in omega (arith, short)) keeps.faces groups.2
-    (subst (λ (l : List ℕ). AllByRecursion (KeepsRoom dress width) (sections_at dress width (sections_in (take (count_by (λ start. nat_lt start end) l) (keeps.page width))))) groups.1 keeps.keeps) row
-    (row_behind (front_at s.laid.fronts.items row) line) (rows_are (line_rules dress) (has_ascii_boxes dress) (Some width) (keeps.page width) s.laid keeps.laid row line is) (omega (arith, inside))
+    let groups = keeps.lines.laid.groups_begin in
+    begun_drawable dress width (text_columns skin s) end 0 keeps.lines.groups keeps.lines.laid.rows groups.0 (three_wide skin.room s.page.columns wide) (wide_enough skin s) (let short = narrow_enough skin s narrow in omega (arith, short)) keeps.faces groups.2
+    (subst (λ (l : List ℕ). AllByRecursion (KeepsRoom dress width) (sections_at dress width (sections_in (take (count_by (λ start. nat_lt start end) l) keeps.lines.groups)))) groups.1 keeps.lines.keeps) row
+    (row_behind (front_at s.laid.fronts.items row) line) (rows_are (line_rules dress) (has_ascii_boxes dress) (Some width) keeps.lines.groups s.laid keeps.lines.laid row line is) (omega (arith, inside))
 
 -- a row that fills its room fills the columns that the bar leaves
 room_fills : (skin : PageSkin) (s : State) (row : List RowPiece) → 5 ≤ s.page.columns → FillsRow (text_columns skin s) row → FillsRow (columns_beside (bar_of skin s) s.page.columns) (in_room (paged_skin skin) (room_of skin s) (columns_beside (bar_of skin s) s.page.columns) row)
@@ -192,9 +194,19 @@ room_fills skin s row wide fills =
       columns = omega (arith, first, rest, ends, one, two, three);
     }
 
+-- where there are no lines, there is none
+none_got : (lines : List FmtLine) (y : ℕ) → lines ≡ [] → slice_get lines y ≡ None
+none_got lines y is = ap (λ (l : List FmtLine). slice_get l y) is
+
 -- each row of the screen fills the columns that the bar leaves
-pub text_fills : (skin : PageSkin) (s : State) → 5 ≤ s.page.columns → s.page.columns < 2 ^ 16 → KeepsTextPremises skin s → FillBeside (bar_of skin s) (text_rows skin s) (area_of s)
-text_fills skin s wide narrow keeps = record { column = keeps.bar; rows = λ y inside. room_fills skin s _ wide (row_full y inside (slice_get (drop s.page.top s.laid.lines.items) y) refl) }
+pub text_fills : (skin : PageSkin) (own : Option (List (List StyledChar))) (s : State) → 5 ≤ s.page.columns → s.page.columns < 2 ^ 16 → KeepsTextPremises skin own s → FillBeside (bar_of skin s) (text_rows skin own s) (area_of s)
+text_fills skin (Some own) s wide narrow keeps = record {
+  column = keeps.bar;
+  rows = λ y inside. room_fills skin s _ wide
+      (subst (λ (o : Option FmtLine). FillsRow (text_columns skin s) (row_shown (paged_skin skin) (text_columns skin s) (front_at (drop s.page.top s.laid.fronts.items) y) o)) (sym (none_got (drop s.page.top []) y (drop-nil s.page.top)))
+      (blanks_fill (paged_skin skin) (text_columns skin s)));
+}
+text_fills skin None s wide narrow keeps = record { column = keeps.bar; rows = λ y inside. room_fills skin s _ wide (row_full y inside (slice_get (drop s.page.top s.laid.lines.items) y) refl) }
   where
     row_full : (y : ℕ) → y < (area_of s).height → (o : Option FmtLine) → slice_get (drop s.page.top s.laid.lines.items) y ≡ o
         → FillsRow (text_columns skin s) (row_shown (paged_skin skin) (text_columns skin s) (front_at (drop s.page.top s.laid.fronts.items) y) (slice_get (drop s.page.top s.laid.lines.items) y))

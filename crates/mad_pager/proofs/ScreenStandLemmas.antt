@@ -49,7 +49,7 @@ counted skin width HorizontalRule h = tt
 -- ---- the rows of a screen
 
 -- each row from one on, as many as are left of so many
-stand_from : (skin : PageSkin) (s : State) (sought : Re) (y n row : ℕ) (bytes : List ℕ) → 5 ≤ s.page.columns → s.page.columns < 2 ^ 16 → row ≡ s.page.top + y → y + n ≤ (area_of s).height → KeepsTextPremises skin s
+stand_from : (skin : PageSkin) (s : State) (sought : Re) (y n row : ℕ) (bytes : List ℕ) → 5 ≤ s.page.columns → s.page.columns < 2 ^ 16 → row ≡ s.page.top + y → y + n ≤ (area_of s).height → KeepsTextPremises skin None s
     → (marked : AreRowsMarked (paged_skin skin) skin.hit (room_of skin s) sought s.laid.lines.items s.laid.fronts.items s.laid.parts.items y (range_with_len row n) bytes) → StandOnScreen skin s sought y (range_with_len row n) bytes marked
 stand_from skin s sought y zero row bytes wide short at fits keeps marked = tt
 stand_from skin s sought y (suc n) row bytes wide short at fits keeps marked =
@@ -80,7 +80,7 @@ stand_from skin s sought y (suc n) row bytes wide short at fits keeps marked =
     )
 
 -- those of what is sought, if anything is
-marks_stand : (skin : PageSkin) (s : State) (bytes : List ℕ) (pattern : Option Re) → s.page.columns < 2 ^ 16 → is_small s ≡ false → KeepsTextPremises skin s → (marks : AreMarks skin s pattern bytes) → MarksStand skin s bytes pattern marks
+marks_stand : (skin : PageSkin) (s : State) (bytes : List ℕ) (pattern : Option Re) → s.page.columns < 2 ^ 16 → is_small s ≡ false → KeepsTextPremises skin None s → (marks : AreMarks skin s pattern bytes) → MarksStand skin s bytes pattern marks
 marks_stand skin s bytes None narrow shows keeps marks = tt
 marks_stand skin s bytes (Some sought) narrow shows keeps marks =
     stand_from skin s sought 0 (min (area_of s).height (length s.laid.lines.items - s.page.top)) s.page.top bytes (not_small s shows) narrow (omega arith) (omega arith) keeps marks

@@ -70,11 +70,11 @@ same_previous a b l m t u end to row e k i f h =
     subst (λ (n : ℕ). IsPreviousRowIn b m u n row) f (subst (λ (y : List ℕ). IsPreviousRowIn b m y end row) i (subst (λ (x : List FmtLine). IsPreviousRowIn b x t end row) k (subst (λ (x : Re). IsPreviousRowIn x l t end row) e h)))
 
 -- a text laid out at the width of a screen is so for the screen
-pub laid_at : (skin : PageSkin) (page : PageAt) (columns width : ℕ) (dress : RowSkin) (ascii : Bool) (laid : PagedPage) → dress ≡ paged_skin skin → ascii ≡ has_ascii_boxes dress → width ≡ layout_width skin.room columns → IsPagedAt (line_rules dress) ascii (Some width) (page width) laid
+pub laid_at : (skin : PageSkin) (page : PageAt) (columns width : ℕ) (dress : RowSkin) (ascii : Bool) (laid : PagedPage) → dress ≡ paged_skin skin → ascii ≡ has_ascii_boxes dress → width ≡ layout_width skin.room columns → IsPagedAt (line_rules dress) ascii (page width).width (page width).groups laid
     → IsLaidFor skin page columns laid
 laid_at skin page columns width dress ascii laid dressed boxes e h =
-    subst (λ (n : ℕ). IsPagedAt (line_rules (paged_skin skin)) (has_ascii_boxes (paged_skin skin)) (Some n) (page n) laid) e
-    (subst (λ (d : RowSkin). IsPagedAt (line_rules d) (has_ascii_boxes d) (Some width) (page width) laid) dressed (subst (λ (b : Bool). IsPagedAt (line_rules dress) b (Some width) (page width) laid) boxes h))
+    subst (λ (n : ℕ). IsPagedAt (line_rules (paged_skin skin)) (has_ascii_boxes (paged_skin skin)) (page n).width (page n).groups laid) e
+    (subst (λ (d : RowSkin). IsPagedAt (line_rules d) (has_ascii_boxes d) (page width).width (page width).groups laid) dressed (subst (λ (b : Bool). IsPagedAt (line_rules dress) b (page width).width (page width).groups laid) boxes h))
 
 -- a text that is laid out anew for the size that was told
 pub settled_some : (skin : PageSkin) (text : PageAt) (told : Option ScreenSize) (size : ScreenSize) (s new : State) → told ≡ Some size → IsResized skin text size.columns size.rows s new → IsLaidAnew told skin text s new

@@ -139,6 +139,7 @@ help_lines =
     codes "|a number|before j or k: so many rows; before g: that row|" ∷
     codes "|%|behind a number: to that per cent|" ∷
     codes "|=|tells the row, how many there are, and the per cent|" ∷
+    codes "|S; Left, Right|with --plain: cuts lines, wraps them; moves cut ones|" ∷
     codes "|}, ]; {, [|the next header; the one before|" ∷
     codes "|t|the contents: j and k choose a header, Enter goes there|" ∷
     codes "|/; ?|seeks a text, on or back: Enter, Esc; Up: earlier ones|" ∷

@@ -22,8 +22,10 @@ use Rattle.mad_hits.specs.Panes.{page_rows}
 use Rattle.mad_link_places.specs.Numbers.{AreNumbersShown}
 use Rattle.mad_hits.specs.declared.rooms.RowRoom.{RowRoom}
 use Rattle.mad_page_rows.specs.FaceLaws.{AreFacesShown}
+use Rattle.mad_page_rows.specs.Faces.{has_ascii_boxes}
 use Rattle.mad_page_rows.specs.PageFits.{KeepsRoom, sections_at}
-use Rattle.mad_pages.specs.PagedPages.{sections_in}
+use Rattle.mad_pages.specs.PagedPages.{IsPagedAt, sections_in}
+use Rattle.mad_sections.specs.Sections.{SectionContent}
 use Rattle.mad_rows.specs.RowStyles.{line_rules}
 use Rattle.mad_page.specs.declared.page.Page.{Page}
 use Rattle.mad_page.specs.Pages.{percent, row_number}
@@ -73,13 +75,18 @@ bar_of skin s = bar_beside (area_of s) s.page.top (length s.laid.lines.items) sk
 abbrev pub room_of : PageSkin → State → RowRoom
 room_of skin s = room_on skin.room s.page.columns (columns_beside (bar_of skin s) (area_of s).width)
 
+-- the lines that rows show: those that were laid out, or none, where rows with styles of their own are drawn over blanks
+abbrev pub lines_shown : Option (List (List StyledChar)) → List FmtLine → List FmtLine
+lines_shown None lines = lines
+lines_shown (Some own) lines = []
+
 -- the text's rows from the top one on, each in that room
-abbrev pub text_rows : PageSkin → State → ℕ → List RowPiece
-text_rows skin s = page_rows (paged_skin skin) (bar_of skin s) s.laid.lines.items s.laid.fronts.items s.page.top (room_of skin s) (area_of s).width
+abbrev pub text_rows : PageSkin → Option (List (List StyledChar)) → State → ℕ → List RowPiece
+text_rows skin own s = page_rows (paged_skin skin) (bar_of skin s) (lines_shown own s.laid.lines.items) s.laid.fronts.items s.page.top (room_of skin s) (area_of s).width
 
 -- the text's rows beside the bar
-abbrev pub text_pane : PageSkin → State → Pane
-text_pane skin s = record { area = area_of s; row = beside_bar (bar_of skin s) (text_rows skin s) }
+abbrev pub text_pane : PageSkin → Option (List (List StyledChar)) → State → Pane
+text_pane skin own s = record { area = area_of s; row = beside_bar (bar_of skin s) (text_rows skin own s) }
 
 -- the area of the status: the last row
 abbrev pub status_area : State → Area
@@ -197,19 +204,28 @@ pub record IsOrderly (skin : PageSkin) (page : PageAt) (s : State) : Type 0 wher
 abbrev pub count_begun : State → ℕ
 count_begun s = count_by (λ start. nat_lt start (s.page.top + (area_of s).height)) s.laid.starts.items
 
--- What the text has to keep: what is laid out is a page each of whose sections, as far as the screen reaches, keeps the premises. The characters that the
--- skin shows beside text, and those of the bar, if there is one, take one column each.
-pub record KeepsTextPremises (skin : PageSkin) (s : State) : Type 0 where
-  pub page : PageAt
-  pub laid : IsLaidFor skin page s.page.columns s.laid
-  pub keeps : AllByRecursion (KeepsRoom (paged_skin skin) (layout_width skin.room s.page.columns)) (sections_at (paged_skin skin) (layout_width skin.room s.page.columns) (sections_in (take (count_begun s) (page (layout_width skin.room s.page.columns)))))
+-- Of lines that are shown, those of a page: each of its sections, as far as the screen reaches, keeps the premises.
+pub record KeepsSections (skin : PageSkin) (s : State) : Type 0 where
+  pub groups : List (List SectionContent)
+  pub laid : IsPagedAt (line_rules (paged_skin skin)) (has_ascii_boxes (paged_skin skin)) (Some (layout_width skin.room s.page.columns)) groups s.laid
+  pub keeps : AllByRecursion (KeepsRoom (paged_skin skin) (layout_width skin.room s.page.columns)) (sections_at (paged_skin skin) (layout_width skin.room s.page.columns) (sections_in (take (count_begun s) groups)))
+
+-- the same, where no rows have styles of their own
+abbrev pub KeepsLines : Option (List (List StyledChar)) → PageSkin → State → Type 0
+KeepsLines None skin s = KeepsSections skin s
+KeepsLines (Some own) skin s = Unit {0}
+
+-- What the text has to keep: its lines do, where they are shown. The characters that the skin shows beside text, and those of the bar, if there is one, take
+-- one column each.
+pub record KeepsTextPremises (skin : PageSkin) (own : Option (List (List StyledChar))) (s : State) : Type 0 where
+  pub lines : KeepsLines own skin s
   pub faces : AreFacesShown (paged_skin skin)
   pub bar : IfSome (bar_of skin s) (IsBarShown (area_of s).width)
 
 -- These bytes show the text from its top row on, beside its bar. The bar has bytes of its own, which show it in the last column whatever was read
 -- before them.
-abbrev pub AreLinesShown : PageSkin → State → List ℕ → Type 0
-AreLinesShown skin s bytes = KeepsTextPremises skin s → AreShownBeside (bar_of skin s) (text_rows skin s) (area_of s) bytes
+abbrev pub AreLinesShown : PageSkin → Option (List (List StyledChar)) → State → List ℕ → Type 0
+AreLinesShown skin own s bytes = KeepsTextPremises skin own s → AreShownBeside (bar_of skin s) (text_rows skin own s) (area_of s) bytes
 
 -- these bytes show what is being typed
 abbrev pub IsFieldShown : State → List ℕ → Type 0
@@ -226,25 +242,25 @@ pub record IsLastRow (skin : PageSkin) (name : List ℕ) (s : State) (bytes : Li
 
 -- These bytes show a session while something is being typed: the text from its top row on, its bar, and in the last row its sign and the field. Every
 -- other cell is as before.
-abbrev pub IsTypingShown : PageSkin → State → List ℕ → Type 0
-IsTypingShown skin s bytes = KeepsTextPremises skin s → IsFieldInRow s → ArePanesShown (text_pane skin s ∷ prompt_pane s ∷ field_pane s ∷ []) bytes
+abbrev pub IsTypingShown : PageSkin → Option (List (List StyledChar)) → State → List ℕ → Type 0
+IsTypingShown skin own s bytes = KeepsTextPremises skin own s → IsFieldInRow s → ArePanesShown (text_pane skin own s ∷ prompt_pane s ∷ field_pane s ∷ []) bytes
 
 -- These bytes show it while nothing is being typed: in the last row is the status, where its words are shown.
-pub record IsStatusShown (skin : PageSkin) (name : List ℕ) (s : State) (bytes : List ℕ) : Type 0 where
+pub record IsStatusShown (skin : PageSkin) (name : List ℕ) (own : Option (List (List StyledChar))) (s : State) (bytes : List ℕ) : Type 0 where
   pub dress : MadSkin
   pub dressed : dress ≡ status_skin skin.status
   pub line : FmtLine
   pub status : IsStatusLine dress (status_words name s) (status_area s).width line
-  pub shown : KeepsTextPremises skin s → AreDrawable (row_skin dress) (status_area s).width (line ∷ []) → ArePanesShown (text_pane skin s ∷ status_pane (row_skin dress) line s ∷ []) bytes
+  pub shown : KeepsTextPremises skin own s → AreDrawable (row_skin dress) (status_area s).width (line ∷ []) → ArePanesShown (text_pane skin own s ∷ status_pane (row_skin dress) line s ∷ []) bytes
 
 -- These bytes show the text and the last row of a session: one of these two. The text comes first, with its bar by moves of its own.
-pub record ArePanesDrawn (skin : PageSkin) (name : List ℕ) (s : State) (bytes : List ℕ) : Type 0 where
+pub record ArePanesDrawn (skin : PageSkin) (name : List ℕ) (own : Option (List (List StyledChar))) (s : State) (bytes : List ℕ) : Type 0 where
   pub lines : List ℕ
   pub last : List ℕ
   pub are : bytes ≡ lines ++ last
-  pub beside : AreLinesShown skin s lines
-  pub typing : s.is_typing ≡ true → IsTypingShown skin s bytes
-  pub status : s.is_typing ≡ false → IsStatusShown skin name s bytes
+  pub beside : AreLinesShown skin own s lines
+  pub typing : s.is_typing ≡ true → IsTypingShown skin own s bytes
+  pub status : s.is_typing ≡ false → IsStatusShown skin name own s bytes
 
 -- the text's rows that are on the screen
 abbrev pub rows_shown : State → List ℕ
@@ -269,8 +285,8 @@ abbrev pub own_rows : PageSkin → Content → State → Option (List (List Styl
 own_rows skin content s =
     option_map (λ (drawn : ℕ → List (List StyledChar)). take (area_of s).height (drop s.page.top (drawn (layout_width skin.room s.page.columns)))) (content_drawn content)
 
--- These bytes are drawn over the text: hits of this, if anything is sought, in the style of hits. Where rows have styles of their own, they are drawn first,
--- and the hits are in that style over theirs.
+-- These bytes are drawn over the text: hits of this, if anything is sought, in the style of hits. Where rows have styles of their own, they are drawn first, over
+-- blanks, and the hits are in that style over theirs.
 abbrev pub AreDrawnOver : PageSkin → Option (List (List StyledChar)) → State → Option Re → List ℕ → Type 0
 AreDrawnOver skin None s sought bytes = AreMarks skin s sought bytes
 AreDrawnOver skin (Some rows) s sought bytes = AreRowsDrawn skin.hit (room_of skin s) sought 0 rows bytes
@@ -292,7 +308,7 @@ pub record IsDrawing (skin : PageSkin) (name : List ℕ) (content : Content) (s 
   pub hits : List ℕ
   pub numbers : List ℕ
   pub are : bytes ≡ panes ++ (hits ++ numbers)
-  pub drawn : ArePanesDrawn skin name s panes
+  pub drawn : ArePanesDrawn skin name (own_rows skin content s) s panes
   pub marked : AreHitsDrawn skin (own_rows skin content s) s hits
   pub numbered : AreNumbersDrawn skin content s numbers
 

@@ -111,9 +111,9 @@ layout_width room columns = room_width room columns (columns - 1)
 abbrev pub paged_skin : PageSkin → RowSkin
 paged_skin skin = record (page_row_skin skin) { whole_words = skin.text.whole_words }
 
--- the sections that are shown at the width of a screen of these columns are laid out for it, in groups
+-- what is shown at the width of a screen of these columns is laid out for it, its sections in groups
 abbrev pub IsLaidFor : PageSkin → PageAt → ℕ → PagedPage → Type 0
-IsLaidFor skin page columns laid = IsPagedAt (line_rules (paged_skin skin)) (has_ascii_boxes (paged_skin skin)) (Some (layout_width skin.room columns)) (page (layout_width skin.room columns)) laid
+IsLaidFor skin page columns laid = IsPagedAt (line_rules (paged_skin skin)) (has_ascii_boxes (paged_skin skin)) (page (layout_width skin.room columns)).width (page (layout_width skin.room columns)).groups laid
 
 -- the start of a text on a screen of this size: its first row is on top, nothing is being typed and nothing is sought; these files are beside it
 pub record IsStart (skin : PageSkin) (text : PageAt) (columns rows : ℕ) (files : Files) (s : State) : Type 0 where

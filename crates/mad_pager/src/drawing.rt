@@ -1,21 +1,24 @@
 //! The whole screen, drawn in memory and then put.
 
-ghost use Rattle.std.specs.Prelude.{◌≡◌, OnOk, IfOk, MatchResult, ℕ, List, Some, false};
+ghost use Rattle.std.specs.Prelude.{◌≡◌, OnOk, IfOk, MatchResult, ℕ, List, Some, false, is_some};
 ghost use Rattle.mad_term.specs.Trace.{TookWith, Writes};
 ghost use Rattle.mad_patterns.specs.Readings.{reading_of};
 ghost use Rattle.mad_pager.specs.Pictures.{picture_trace};
 ghost use Rattle.mad_pager.specs.Sessions.{state_of};
-ghost use Rattle.mad_outline.specs.Sources.{content_of};
-ghost use Rattle.mad_pager.specs.Screens.{AreLinesShown, AreMarks, AreNumbersDrawn, ArePanesDrawn, IsDrawing, IsFieldRow, IsFieldShown, IsLastRow, IsPicture, IsShown, IsUnshown, bar_of, is_small, question, room_of};
+ghost use Rattle.mad_outline.specs.Sources.{content_drawn, content_of, text_said};
+ghost use Rattle.mad_pager.specs.Screens.{AreLinesShown, AreMarks, AreNumbersDrawn, ArePanesDrawn, IsDrawing, IsFieldRow, IsFieldShown, IsLastRow, IsPicture, IsShown, IsUnshown, bar_of, is_small, lines_shown, own_rows, question, room_of};
 
 use crate::picture::Picture;
 use crate::places::{field_row, prompt_cell, room_on, text_area};
 use crate::session::Session;
 use crate::sizes::{height_of, paged_skin};
 use mad_draw::{Rows, ScrollBar, draw_rows};
+use mad_format::FmtLine;
 use mad_hits::{RowRoom, draw_page_rows, draw_row_hits, left_columns};
 use mad_link_places::draw_numbers;
+use mad_outline::Source;
 use mad_patterns::Sought;
+use mad_search::PagedText;
 use mad_style::StyledChar;
 use mad_term::{Error, Out, put_all};
 use std::alloc::{AllocError, Global};
@@ -84,7 +87,7 @@ impl Session<'_> {
     // Draws the text beside its bar, and in the last row what is typed or the status.
     fn draw_panes<O: Out>(&self, alloc: Global, out: &mut O) -> Result<(), Error>
         requires { is_small (state_of self.now) ≡ false }
-        ensures { OnOk result (TookWith (O.seen out.old) (O.seen out.new) (ArePanesDrawn self.now.skin.now self.now.name.now (state_of self.now))) }
+        ensures { OnOk result (TookWith (O.seen out.old) (O.seen out.new) (ArePanesDrawn self.now.skin.now self.now.name.now (own_rows self.now.skin.now (content_of self.now.source) (state_of self.now)) (state_of self.now))) }
     {
         self.draw_lines(alloc, out)?;
         self.draw_last_row(alloc, out)?;
@@ -162,14 +165,14 @@ impl Session<'_> {
     // Draws the text from its top row on in the skin of pages, and its bar by moves of its own.
     fn draw_lines<O: Out>(&self, alloc: Global, out: &mut O) -> Result<(), Error>
         requires { is_small (state_of self.now) ≡ false }
-        ensures { OnOk result (TookWith (O.seen out.old) (O.seen out.new) (AreLinesShown self.now.skin.now (state_of self.now))) }
+        ensures { OnOk result (TookWith (O.seen out.old) (O.seen out.new) (AreLinesShown self.now.skin.now (own_rows self.now.skin.now (content_of self.now.source) (state_of self.now)) (state_of self.now))) }
     {
         draw_page_rows(
             alloc,
             out,
             &paged_skin(self.skin),
             self.bar(),
-            self.laid.lines.as_slice(),
+            self.lines_shown(),
             self.laid.fronts.as_slice(),
             self.page.top,
             self.room(),
@@ -177,6 +180,28 @@ impl Session<'_> {
             self.page.body_rows(),
         )?;
         Ok(())
+    }
+
+    // The lines that the text's rows show: none, where rows with styles of their own come over them.
+    fn lines_shown(&self) -> &[FmtLine<'_>]
+        ensures { result.now ≡ lines_shown (own_rows self.now.skin.now (content_of self.now.source) (state_of self.now)) self.now.laid.lines.items }
+    {
+        let lines = self.laid.lines.as_slice();
+        let has_own = self.has_own_rows();
+        let count = if has_own { 0 } else { lines.len() };
+        &lines[..count]
+    }
+
+    // Whether rows with styles of their own are shown.
+    fn has_own_rows(&self) -> bool
+        ensures { result ≡ is_some (content_drawn (content_of self.now.source)) }
+    {
+        match self.source {
+            Source::Text(text) => draws_own_rows(text),
+            Source::Numbered(text) => draws_own_rows(text),
+            Source::Links(_, _, _, _) => false,
+            Source::Contents(_, _) => false,
+        }
     }
 
     // Draws what is typed, or else the status.
@@ -233,6 +258,17 @@ impl Rows for Prompt {
     fn push_row(&self, bytes: &mut String, _y: u16) -> Result<(), AllocError> {
         let sign = StyledChar::nude(if self.backward { '?' } else { '/' });
         write!(bytes, "{sign}")
+    }
+}
+
+// Whether a text has rows with styles of their own.
+fn draws_own_rows(text: PagedText<'_>) -> bool
+    ensures { result ≡ is_some (text_said text.entry).drawn }
+{
+    match text {
+        PagedText::Lines(_) => false,
+        PagedText::Markdown(_, _, _) => false,
+        PagedText::Plain(_) => true,
     }
 }
 

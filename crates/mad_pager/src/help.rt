@@ -20,6 +20,7 @@ pub const HELP: &str = "# Keys
 |a number|before j or k: so many rows; before g: that row|
 |%|behind a number: to that per cent|
 |=|tells the row, how many there are, and the per cent|
+|S; Left, Right|with --plain: cuts lines, wraps them; moves cut ones|
 |}, ]; {, [|the next header; the one before|
 |t|the contents: j and k choose a header, Enter goes there|
 |/; ?|seeks a text, on or back: Enter, Esc; Up: earlier ones|

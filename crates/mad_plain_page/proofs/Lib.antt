@@ -1,3 +1,4 @@
 pub mod CutLemmas
+pub mod CutRowLemmas
 pub mod RowLemmas
 pub mod TakeLemmas

@@ -46,6 +46,10 @@ pub rows_as_shown : (width : ℕ) (line : PlainLine) → said_rows width (chars 
 rows_as_shown width line =
     ap (said_rows width) (sym (said_shown line)) ∙ sym (rows_as_said 0 (row_ends width (said (shown_of line))) (shown_of line))
 
+-- the whole text of a line is what it shows
+pub line_as_shown : (line : PlainLine) → said_line (chars (cow_str_bytes line.text)) ≡ row_line (shown_of line)
+line_as_shown line = ap said_line (sym (said_shown line))
+
 -- ---- what is drawn
 
 -- the characters of a row, without their styles

@@ -1,5 +1,5 @@
 -- Text that isn't Markdown, as a pager shows it: its rows at a width, as lines of a page, and as they are drawn.
-use Rattle.std.specs.Prelude.{ℕ, Bool, List, chars, encode_utf8_all, map}
+use Rattle.std.specs.Prelude.{ℕ, ◌-◌, ◌^◌, Bool, List, Option, Some, None, chars, encode_utf8_all, map, min}
 use Rattle.std.specs.List.{flat_map}
 use Rattle.mad_md.specs.Lines.{LineContent, normal}
 use Rattle.mad_md.specs.ReadRaw.{raw_runs}
@@ -7,7 +7,7 @@ use Rattle.mad_md.specs.declared.composite.CompositeStyle.TheVariants.{Code}
 use Rattle.mad_style.specs.StyledChars.{styled_char}
 use Rattle.mad_style.specs.declared.styled_chars.StyledChar.{StyledChar as PaintedChar}
 use Rattle.mad_plain.specs.Lines.{line_chars}
-use Rattle.mad_plain.specs.Rows.{row_ends, rows_by, wrapped}
+use Rattle.mad_plain.specs.Rows.{cut_row, row_ends, rows_by, wrapped}
 use Rattle.mad_plain.specs.Runs.{StyledChar, said}
 use Rattle.mad_plain.specs.Shown.{shown_of}
 use Rattle.mad_plain.specs.Styles.{content_style}
@@ -67,6 +67,19 @@ painted_line is_styled width line = map (painted_row is_styled) (wrapped width l
 abbrev pub painted_rows : Bool → ℕ → List (List StyledChar) → List (List PaintedChar)
 painted_rows is_styled width lines = flat_map (painted_line is_styled width) lines
 
+-- the one row of what a line shows that is cut at the edges of so many columns, 2 ^ 32 - 1 at most, moved by some
+abbrev pub painted_cut : Bool → ℕ → ℕ → List StyledChar → List PaintedChar
+painted_cut is_styled moved width line = painted_row is_styled (cut_row moved (min width (2 ^ 32 - 1)) line)
+
+-- those of lines
+abbrev pub cut_rows : Bool → ℕ → ℕ → List (List StyledChar) → List (List PaintedChar)
+cut_rows is_styled moved width lines = map (painted_cut is_styled moved width) lines
+
+-- the rows of lines that are wrapped at a width, or cut there, moved by some columns
+abbrev pub drawn_rows : Option ℕ → Bool → ℕ → List (List StyledChar) → List (List PaintedChar)
+drawn_rows None is_styled width lines = painted_rows is_styled width lines
+drawn_rows (Some moved) is_styled width lines = cut_rows is_styled moved width lines
+
 -- those of a text that was read
 abbrev pub rows_of_text : PlainText → ℕ → List (List PaintedChar)
-rows_of_text text width = painted_rows text.is_styled width (lines_kept text)
+rows_of_text text width = drawn_rows text.cut text.is_styled width (lines_kept text)

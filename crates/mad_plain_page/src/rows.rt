@@ -3,7 +3,7 @@
 ghost use Rattle.std.specs.Prelude.{◌≡◌, IfOk, chars, map};
 ghost use Rattle.mad_md.specs.Lines.{content_of};
 ghost use Rattle.mad_plain.specs.Shown.{shown_of};
-ghost use Rattle.mad_plain_page.specs.PlainTexts.{code_line, row_lines, said_line, said_rows};
+ghost use Rattle.mad_plain_page.specs.PlainTexts.{code_line, row_line, row_lines, said_line, said_rows};
 
 use crate::fronts::cut_chars;
 use mad_md::{Composite, CompositeStyle, Compound, Line};
@@ -25,6 +25,19 @@ pub fn line_rows<'s>(
 {
     let rows = text_rows(alloc, &line.text, width)?;
     Ok(rows)
+}
+
+/// What a line shows as one row, however long it is: a line of code that says its characters.
+///
+/// # Errors
+///
+/// Out of memory is the only error.
+#[tactic(auto, using(crate::proofs::RowLemmas::line_as_shown))]
+pub fn whole_line<'s>(alloc: Global, line: &'s PlainLine<'s>) -> Result<Line<'s>, AllocError>
+    ensures { IfOk result (λ row. content_of row ≡ row_line (shown_of line.now)) }
+{
+    let row = said_line(alloc, &line.text)?;
+    Ok(row)
 }
 
 // The rows of a text without styles.

@@ -5,6 +5,7 @@ ghost use Rattle.mad_plain.specs.Shown.{shown_of};
 ghost use Rattle.mad_plain_page.specs.PlainTexts.{painted_rows, rows_of_text};
 ghost use Rattle.mad_plain_page.specs.StyledRows.{row_chars};
 
+use crate::cutting::cut_rows_in;
 use crate::painted::{StyledRow, painted_row};
 use crate::texts::PlainText;
 use mad_plain::{PlainLine, row_ends, take_part};
@@ -12,7 +13,7 @@ use std::alloc::{AllocError, Global};
 
 impl PlainText<'_> {
     /// The rows of the text at a width in columns, from the one of this index on, at most so many. A line above these that has no more bytes than the width
-    /// isn't read for it.
+    /// isn't read for it, and of lines that are cut none is.
     ///
     /// # Errors
     ///
@@ -26,18 +27,21 @@ impl PlainText<'_> {
     ) -> Result<Vec<StyledRow>, AllocError>
         ensures { IfOk result (λ rows. map row_chars rows.items ≡ take count (drop top (rows_of_text self.now width))) }
     {
-        rows_in(
-            alloc,
-            self.lines.as_slice(),
-            self.is_styled,
-            width,
-            top,
-            count,
-        )
+        let lines = self.lines.as_slice();
+        match self.cut {
+            Some(moved) => {
+                let rows = cut_rows_in(alloc, lines, self.is_styled, moved, width, top, count)?;
+                Ok(rows)
+            }
+            None => {
+                let rows = rows_in(alloc, lines, self.is_styled, width, top, count)?;
+                Ok(rows)
+            }
+        }
     }
 }
 
-// The same of lines.
+// The same of lines that are wrapped.
 fn rows_in(
     alloc: Global,
     lines: &[PlainLine<'_>],

@@ -6,7 +6,7 @@ ghost use Rattle.mad_md.specs.Lines.{contents};
 ghost use Rattle.mad_md.specs.Reading.{unread_text};
 ghost use Rattle.mad_md.specs.Scan.{lines_of};
 ghost use Rattle.mad_sections.specs.Sections.{page_content};
-ghost use Rattle.mad_search.specs.PagedTexts.{paged_groups, paged_sections, plain_sections, puts_of, sections_shown};
+ghost use Rattle.mad_search.specs.PagedTexts.{paged_groups, paged_sections, plain_sections, puts_of, sections_shown, width_laid, wrapped_at};
 
 use crate::dressed_pages::dress_each;
 use crate::plain::plain_page;
@@ -54,8 +54,19 @@ impl<'s> PagedText<'s> {
         }
     }
 
+    /// The width that the text is laid out at for one of these columns: this one, or none, where its lines are cut.
+    pub fn width_laid(self, width: usize) -> Option<usize>
+        ensures { result ≡ width_laid self.entry width }
+    {
+        match self {
+            PagedText::Lines(_) => Some(width),
+            PagedText::Markdown(_, _, _) => Some(width),
+            PagedText::Plain(text) => wrapped_at(text.cut, width),
+        }
+    }
+
     /// The sections that are shown at a width, in columns, each with what is put into the page with it. Where the text isn't Markdown, each line is one,
-    /// which has its rows at that width. Those of another text are the same at all widths.
+    /// which has its rows at that width, or one row, where lines are cut. Those of another text are the same at all widths.
     ///
     /// # Errors
     ///
@@ -96,6 +107,16 @@ impl<'s> PagedText<'s> {
             PagedText::Markdown(_, dressings, _) => dressings,
             PagedText::Plain(_) => &[],
         }
+    }
+}
+
+// The width that lines are laid out at which aren't Markdown, wrapped or cut.
+fn wrapped_at(cut: Option<u32>, width: usize) -> Option<usize>
+    ensures { result ≡ wrapped_at cut width }
+{
+    match cut {
+        Some(_) => None,
+        None => Some(width),
     }
 }
 

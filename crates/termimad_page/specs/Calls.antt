@@ -67,8 +67,10 @@ AsksPlace (word ∷ words) file skin (as_whole columns) = (word ≡ codes "whole
 abbrev pub named_grammar : List ℕ → Option Grammar
 named_grammar word =
     if bytes_eq word (codes "--lines") then Some Lines
-    else if bytes_eq word (codes "--plain") then Some (Plain true)
-    else if bytes_eq word (codes "--plain=none") then Some (Plain false)
+    else if bytes_eq word (codes "--plain") then Some (Plain true None)
+    else if bytes_eq word (codes "--plain=none") then Some (Plain false None)
+    else if bytes_eq word (codes "--cut") then Some (Plain true (Some 0))
+    else if bytes_eq word (codes "--cut=none") then Some (Plain false (Some 0))
     else None
 
 -- how the text is read, if the first word says so, and else as Markdown

@@ -42,9 +42,14 @@ abbrev pub link_line : Option (List ℕ) → List ℕ
 link_line None = []
 link_line (Some address) = codes "link " ++ address ++ 10 ∷ []
 
--- what is told of an end: its row, if it tells one, and the address of the link that is to be followed
+-- the line that tells that lines were cut, if they were
+abbrev pub cut_line : Option ℕ → List ℕ
+cut_line None = []
+cut_line (Some moved) = codes "cut\n"
+
+-- what is told of an end: its row, if it tells one, whether lines were cut, and the address of the link that is to be followed
 abbrev pub end_lines : Leaving → Option (List ℕ)
-end_lines left = option_map (λ (row : ℕ). row_line row ++ link_line (option_map string_bytes left.address)) (row_of_end left.end)
+end_lines left = option_map (λ (row : ℕ). row_line row ++ (cut_line left.cut ++ link_line (option_map string_bytes left.address))) (row_of_end left.end)
 
 -- the status of a refusal: that of its failure, or 141 where nobody reads the output
 abbrev pub status_of : Refusal → ℕ
@@ -54,7 +59,7 @@ status_of Unread = 141
 -- the line that is said of a failure
 abbrev pub failure_line : Failure → List ℕ
 failure_line Io = codes "termimad-page: the file can't be read, or the output failed\n"
-failure_line Usage = codes "usage: termimad-page [--grows MARK] [GRAMMAR] page FILE COLUMNS ROWS [SKIN [NAME [PLACE [ROW]]]] | [GRAMMAR] whole FILE [SKIN [COLUMNS]]; GRAMMAR is --lines, --plain or --plain=none\n"
+failure_line Usage = codes "usage: termimad-page [--grows MARK] [GRAMMAR] page FILE COLUMNS ROWS [SKIN [NAME [PLACE [ROW]]]] | [GRAMMAR] whole FILE [SKIN [COLUMNS]]; GRAMMAR is --lines, --plain, --plain=none, --cut or --cut=none\n"
 failure_line NotUtf8 = codes "termimad-page: the file is not UTF-8\n"
 failure_line Skin = codes "termimad-page: skin\n"
 failure_line Memory = codes "termimad-page: memory\n"

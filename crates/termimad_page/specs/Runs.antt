@@ -75,7 +75,7 @@ ReadsFile _ = ⊥
 abbrev pub WritesRows : {T : Type 0} → Grammar → PageSkin → ℕ → List ℕ → Trace → Result T Error → Trace → Type 0
 WritesRows Lines skin columns text old r new = WritesParts (row_skin skin.text) (Some columns) (shown_text text) old r new ⊎ (IsErrOf r NoMemory × (new ≡ old))
 WritesRows Markdown skin columns text old r new = WritesDressed skin (Some columns) (markdown_sections text) old r new
-WritesRows (Plain is_styled) skin columns text old r new = WritesPlain columns is_styled text old r new
+WritesRows (Plain is_styled cut) skin columns text old r new = WritesPlain columns is_styled text old r new
 
 -- the rows went out, and then this happened to the output
 pub record HasWritten (grammar : Grammar) (skin : PageSkin) (columns : ℕ) (text : List ℕ) (old : Trace) (ending : Trace → Trace) (new : Trace) : Type 0 where
@@ -91,7 +91,7 @@ IsUnwritten grammar skin columns text old refusal new =
 
 -- nothing more is to be done
 abbrev pub quitting : Leaving
-quitting = record { end = Quits; address = None }
+quitting = record { end = Quits; address = None; cut = None }
 
 -- a whole text is written, and the output is flushed
 abbrev pub WritesWhole : Grammar → PageSkin → ℕ → List ℕ → Trace → Result Leaving Refusal → Trace → Type 0
@@ -129,13 +129,13 @@ ShowsText grammar skin (as_whole columns) text old r new =
 abbrev pub IsTextOf : Grammar → List ℕ → List ℕ → Type 0
 IsTextOf Lines bytes text = IsUtf8 bytes × (text ≡ bytes)
 IsTextOf Markdown bytes text = IsUtf8 bytes × (text ≡ bytes)
-IsTextOf (Plain is_styled) bytes text = text ≡ utf8_lossy bytes
+IsTextOf (Plain is_styled cut) bytes text = text ≡ utf8_lossy bytes
 
 -- why they are none: they aren't UTF-8, or there is no memory for U+FFFD in its place
 abbrev pub IsNoText : Grammar → List ℕ → Refusal → Type 0
 IsNoText Lines bytes refusal = ¬ (IsUtf8 bytes) × (refusal ≡ Failed NotUtf8)
 IsNoText Markdown bytes refusal = ¬ (IsUtf8 bytes) × (refusal ≡ Failed NotUtf8)
-IsNoText (Plain is_styled) bytes refusal = refusal ≡ Failed Memory
+IsNoText (Plain is_styled cut) bytes refusal = refusal ≡ Failed Memory
 
 -- bytes are shown as the text that they are, without a byte order mark at its front; or they are none, and nothing is done
 abbrev pub Shows : Grammar → PageSkin → Where → List ℕ → Devices → Result Leaving Refusal → Devices → Type 0

@@ -62,10 +62,10 @@ plain_text_skin word = option_map unstyled_text (page_skin_worded word)
 abbrev pub skin_for : Option (List ℕ) → Grammar → Option PageSkin
 skin_for word Lines = lines_skin word
 skin_for word Markdown = page_skin_worded word
-skin_for word (Plain is_styled) = plain_text_skin word
+skin_for word (Plain is_styled cut) = plain_text_skin word
 
 -- why the word gives none
 abbrev pub RefusesSkinFor : Option (List ℕ) → Grammar → Failure → Type 0
 RefusesSkinFor word Lines failure = RefusesWord word failure
 RefusesSkinFor word Markdown failure = RefusesPageWord word failure
-RefusesSkinFor word (Plain is_styled) failure = RefusesPageWord word failure
+RefusesSkinFor word (Plain is_styled cut) failure = RefusesPageWord word failure

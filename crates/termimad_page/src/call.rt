@@ -50,7 +50,7 @@ pub(crate) struct Screen<'w> {
 }
 
 /// The call that the words after the program's name are: `page FILE COLUMNS ROWS [SKIN [NAME [PLACE [ROW]]]]` or `whole FILE [SKIN [COLUMNS]]`, with
-/// `--lines` before them where each line of the text stands for itself, `--plain` where it isn't Markdown, and `--plain=none` where its styles aren't shown
+/// `--lines` before them where each line of the text stands for itself, `--plain` where it isn't Markdown, and `--plain=none` where its styles aren't shown; `--cut` and `--cut=none` where its lines are cut too
 /// either. Before all of them may stand `--grows MARK`, where the text of a page still comes. None, where they are neither.
 pub(crate) fn parse_call(words: &[String]) -> Option<Call<'_>>
     ensures { MatchOption result (IsNoCall (map string_bytes words.now))
@@ -99,8 +99,10 @@ fn named_grammar(word: &str) -> Option<Grammar>
 {
     match word {
         "--lines" => Some(Grammar::Lines),
-        "--plain" => Some(Grammar::Plain(true)),
-        "--plain=none" => Some(Grammar::Plain(false)),
+        "--plain" => Some(Grammar::Plain(true, None)),
+        "--plain=none" => Some(Grammar::Plain(false, None)),
+        "--cut" => Some(Grammar::Plain(true, Some(0))),
+        "--cut=none" => Some(Grammar::Plain(false, Some(0))),
         _ => None,
     }
 }

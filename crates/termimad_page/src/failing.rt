@@ -2,7 +2,7 @@
 
 ghost use Rattle.std.specs.Prelude.{◌≡◌, ◌++◌, IfOk, option_map, string_bytes};
 ghost use Rattle.termimad_words.specs.Failures.{SaysOnce};
-ghost use Rattle.termimad_page.specs.Ends.{Says, SaysEnd, end_lines, failure_line, link_line, refusal_of, refusal_reading, row_line, row_of_end, status_of, status_of_end};
+ghost use Rattle.termimad_page.specs.Ends.{Says, SaysEnd, cut_line, end_lines, failure_line, link_line, refusal_of, refusal_reading, row_line, row_of_end, status_of, status_of_end};
 
 use mad_term::{Error, Out, put_all};
 use std::alloc::{AllocError, Global};
@@ -48,8 +48,8 @@ pub(crate) enum Refusal {
     Unread,
 }
 
-/// Says on a device the row that was on top, in one line, where an end tells it, and in another the address of the link that is to be followed. It answers the
-/// status. A fault of the device changes nothing. Out of memory for the lines is a refusal, which is said.
+/// Says on a device the row that was on top, in one line, where an end tells it, in another that lines were cut, and in another the address of the link that is to
+/// be followed. It answers the status. A fault of the device changes nothing. Out of memory for the lines is a refusal, which is said.
 pub(crate) fn say_end<E: Out>(alloc: Global, err: &mut E, left: &Leaving) -> u8
     ensures { SaysEnd (end_lines left.now) (status_of_end left.now.end) (E.seen err.old) result (E.seen err.new) }
 {
@@ -65,17 +65,28 @@ pub(crate) fn say_end<E: Out>(alloc: Global, err: &mut E, left: &Leaving) -> u8
     }
 }
 
-// The lines that tell a row, and the address of a link, if one is to be followed.
+// The lines that tell a row, that lines were cut, if they were, and the address of a link, if one is to be followed.
 fn lines_of(alloc: Global, row: usize, left: &Leaving) -> Result<String, AllocError>
-    ensures { IfOk result (λ lines. string_bytes lines ≡ row_line row ++ link_line (option_map string_bytes left.now.address)) }
+    ensures { IfOk result (λ lines. string_bytes lines ≡ row_line row ++ (cut_line left.now.cut ++ link_line (option_map string_bytes left.now.address))) }
 {
     let mut lines = row_line(alloc, row)?;
+    lines.push_str(cut_line(left.cut))?;
     if let Some(address) = &left.address {
         lines.push_str("link ")?;
         lines.push_str(address.as_str())?;
         lines.push_str("\n")?;
     }
     Ok(lines)
+}
+
+// The line that tells that lines were cut, if they were.
+fn cut_line(cut: Option<u32>) -> &'static str
+    ensures { result.now ≡ cut_line cut }
+{
+    match cut {
+        Some(_) => "cut\n",
+        None => "",
+    }
 }
 
 // The number of the row that an end tells, if it tells one.
@@ -143,7 +154,7 @@ fn line(failure: Failure) -> &'static [u8]
     match failure {
         Failure::Io => b"termimad-page: the file can't be read, or the output failed\n",
         Failure::Usage => {
-            b"usage: termimad-page [--grows MARK] [GRAMMAR] page FILE COLUMNS ROWS [SKIN [NAME [PLACE [ROW]]]] | [GRAMMAR] whole FILE [SKIN [COLUMNS]]; GRAMMAR is --lines, --plain or --plain=none\n"
+            b"usage: termimad-page [--grows MARK] [GRAMMAR] page FILE COLUMNS ROWS [SKIN [NAME [PLACE [ROW]]]] | [GRAMMAR] whole FILE [SKIN [COLUMNS]]; GRAMMAR is --lines, --plain, --plain=none, --cut or --cut=none\n"
         }
         Failure::NotUtf8 => b"termimad-page: the file is not UTF-8\n",
         Failure::Skin => b"termimad-page: skin\n",

@@ -192,7 +192,7 @@ fn text_of(alloc: Global, grammar: Grammar, bytes: &[u8]) -> Result<CowStr<'_, G
     match grammar {
         Grammar::Lines => utf8_text(bytes),
         Grammar::Markdown => utf8_text(bytes),
-        Grammar::Plain(_) => any_text(alloc, bytes),
+        Grammar::Plain(_, _) => any_text(alloc, bytes),
     }
 }
 
@@ -284,7 +284,7 @@ fn write_rows<O: Out>(
             skin.text.write_parts_on(alloc, out, &shown, width)
         }
         Grammar::Markdown => write_markdown_on(alloc, out, skin, text, width),
-        Grammar::Plain(is_styled) => {
+        Grammar::Plain(is_styled, _) => {
             write_plain_on(alloc, out, text, usize::from(columns), is_styled)
         }
     }

@@ -29,7 +29,7 @@ pub fn skin_for(alloc: Global, word: Option<&str>, grammar: Grammar) -> Result<P
     match grammar {
         Grammar::Lines => lines_skin(alloc, word),
         Grammar::Markdown => page_skin(alloc, word),
-        Grammar::Plain(_) => plain_text_skin(alloc, word),
+        Grammar::Plain(_, _) => plain_text_skin(alloc, word),
     }
 }
 

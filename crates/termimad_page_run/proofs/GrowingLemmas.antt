@@ -10,10 +10,11 @@ use Rattle.mad_term.specs.declared.errors.Error.{Error}
 use Rattle.mad_term.specs.declared.errors.Error.TheVariants.{Memory}
 use Rattle.mad_term.specs.declared.keys.KeyEvent.{KeyEvent}
 use Rattle.termimad_page_run.specs.Comings.{Arrival, IsMore}
-use Rattle.termimad_page_run.specs.Growing.{GrowingMoment, AreGrowingTurns, EndsGrowing, IsBegunGrowing, IsBrokenGrowing, IsLedFrom, IsPagedGrowing, IsStartGrowing, first_part}
+use Rattle.termimad_page_run.specs.Growing.{GrowingMoment, AreGrowingTurns, EndsGrowing, IsBegunGrowing, IsBrokenGrowing, IsLedFrom, IsPagedGrowing, IsStartGrowing, first_part, in_grammar}
 use Rattle.termimad_page_run.specs.Runs.{Moment, IsLastTurn}
 use Rattle.termimad_page_run.specs.Stretches.{IsKeptOrderly, IsLeftOff, IsNoneLeft, IsStretchBroken, IsStretchEnd, IsStretchFront, IsStretchStart, IsStretched, IsStretchedSoFar, IsUnstretched}
 use Rattle.termimad_page_run.specs.declared.growing.Frame.{Frame}
+use Rattle.termimad_page_run.specs.declared.program.Grammar.{Grammar}
 use Rattle.termimad_page_run.specs.declared.leaving.Leaving.{Leaving}
 use Rattle.termimad_page_run.specs.declared.stretches.Course.{Course}
 use Rattle.termimad_page_run.specs.declared.stretches.Stretch.{Stretch}
@@ -22,13 +23,13 @@ use Rattle.termimad_page_run.proofs.StretchLemmas.{growth_joined, turn_more, tur
 
 -- ---- what was done so far
 
--- the start of a run
-abbrev pub begun_course : Course
-begun_course = record { kept = None; again = None; terminal = quiet_input; asks = false; follows = false; left = 2 ^ 64 - 1 }
+-- the start of a run over a text that is read so
+abbrev pub begun_course : Grammar → Course
+begun_course grammar = record { kept = None; again = None; terminal = quiet_input; asks = false; follows = false; grammar = grammar; left = 2 ^ 64 - 1 }
 
 -- nothing is shown yet of what was read
 pub record IsUnshown (frame : Frame) (old : Arrival) (old_input old_out : Trace) (course : Course) (a : Arrival) (read : List ℕ) (input out : Trace) : Type 0 where
-  pub course_is : course ≡ begun_course
+  pub course_is : course ≡ begun_course frame.grammar
   pub more : IsMore (first_part frame.start) old [] a read
   pub input_is : input ≡ old_input
   pub out_is : out ≡ old_out
@@ -66,15 +67,16 @@ record IsReached (frame : Frame) (old : Arrival) (old_input old_out : Trace) (le
 
 -- the front of the first stretch is the start of the run
 begun_front : (frame : Frame) (old : Arrival) (old_input old_out : Trace) (course : Course) (a : Arrival) (read : List ℕ) (input out : Trace) (first : GrowingMoment)
-    → IsUnshown frame old old_input old_out course a read input out → IsStretchFront frame course a read input out first → IsBegunGrowing frame old old_input old_out first
+    → IsUnshown frame old old_input old_out course a read input out → IsStretchFront (in_grammar course.grammar frame) course a read input out first → IsBegunGrowing frame old old_input old_out first
 begun_front frame old old_input old_out course a read input out first h front =
-    let start : IsStretchStart None None frame a read first.now.view = subst (λ (c : Course). IsStretchStart c.kept c.again frame a read first.now.view) h.course_is front.start in
+    let start : IsStretchStart None None frame a read first.now.view = subst (λ (c : Course). IsStretchStart c.kept c.again (in_grammar c.grammar frame) a read first.now.view) h.course_is front.start in
     record {
       more = subst (λ (b : Arrival). IsMore (first_part frame.start) old [] b first.read) (sym front.arrival) (subst (λ (r : List ℕ). IsMore (first_part frame.start) old [] a r) (sym front.read_is) h.more);
       start = subst (λ (b : Arrival). IsStartGrowing frame b first.read first.now.view) (sym front.arrival)
           (subst (λ (r : List ℕ). IsStartGrowing frame a r first.now.view) (sym front.read_is) (subst (λ (v : View). IsStartGrowing frame a read v) (sym start.2) start.1));
       fresh = front.fresh;
       follows = front.follows ∙ ap (λ (c : Course). c.follows) h.course_is;
+      grammar = front.grammar ∙ ap (λ (c : Course). c.grammar) h.course_is;
       now = front.now
           ∙ (ap (λ (c : Course). let m : Moment = record { view = first.now.view; terminal = c.terminal; asks = c.asks; input = input; out = out } in m) h.course_is
           ∙ (ap (λ (t : Trace). let m : Moment = record { view = first.now.view; terminal = quiet_input; asks = false; input = t; out = out } in m) h.input_is
@@ -83,7 +85,7 @@ begun_front frame old old_input old_out course a read input out first h front =
 
 -- the front of a stretch is reached
 reached : (frame : Frame) (old : Arrival) (old_input old_out : Trace) (course : Course) (a : Arrival) (read : List ℕ) (input out : Trace) (first : GrowingMoment)
-    → IsRunSoFar frame old old_input old_out course a read input out → IsStretchFront frame course a read input out first → IsReached frame old old_input old_out course.left first
+    → IsRunSoFar frame old old_input old_out course a read input out → IsStretchFront (in_grammar course.grammar frame) course a read input out first → IsReached frame old old_input old_out course.left first
 reached frame old old_input old_out course a read input out first (inl h) front =
     let left : course.left ≡ 2 ^ 64 - 1 = ap (λ (c : Course). c.left) h.course_is in
     record {
@@ -112,7 +114,7 @@ ended blocks others left last end input out count (inr none) = inr (record { qui
 
 -- a stretch that ends the run
 pub stretch_ended : (frame : Frame) (old : Arrival) (old_input old_out : Trace) (course : Course) (a : Arrival) (read : List ℕ) (input out : Trace) (left : Leaving) (b : Arrival) (new_input new_out : Trace)
-    → IsRunSoFar frame old old_input old_out course a read input out → IsStretched frame course read (Ends left) a b input new_input out new_out → IsPagedGrowing frame left old old_input new_input old_out new_out
+    → IsRunSoFar frame old old_input old_out course a read input out → IsStretched (in_grammar course.grammar frame) course read (Ends left) a b input new_input out new_out → IsPagedGrowing frame left old old_input new_input old_out new_out
 stretch_ended frame old old_input old_out course a read input out left b new_input new_out so_far h =
     let r = reached frame old old_input old_out course a read input out h.first so_far h.front in
     record {
@@ -120,14 +122,14 @@ stretch_ended frame old old_input old_out course a read input out left b new_inp
       begun = r.begun;
       blocks = r.blocks ++ h.blocks;
       last = h.last;
-      turns = turns_joined frame r.blocks h.blocks r.first h.first h.last r.turns h.turns;
+      turns = turns_joined frame r.blocks h.blocks r.first h.first h.last r.turns (h.turns frame);
       ends = ended r.blocks h.blocks course.left h.last left.end new_input new_out r.count h.ends;
-      leads = subst (λ (l : List ℕ). IsLedFrom frame l left) (sym h.read_is) h.leads;
+      leads = subst (λ (g : Grammar). IsLedFrom (in_grammar g frame) h.last.read left) (sym h.grammar_is) (subst (λ (l : List ℕ). IsLedFrom (in_grammar course.grammar frame) l left) (sym h.read_is) h.leads);
     }
 
 -- a stretch behind which the text grows
 pub stretch_grew : (frame : Frame) (old : Arrival) (old_input old_out : Trace) (course : Course) (a : Arrival) (read : List ℕ) (input out : Trace) (next : Course) (fresh : Vec ℕ Global) (b : Arrival) (new_input new_out : Trace) (longer : List ℕ)
-    → IsRunSoFar frame old old_input old_out course a read input out → IsStretched frame course read (Grows next fresh) a b input new_input out new_out → longer ≡ read ++ fresh.items
+    → IsRunSoFar frame old old_input old_out course a read input out → IsStretched (in_grammar course.grammar frame) course read (Grows next fresh) a b input new_input out new_out → longer ≡ read ++ fresh.items
     → IsShownSoFar frame old old_input old_out next b longer new_input new_out
 stretch_grew frame old old_input old_out course a read input out next fresh b new_input new_out longer so_far h is =
     let r = reached frame old old_input old_out course a read input out h.first so_far h.front in
@@ -136,7 +138,7 @@ stretch_grew frame old old_input old_out course a read input out next fresh b ne
       begun = r.begun;
       blocks = r.blocks ++ h.blocks;
       last = h.last;
-      turns = turns_joined frame r.blocks h.blocks r.first h.first h.last r.turns h.turns;
+      turns = turns_joined frame r.blocks h.blocks r.first h.first h.last r.turns (h.turns frame);
       fresh = fresh.items;
       left = h.ends.1;
       read_is = is ∙ ap (λ (l : List ℕ). l ++ fresh.items) (sym h.read_is);
@@ -166,7 +168,7 @@ broken_behind frame old old_input old_out course a read input out e new_input ne
 
 -- a stretch that a fault broke off
 pub stretch_broken : (frame : Frame) (old : Arrival) (old_input old_out : Trace) (course : Course) (a : Arrival) (read : List ℕ) (input out : Trace) (e : Error) (new_input new_out : Trace)
-    → IsRunSoFar frame old old_input old_out course a read input out → IsStretchBroken frame course read e a input new_input out new_out → IsBrokenGrowing frame e old old_input new_input old_out new_out
+    → IsRunSoFar frame old old_input old_out course a read input out → IsStretchBroken (in_grammar course.grammar frame) course read e a input new_input out new_out → IsBrokenGrowing frame e old old_input new_input old_out new_out
 stretch_broken frame old old_input old_out course a read input out e new_input new_out so_far (inl h) =
     let r = reached frame old old_input old_out course a read input out h.first so_far h.front in
     inl (record {
@@ -174,7 +176,7 @@ stretch_broken frame old old_input old_out course a read input out e new_input n
       begun = r.begun;
       blocks = r.blocks ++ h.blocks;
       last = h.last;
-      turns = turns_joined frame r.blocks h.blocks r.first h.first h.last r.turns h.turns;
+      turns = turns_joined frame r.blocks h.blocks r.first h.first h.last r.turns (h.turns frame);
       fault = h.fault;
     })
 stretch_broken frame old old_input old_out course a read input out e new_input new_out (inl h) (inr none) =

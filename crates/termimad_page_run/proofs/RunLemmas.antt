@@ -26,14 +26,14 @@ use Rattle.markdown_reader.specs.NumbersIn.{link_marks_said}
 use Rattle.markdown_reader.specs.declared.markdown.Markdown.{Markdown as Read}
 use Rattle.mad_plain.specs.Runs.{StyledChar}
 use Rattle.mad_plain_page.specs.PlainTexts.{lines_shown}
-use Rattle.mad_outline.specs.Sources.{TextSaid, links_of, plain_said, rows_said}
+use Rattle.mad_outline.specs.Sources.{TextSaid, laid_at, links_of, plain_said, rows_said}
 use Rattle.mad_pager.proofs.PagerOrder.{pasted_view_order, step_order, view_settled_order}
 use Rattle.mad_pager.specs.Pagers.{View, begun, pasted_in, IsOpened, IsOrderlyView, IsViewShown}
 use Rattle.mad_pager.specs.declared.pager.Pager.{Pager}
 use Rattle.mad_pager.specs.declared.session.End.{End}
 use Rattle.mad_pager.specs.declared.session.End.TheVariants.{Quits}
 use Rattle.mad_term.specs.declared.errors.Error.TheVariants.{Memory}
-use Rattle.termimad_page_run.specs.Leavings.{led_to, IsFollowing}
+use Rattle.termimad_page_run.specs.Leavings.{cut_told, led_to, IsFollowing}
 use Rattle.termimad_page_run.specs.declared.leaving.Leaving.{Leaving}
 use Rattle.termimad_page_run.specs.Blocks.{IsBlockDone, IsEndedIn, IsHeardStep, IsSession}
 use Rattle.termimad_page_run.specs.Runs.{AreTurns, EndsAtInput, IsBrokenOff, IsBrokenRun, IsFaultyTurn, IsLastTurn, IsPastLast, IsPagedTo, IsTurn, IsTurned, Moment, block_room, moment, name_row, printed_text, row_char, said_in, markdown_says_links, sheet_said, shown_text}
@@ -152,18 +152,18 @@ links_read read text links marks =
 
 -- what Markdown says that was read, with what is put into its page with each of its sections
 pub markdown_said : (grammar : Grammar) (marks : PageMarks) (text : List ℕ) (puts : List Put) (page said : List SectionContent) (links : TextLinks) → grammar ≡ Markdown → said ≡ markdown_sections text → page ≡ said → puts ≡ map (put_with marks) page
-    → links ≡ markdown_says_links text → record { page = said; shown = λ width. grouped puts said; drawn = None; links = Some links } ≡ said_in grammar marks text
+    → links ≡ markdown_says_links text → record { page = said; shown = λ width. laid_at width (grouped puts said); drawn = None; links = Some links } ≡ said_in grammar marks text
 markdown_said grammar marks text puts page said links is e same put f =
     let groups : grouped puts said ≡ map (dressed marks) said = page_grouped marks puts said (put ∙ ap (map (put_with marks)) same) in
-    ap (λ (g : List (List SectionContent)). let s : TextSaid = record { page = said; shown = λ width. g; drawn = None; links = Some links } in s) groups
-    ∙ (ap (λ (l : List SectionContent). let s : TextSaid = record { page = l; shown = λ width. map (dressed marks) l; drawn = None; links = Some links } in s) e
-    ∙ (ap (λ (l : TextLinks). let s : TextSaid = record { page = markdown_sections text; shown = λ width. map (dressed marks) (markdown_sections text); drawn = None; links = Some l } in s) f ∙ ap (λ (g : Grammar). said_in g marks text) (sym is)))
+    ap (λ (g : List (List SectionContent)). let s : TextSaid = record { page = said; shown = λ width. laid_at width g; drawn = None; links = Some links } in s) groups
+    ∙ (ap (λ (l : List SectionContent). let s : TextSaid = record { page = l; shown = λ width. laid_at width (map (dressed marks) l); drawn = None; links = Some links } in s) e
+    ∙ (ap (λ (l : TextLinks). let s : TextSaid = record { page = markdown_sections text; shown = λ width. laid_at width (map (dressed marks) (markdown_sections text)); drawn = None; links = Some l } in s) f ∙ ap (λ (g : Grammar). said_in g marks text) (sym is)))
 
 -- what a text says that isn't Markdown and was read
-pub plain_text_said : (grammar : Grammar) (marks : PageMarks) (text : List ℕ) (lines : List (List StyledChar)) (is_styled shown : Bool) → grammar ≡ Plain is_styled → shown ≡ is_styled → lines ≡ lines_shown text
-    → rows_said shown lines ≡ said_in grammar marks text
-plain_text_said grammar marks text lines is_styled shown is styled read =
-    ap (λ (b : Bool). rows_said b lines) styled ∙ (ap (rows_said is_styled) read ∙ ap (λ (g : Grammar). said_in g marks text) (sym is))
+pub plain_text_said : (grammar : Grammar) (marks : PageMarks) (text : List ℕ) (lines : List (List StyledChar)) (is_styled shown : Bool) (cut how : Option ℕ) → grammar ≡ Plain is_styled cut → shown ≡ is_styled → how ≡ cut → lines ≡ lines_shown text
+    → rows_said how shown lines ≡ said_in grammar marks text
+plain_text_said grammar marks text lines is_styled shown cut how is styled way read =
+    ap (λ (o : Option ℕ). rows_said o shown lines) way ∙ (ap (λ (b : Bool). rows_said cut b lines) styled ∙ (ap (rows_said cut is_styled) read ∙ ap (λ (g : Grammar). said_in g marks text) (sym is)))
 
 -- what was opened, along what is equal
 pub opened_along : (sheet : Sheet) (v : View) (name : List ℕ) (text : TextSaid) → name ≡ name_row sheet.name.now → text ≡ sheet_said sheet → IsOpened sheet.skin.now name text sheet.columns sheet.rows sheet.files v
@@ -200,12 +200,13 @@ sheet_broken sheet v w e old_input new_input old_out new_out start is h =
 
 -- its end, and the address of the link that is to be followed
 pub sheet_left : (sheet : Sheet) (v w : View) (end : End) (left : Leaving) (text : TextSaid) (old_input new_input old_out new_out : Trace) → IsOpened sheet.skin.now (name_row sheet.name.now) (sheet_said sheet) sheet.columns sheet.rows sheet.files v
-    → w ≡ begun sheet.start v → IsTurned w end old_input new_input old_out new_out → left.end ≡ end → text ≡ sheet_said sheet → option_map string_bytes left.address ≡ led_to text end → IsPagedTo sheet left old_input new_input old_out new_out
-sheet_left sheet v w end left text old_input new_input old_out new_out start is h same said leads = record {
+    → w ≡ begun sheet.start v → IsTurned w end old_input new_input old_out new_out → left.end ≡ end → text ≡ sheet_said sheet → option_map string_bytes left.address ≡ led_to text end → left.cut ≡ cut_told end sheet.grammar → IsPagedTo sheet left old_input new_input old_out new_out
+sheet_left sheet v w end left text old_input new_input old_out new_out start is h same said leads cut = record {
   paged = record {
     start = v;
     is = start;
     turned = subst (λ (e : End). IsTurned (begun sheet.start v) e old_input new_input old_out new_out) (sym same) (subst (λ (x : View). IsTurned x end old_input new_input old_out new_out) is h);
   };
   address = leads ∙ ap (λ (t : TextSaid). led_to t end) said ∙ ap (led_to (sheet_said sheet)) (sym same);
+  cut = cut ∙ ap (λ (e : End). cut_told e sheet.grammar) (sym same);
 }

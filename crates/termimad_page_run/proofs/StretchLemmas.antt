@@ -1,8 +1,9 @@
 -- Stretches of a run over a text that comes: the sessions stay orderly, and turns follow on each other.
-use Rattle.std.proofs.Common.{◌≡◌, ℕ, ◌+◌, Bool, true, false, List, [], ◌∷◌, ◌++◌, length, Option, Some, None, option_map, Result, Err, refl, ap, sym, ◌∙◌, subst}
+use Rattle.std.proofs.Common.{◌≡◌, ℕ, zero, suc, ◌+◌, Bool, true, false, List, [], ◌∷◌, ◌++◌, length, ◌-◌, ◌||◌, nat_lt, arith, Option, Some, None, option_map, Result, Err, refl, ap, sym, ◌∙◌, subst}
 use Rattle.std.specs.Prelude.{string_bytes, MatchResult}
 use Rattle.std.specs.Result.{IsErrAnd}
 use Rattle.std.proofs.lemmas.Result.{err_from_is_err_and}
+use Rattle.std.proofs.lemmas.Bool.Decides.{nat_tests}
 use Rattle.mad_input.specs.declared.input.TerminalInput.{TerminalInput}
 use Rattle.mad_outline.specs.Sources.{Content, TextSaid, a_text, content_page}
 use Rattle.mad_page.specs.declared.page.Page.{Page}
@@ -20,20 +21,23 @@ use Rattle.mad_term.specs.Trace.{Trace}
 use Rattle.mad_term.specs.declared.events.Event.TheVariants.{Key}
 use Rattle.mad_term.specs.declared.keys.KeyEvent.{KeyEvent}
 use Rattle.termimad_page_run.specs.Comings.{Arrival, AreShown, IsMore}
-use Rattle.termimad_page_run.specs.Growing.{GrowingMoment, AreGrowingTurns, IsDoneAgain, IsFollowedUp, IsGrowingTurn, IsLedFrom, IsRegrown, IsResumed, grows, most_of, wish_of, wish_over}
+use Rattle.termimad_page_run.specs.Growing.{GrowingMoment, AreGrowingTurns, IsDoneAgain, IsFollowedUp, IsGrowingTurn, IsLedFrom, IsRegrown, IsResumed, goes_anew, grows, in_grammar, most_of, wish_of, wish_over}
 use Rattle.mad_pager.specs.declared.session.End.{End}
-use Rattle.termimad_page_run.specs.Leavings.{led_to}
+use Rattle.termimad_page_run.specs.Leavings.{cut_told, led_to}
 use Rattle.termimad_page_run.specs.declared.leaving.Leaving.{Leaving}
 use Rattle.termimad_page_run.specs.Runs.{Moment, IsTurn, moment, said_in}
 use Rattle.termimad_page_run.specs.Stretches.{growing, HasCome, IsCourseOf, IsGrowing, IsGrowthFound, IsKeptOrderly, IsLeftOff, IsReadOnBehind, IsStretchFront, IsStretchStart, IsStretchStartOf, IsStretched, IsTurnMade, SaysText}
-use Rattle.termimad_page_run.specs.Wishes.{follows_after, key_again, wish_in, wish_left}
+use Rattle.termimad_page_run.specs.Wishes.{changes, columns_moved, cut_after, follows_after, grammar_after, key_again, shows_anew, wish_in, wish_left}
 use Rattle.termimad_page_run.specs.declared.growing.Frame.{Frame}
 use Rattle.termimad_page_run.specs.declared.stretches.Course.{Course}
 use Rattle.termimad_page_run.specs.declared.stretches.Going.{Going}
 use Rattle.termimad_page_run.specs.declared.stretches.Stretch.{Stretch}
 use Rattle.termimad_page_run.specs.declared.stretches.Stretch.TheVariants.{Grows}
+use Rattle.termimad_page_run.specs.declared.program.Grammar.{Grammar}
+use Rattle.termimad_page_run.specs.declared.program.Grammar.TheVariants.{Lines, Markdown, Plain}
 use Rattle.termimad_page_run.specs.declared.wishes.Wish.{Wish}
-use Rattle.termimad_page_run.specs.declared.wishes.Wish.TheVariants.{Rows}
+use Rattle.termimad_page_run.specs.declared.wishes.Wish.TheVariants.{Rows, Nothing, Search, Left, Right, Cut}
+use Rattle.termimad_page_run.specs.declared.wishes.Wish.TheVariants as wish
 use Rattle.termimad_page_run.proofs.RunLemmas.{turn_order}
 
 -- ---- orderly sessions
@@ -121,11 +125,34 @@ pub asked_turn : (block : List ℕ) (old : Moment) (pager : Pager) (terminal : T
     → IsTurn block old (moment pager terminal asks input out) → IsTurn block old (moment pager terminal told input out)
 asked_turn block old pager terminal asks told input out is turn = subst (λ (a : Bool). IsTurn block old (moment pager terminal a input out)) (sym is) turn
 
+either : (a b : Bool) → (a || b) ≡ false → (a ≡ false) × (b ≡ false)
+either true b h = absurd (cc)
+either false b h = (refl, h)
+
+-- where lines aren't shown in another way, they are moved as before
+cut_stays : (wish : Wish) (cut : Option ℕ) → changes wish cut ≡ false → cut_after wish cut ≡ cut
+cut_stays Cut cut h = absurd (cc)
+cut_stays (Right columns) cut h = absurd (cc)
+cut_stays (Left columns) None h = refl
+cut_stays (Left columns) (Some zero) h = ap (λ (n : ℕ). Some n) (let none : zero - columns ≡ zero = omega arith in none)
+cut_stays (Left columns) (Some (suc moved)) h = let some : nat_lt 0 (suc moved) ≡ true = grind (arith, nat_tests) in let e : true ≡ false = sym some ∙ h in absurd (cc)
+cut_stays Rows cut h = refl
+cut_stays Nothing cut h = refl
+cut_stays Search cut h = refl
+cut_stays wish.End cut h = refl
+cut_stays wish.Follow cut h = refl
+
+-- where a text isn't shown in another way, it is read as before
+grammar_stays : (wish : Wish) (grammar : Grammar) → shows_anew wish grammar ≡ false → grammar_after wish grammar ≡ grammar
+grammar_stays wish Lines h = refl
+grammar_stays wish Markdown h = refl
+grammar_stays wish (Plain is_styled cut) h = ap (λ (o : Option ℕ). Plain is_styled o) (cut_stays wish cut h)
+
 -- what is done behind a turn whose text doesn't grow
 not_grown : (frame : Frame) (over : Option Leaf) (wish : Wish) (followed : Bool) (old : GrowingMoment) (v : View) (new : GrowingMoment) (grown : Bool)
     → new.follows ≡ follows_after (wish_over over wish) followed
     → IsReadOnBehind over (wish_over over wish) new.follows v (length old.read + length old.fresh) old.arrival old.fresh grown new.arrival new.fresh
-    → grown ≡ false → new.read ≡ old.read → IsDoneAgain (key_again (wish_over over wish) new.follows) v new.now.view → IsFollowedUp frame (wish_over over wish) over old v new
+    → (shows_anew (wish_over over wish) old.grammar || grown) ≡ false → new.read ≡ old.read → IsDoneAgain (key_again (wish_over over wish) new.follows) v new.now.view → IsFollowedUp frame (wish_over over wish) over old v new
 not_grown frame None wish followed old v new grown follows h not read again = record {
   longer = new.fresh;
   more = h.more;
@@ -133,7 +160,7 @@ not_grown frame None wish followed old v new grown follows h not read again = re
   shown = h.shown;
   mid = v;
   same = λ _. (refl, read, refl);
-  grown = λ does. let e : true ≡ false = sym does ∙ (sym h.grown_is ∙ not) in absurd (cc);
+  grown = λ does. let e : true ≡ false = sym does ∙ (ap (λ (b : Bool). shows_anew wish old.grammar || b) (sym h.grown_is) ∙ not) in absurd (cc);
   again = again;
 }
 not_grown frame (Some over) wish followed old v new grown follows h not read again = record {
@@ -147,11 +174,12 @@ not_grown frame (Some over) wish followed old v new grown follows h not read aga
 pub turn_on : (old : GrowingMoment) (mid : Moment) (block : List ℕ) (new : GrowingMoment) (wish : Wish) (grown : Bool)
     → IsTurn block old.now mid → wish ≡ wish_of block old.now.view mid.view → new.follows ≡ follows_after wish old.follows
     → IsReadOnBehind mid.view.over wish new.follows mid.view (length old.read + length old.fresh) old.arrival old.fresh grown new.arrival new.fresh
-    → grown ≡ false → new.read ≡ old.read → IsDoneAgain (key_again wish new.follows) mid.view new.now.view → new.now ≡ record mid { view = new.now.view }
+    → (shows_anew wish old.grammar || grown) ≡ false → new.read ≡ old.read → new.grammar ≡ old.grammar → IsDoneAgain (key_again wish new.follows) mid.view new.now.view → new.now ≡ record mid { view = new.now.view }
     → IsTurnMade old new
-turn_on old mid block new wish grown turn is follows behind not read again rest =
+turn_on old mid block new wish grown turn is follows behind not read same again rest =
     let wished : Wish = wish_of block old.now.view mid.view in
     let followed : new.follows ≡ follows_after wished old.follows = follows ∙ ap (λ (w : Wish). follows_after w old.follows) is in
+    let still : (shows_anew wished old.grammar || grown) ≡ false = subst (λ (w : Wish). (shows_anew w old.grammar || grown) ≡ false) is not in
     let done : IsDoneAgain (key_again wished new.follows) mid.view new.now.view = subst (λ (w : Wish). IsDoneAgain (key_again w new.follows) mid.view new.now.view) is again in
     let up : IsReadOnBehind mid.view.over wished new.follows mid.view (length old.read + length old.fresh) old.arrival old.fresh grown new.arrival new.fresh =
     subst (λ (w : Wish). IsReadOnBehind mid.view.over w new.follows mid.view (length old.read + length old.fresh) old.arrival old.fresh grown new.arrival new.fresh) is behind in (
@@ -161,42 +189,55 @@ turn_on old mid block new wish grown turn is follows behind not read again rest 
         mid = mid;
         turn = turn;
         follows = followed;
-        behind = not_grown frame mid.view.over (wish_left (wish_in block old.now.view.text.state.is_typing) mid.view.text.state) old.follows old mid.view new grown followed up not read done;
+        grammar = same ∙ sym (grammar_stays wished old.grammar (either (shows_anew wished old.grammar) grown still).0);
+        behind = not_grown frame mid.view.over (wish_left (wish_in block old.now.view.text.state.is_typing (columns_moved old.now.view.text.state.page)) mid.view.text.state) old.follows old mid.view new grown followed up still read done;
         rest = rest;
       },
     )
 
--- where the text grows no page is over it
-uncovered : (over : Option Leaf) (wish : Wish) (follows : Bool) (v : View) (n : ℕ) (a : Arrival) (fresh : List ℕ) (grown : Bool) (b : Arrival) (longer : List ℕ)
-    → IsReadOnBehind over wish follows v n a fresh grown b longer → grown ≡ true → (over ≡ None) × IsGrowing (most_of wish follows v a.is_whole n) a fresh grown b longer
-uncovered None wish follows v n a fresh grown b longer h is = (refl, h)
-uncovered (Some over) wish follows v n a fresh grown b longer h is = let e : true ≡ false = sym is ∙ h.grown_is in absurd (cc)
+-- a text whose rows alone are wanted isn't shown in another way
+rows_stay : (grammar : Grammar) → shows_anew Rows grammar ≡ false
+rows_stay Lines = refl
+rows_stay Markdown = refl
+rows_stay (Plain is_styled cut) = refl
+
+-- where the text grows, or is shown in another way, no page is over it
+uncovered : (over : Option Leaf) (wish : Wish) (grammar : Grammar) (follows : Bool) (v : View) (n : ℕ) (a : Arrival) (fresh : List ℕ) (grown : Bool) (b : Arrival) (longer : List ℕ)
+    → IsReadOnBehind over (wish_over over wish) follows v n a fresh grown b longer → (shows_anew (wish_over over wish) grammar || grown) ≡ true
+    → (over ≡ None) × IsGrowing (most_of (wish_over over wish) follows v a.is_whole n) a fresh grown b longer
+uncovered None wish grammar follows v n a fresh grown b longer h is = (refl, h)
+uncovered (Some over) wish grammar follows v n a fresh grown b longer h is =
+    let e : true ≡ false = sym is ∙ (ap (λ (s : Bool). s || grown) (rows_stay grammar) ∙ h.grown_is) in absurd (cc)
 
 -- a turn whose text grows
 pub growth_found : (old new : GrowingMoment) (block : List ℕ) (wish : Wish) (again : Option KeyEvent) (grown : Bool)
     → IsTurn block old.now new.now → wish ≡ wish_of block old.now.view new.now.view → new.follows ≡ follows_after wish old.follows
     → IsReadOnBehind new.now.view.over wish new.follows new.now.view (length old.read + length old.fresh) old.arrival old.fresh grown new.arrival new.fresh
-    → grown ≡ true → again ≡ key_again wish new.follows → IsGrowthFound again old new
-growth_found old new block wish again grown turn is follows behind does key =
+    → (shows_anew wish old.grammar || grown) ≡ true → again ≡ key_again wish new.follows → new.grammar ≡ grammar_after wish old.grammar → IsGrowthFound again old new
+growth_found old new block wish again grown turn is follows behind does key so =
     let wished : Wish = wish_of block old.now.view new.now.view in
-    let up = uncovered new.now.view.over wish new.follows new.now.view (length old.read + length old.fresh) old.arrival old.fresh grown new.arrival new.fresh behind does in
+    let left : Wish = wish_left (wish_in block old.now.view.text.state.is_typing (columns_moved old.now.view.text.state.page)) new.now.view.text.state in
+    let up = uncovered new.now.view.over left old.grammar new.follows new.now.view (length old.read + length old.fresh) old.arrival old.fresh grown new.arrival new.fresh
+    (subst (λ (w : Wish). IsReadOnBehind new.now.view.over w new.follows new.now.view (length old.read + length old.fresh) old.arrival old.fresh grown new.arrival new.fresh) is behind)
+    (subst (λ (w : Wish). (shows_anew w old.grammar || grown) ≡ true) is does) in
     record {
       block = block;
       turn = turn;
       over = up.0;
       follows = follows ∙ ap (λ (w : Wish). follows_after w old.follows) is;
-      more = subst (λ (w : Wish). IsMore (most_of w new.follows new.now.view old.arrival.is_whole (length old.read + length old.fresh)) old.arrival old.fresh new.arrival new.fresh) is up.1.more;
+      grammar = so ∙ ap (λ (w : Wish). grammar_after w old.grammar) is;
+      more = up.1.more;
       count = up.1.count;
       shown = up.1.shown;
-      grown = sym up.1.grown_is ∙ does;
+      grown = ap (λ (b : Bool). shows_anew wished old.grammar || b) (sym up.1.grown_is) ∙ subst (λ (w : Wish). (shows_anew w old.grammar || grown) ≡ true) is does;
       again_is = key ∙ ap (λ (w : Wish). key_again w new.follows) is;
     }
 
 -- a stretch behind which the text grows
-pub stretch_left : (frame : Frame) (course : Course) (read : List ℕ) (stretch : Stretch) (old new : Arrival) (old_input new_input old_out new_out : Trace) (first : GrowingMoment) (blocks : List (List ℕ)) (last : GrowingMoment) (p : Pager) (going : Going) (again : Option KeyEvent) (left : ℕ)
-    → IsStretchFront frame course old read old_input old_out first → AreGrowingTurns frame blocks first last → last.read ≡ read → IsGrowthFound again last (growing p going new read new_input new_out)
-    → IsCourseOf p going again left stretch → length blocks + (1 + left) ≡ course.left → IsStretched frame course read stretch old new old_input new_input old_out new_out
-stretch_left frame course read stretch old new old_input new_input old_out new_out first blocks last p going again left front turns same growth (kept, kept_is, is) count =
+pub stretch_left : (frame : Frame) (course : Course) (read : List ℕ) (stretch : Stretch) (old new : Arrival) (old_input new_input old_out new_out : Trace) (first : GrowingMoment) (blocks : List (List ℕ)) (last : GrowingMoment) (p : Pager) (going : Going) (again : Option KeyEvent) (grammar : Grammar) (left : ℕ)
+    → IsStretchFront frame course old read old_input old_out first → ((any : Frame) → AreGrowingTurns any blocks first last) → last.read ≡ read → last.grammar ≡ frame.grammar → IsGrowthFound again last (growing grammar p going new read new_input new_out)
+    → IsCourseOf p going again grammar left stretch → length blocks + (1 + left) ≡ course.left → IsStretched frame course read stretch old new old_input new_input old_out new_out
+stretch_left frame course read stretch old new old_input new_input old_out new_out first blocks last p going again grammar left front turns same read_so growth (kept, kept_is, is) count =
     subst (λ (s : Stretch). IsStretched frame course read s old new old_input new_input old_out new_out) (sym is) (record {
       first = first;
       front = front;
@@ -204,12 +245,13 @@ stretch_left frame course read stretch old new old_input new_input old_out new_o
       last = last;
       turns = turns;
       read_is = same;
+      grammar_is = read_so;
       ends = (
         count,
         record {
-          found = growing p going new read new_input new_out;
+          found = growing grammar p going new read new_input new_out;
           growth = growth;
-          orderly = turn_order growth.block last.now (growing p going new read new_input new_out).now growth.turn;
+          orderly = turn_order growth.block last.now (growing grammar p going new read new_input new_out).now growth.turn;
           kept = kept;
           kept_is = kept_is;
           course_is = refl;
@@ -251,7 +293,7 @@ along_moment v s t a b i j o p e f g h =
 
 -- where a turn's text grows the next stretch begins behind it
 pub growth_joined : (frame : Frame) (last : GrowingMoment) (course : Course) (fresh : List ℕ) (a : Arrival) (read : List ℕ) (input out : Trace) (first : GrowingMoment)
-    → (left : IsLeftOff last course fresh a input out) → read ≡ last.read ++ fresh → IsStretchFront frame course a read input out first → IsGrowingTurn frame left.growth.block last first
+    → (left : IsLeftOff last course fresh a input out) → read ≡ last.read ++ fresh → IsStretchFront (in_grammar course.grammar frame) course a read input out first → IsGrowingTurn frame left.growth.block last first
 growth_joined frame last course fresh a read input out first left longer front =
     let found = left.found in
     let growth = left.growth in
@@ -259,22 +301,24 @@ growth_joined frame last course fresh a read input out first left longer front =
     let follows : first.follows ≡ found.follows = front.follows ∙ ap (λ (c : Course). c.follows) left.course_is in
     let came : first.arrival ≡ found.arrival = front.arrival ∙ left.arrival in
     let whole : read ≡ last.read ++ found.fresh = longer ∙ ap (λ (l : List ℕ). last.read ++ l) left.fresh_is in
-    let on = regrown course.kept left.kept course.again frame a read (kept_from found.now.view.text.state) first.now.view (ap (λ (c : Course). c.kept) left.course_is) left.kept_is front.start in
+    let on = regrown course.kept left.kept course.again (in_grammar course.grammar frame) a read (kept_from found.now.view.text.state) first.now.view (ap (λ (c : Course). c.kept) left.course_is) left.kept_is front.start in
     let most : Bool → ℕ = λ (f : Bool). most_of wish f found.now.view last.arrival.is_whole (length last.read + length last.fresh) in
     record {
       mid = found.now;
       turn = growth.turn;
       follows = follows ∙ growth.follows;
+      grammar = front.grammar ∙ (ap (λ (c : Course). c.grammar) left.course_is ∙ growth.grammar);
       behind = subst (λ (o : Option Leaf). IsFollowedUp frame wish o last found.now.view first) (sym growth.over) (record {
         longer = found.fresh;
         more = subst (λ (b : Arrival). IsMore (most first.follows) last.arrival last.fresh b found.fresh) (sym came) (subst (λ (f : Bool). IsMore (most f) last.arrival last.fresh found.arrival found.fresh) (sym follows) growth.more);
         count = growth.count;
         shown = subst (λ (b : Arrival). AreShown b.is_whole found.fresh growth.count) (sym came) growth.shown;
         mid = on.0;
-        same = λ none. let e : true ≡ false = sym growth.grown ∙ (ap (λ (b : Arrival). grows growth.count last.arrival b) (sym came) ∙ none) in absurd (cc);
+        same = λ none. let e : true ≡ false = sym growth.grown ∙ (ap (λ (b : Arrival). goes_anew wish last.grammar growth.count last.arrival b) (sym came) ∙ none) in absurd (cc);
         grown = λ _. (
-          subst (λ (r : List ℕ). IsRegrown frame first.arrival r (kept_from found.now.view.text.state) on.0) whole
-              (subst (λ (b : Arrival). IsRegrown frame b read (kept_from found.now.view.text.state) on.0) (sym front.arrival) on.1),
+          subst (λ (g : Grammar). IsRegrown (in_grammar g frame) first.arrival (last.read ++ found.fresh) (kept_from found.now.view.text.state) on.0) (sym front.grammar)
+              (subst (λ (r : List ℕ). IsRegrown (in_grammar course.grammar frame) first.arrival r (kept_from found.now.view.text.state) on.0) whole
+              (subst (λ (b : Arrival). IsRegrown (in_grammar course.grammar frame) b read (kept_from found.now.view.text.state) on.0) (sym front.arrival) on.1)),
           front.read_is ∙ whole,
           front.fresh,
         );
@@ -286,6 +330,7 @@ growth_joined frame last course fresh a read input out first left longer front =
     }
 
 -- an end in a text that says what was read leads where its link leads
-pub led_so : (frame : Frame) (a : Arrival) (name read : List ℕ) (said : TextSaid) (left : Leaving) (end : End) → SaysText frame a name read said → left.end ≡ end → option_map string_bytes left.address ≡ led_to said end
+pub led_so : (frame : Frame) (a : Arrival) (name read : List ℕ) (said : TextSaid) (left : Leaving) (end : End) → SaysText frame a name read said → left.end ≡ end → option_map string_bytes left.address ≡ led_to said end → left.cut ≡ cut_told end frame.grammar
     → IsLedFrom frame read left
-led_so frame a name read said left end says same leads = record { is_whole = a.is_whole; said = said; says = says.says; address = leads ∙ ap (led_to said) (sym same) }
+led_so frame a name read said left end says same leads cut =
+    record { is_whole = a.is_whole; said = said; says = says.says; address = leads ∙ ap (led_to said) (sym same); cut = cut ∙ ap (λ (e : End). cut_told e frame.grammar) (sym same) }

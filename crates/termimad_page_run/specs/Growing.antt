@@ -11,25 +11,31 @@ use Rattle.mad_term.specs.declared.errors.Error.{Error}
 use Rattle.mad_term.specs.declared.errors.Error.TheVariants.{Memory}
 use Rattle.mad_term.specs.declared.events.Event.TheVariants.{Key}
 use Rattle.mad_term.specs.declared.keys.KeyEvent.{KeyEvent}
-use Rattle.termimad_page_run.specs.Leavings.{led_to}
+use Rattle.termimad_page_run.specs.Leavings.{cut_told, led_to}
 use Rattle.termimad_page_run.specs.declared.leaving.Leaving.{Leaving}
 use Rattle.termimad_page_run.specs.Comings.{Arrival, AreShown, IsFrontShown, IsMore, IsMoreUpTo, name_coming, text_come}
 use Rattle.termimad_page_run.specs.Runs.{Moment, IsFaultyTurn, IsLastTurn, IsPastLast, IsTurn, name_row, said_in}
-use Rattle.termimad_page_run.specs.Wishes.{bytes_wanted, follows_after, key_again, wish_in, wish_left}
+use Rattle.termimad_page_run.specs.Wishes.{bytes_wanted, columns_moved, follows_after, grammar_after, key_again, shows_anew, wish_in, wish_left}
 use Rattle.termimad_page_run.specs.declared.growing.Frame.{Frame}
+use Rattle.termimad_page_run.specs.declared.program.Grammar.{Grammar}
 use Rattle.termimad_page_run.specs.declared.wishes.Wish.{Wish}
 use Rattle.termimad_page_run.specs.declared.wishes.Wish.TheVariants.{Rows}
 
--- What there is before a drawing: a moment of the pager, what is known of the text, the bytes of it that its rows are of, those that were read since, and
--- whether it is followed.
+-- What there is before a drawing: a moment of the pager, what is known of the text, how it is read, the bytes of it that its rows are of, those that were read
+-- since, and whether it is followed.
 pub record GrowingMoment : Type 0 where
   pub now : Moment
   pub arrival : Arrival
+  pub grammar : Grammar
   pub read : List ℕ
   pub fresh : List ℕ
   pub follows : Bool
 
 -- ---- the text grows
+
+-- the same, read so
+abbrev pub in_grammar : Grammar → Frame → Frame
+in_grammar grammar frame = record frame { grammar = grammar }
 
 -- what a text says of which these bytes were read
 pub record SaysRead (frame : Frame) (is_whole : Bool) (read : List ℕ) (said : TextSaid) : Type 0 where
@@ -74,7 +80,7 @@ wish_over None wish = wish
 
 -- what a block wants in the end
 abbrev pub wish_of : List ℕ → View → View → Wish
-wish_of block old new = wish_over new.over (wish_left (wish_in block old.text.state.is_typing) new.text.state)
+wish_of block old new = wish_over new.over (wish_left (wish_in block old.text.state.is_typing (columns_moved old.text.state.page)) new.text.state)
 
 -- how many bytes are read on at most: of a whole text some only where it is followed
 abbrev pub most_read : ℕ → Bool → Bool → ℕ
@@ -84,15 +90,20 @@ most_read wanted follows is_whole = if is_whole && not follows then 0 else wante
 abbrev pub most_of : Wish → Bool → View → Bool → ℕ → ℕ
 most_of wish follows v is_whole read = most_read (bytes_wanted wish follows v.text.state.page (min read (2 ^ 64 - 1))) follows is_whole
 
--- What is read on after a turn that left this view. Where the text grows by it, the session goes on over the longer one. Then a key is done once more.
+-- the session goes on over the text anew: it grows, or is shown in another way
+abbrev pub goes_anew : Wish → Grammar → ℕ → Arrival → Arrival → Bool
+goes_anew wish grammar count old new = shows_anew wish grammar || grows count old new
+
+-- What is read on after a turn that left this view. Where the text grows by it, the session goes on over the longer one, and where it is to be shown in another
+-- way, over that. Then a key is done once more.
 pub record IsReadBehind (frame : Frame) (wish : Wish) (old : GrowingMoment) (v : View) (new : GrowingMoment) : Type 0 where
   pub longer : List ℕ
   pub more : IsMore (most_of wish new.follows v old.arrival.is_whole (length old.read + length old.fresh)) old.arrival old.fresh new.arrival longer
   pub count : ℕ
   pub shown : AreShown new.arrival.is_whole longer count
   pub mid : View
-  pub same : grows count old.arrival new.arrival ≡ false → (mid ≡ v) × (new.read ≡ old.read) × (new.fresh ≡ longer)
-  pub grown : grows count old.arrival new.arrival ≡ true → IsRegrown frame new.arrival (old.read ++ longer) (kept_from v.text.state) mid × (new.read ≡ old.read ++ longer) × (new.fresh ≡ [])
+  pub same : goes_anew wish old.grammar count old.arrival new.arrival ≡ false → (mid ≡ v) × (new.read ≡ old.read) × (new.fresh ≡ longer)
+  pub grown : goes_anew wish old.grammar count old.arrival new.arrival ≡ true → IsRegrown (in_grammar new.grammar frame) new.arrival (old.read ++ longer) (kept_from v.text.state) mid × (new.read ≡ old.read ++ longer) × (new.fresh ≡ [])
   pub again : IsDoneAgain (key_again wish new.follows) mid new.now.view
 
 -- while a page is over the text nothing is read
@@ -112,6 +123,7 @@ pub record IsGrowingTurn (frame : Frame) (block : List ℕ) (old new : GrowingMo
   pub mid : Moment
   pub turn : IsTurn block old.now mid
   pub follows : new.follows ≡ follows_after (wish_of block old.now.view mid.view) old.follows
+  pub grammar : new.grammar ≡ grammar_after (wish_of block old.now.view mid.view) old.grammar
   pub behind : IsFollowedUp frame (wish_of block old.now.view mid.view) mid.view.over old mid.view new
   pub rest : new.now ≡ record mid { view = new.now.view }
 
@@ -140,6 +152,7 @@ pub record IsBegunGrowing (frame : Frame) (old : Arrival) (input out : Trace) (f
   pub start : IsStartGrowing frame first.arrival first.read first.now.view
   pub fresh : first.fresh ≡ []
   pub follows : first.follows ≡ false
+  pub grammar : first.grammar ≡ frame.grammar
   pub now : first.now ≡ record { view = first.now.view; terminal = quiet_input; asks = false; input = input; out = out }
 
 -- ---- the end
@@ -148,12 +161,13 @@ pub record IsBegunGrowing (frame : Frame) (old : Arrival) (input out : Trace) (f
 abbrev pub EndsGrowing : List (List ℕ) → GrowingMoment → End → Trace → Trace → Type 0
 EndsGrowing blocks last end new_input new_out = IsLastTurn last.now end new_input new_out ⊎ IsPastLast blocks last.now end new_input new_out
 
--- the address is told of the link that is to be followed, if one is, in a text that says what was read, as whole lines or all of it
+-- the address is told of the link that is to be followed, if one is, in a text that says what was read, as whole lines or all of it; and how lines were shown
 pub record IsLedFrom (frame : Frame) (read : List ℕ) (left : Leaving) : Type 0 where
   pub is_whole : Bool
   pub said : TextSaid
   pub says : SaysRead frame is_whole read said
   pub address : option_map string_bytes left.address ≡ led_to said left.end
+  pub cut : left.cut ≡ cut_told left.end frame.grammar
 
 -- A text that comes is paged. It ends so.
 pub record IsPagedGrowing (frame : Frame) (left : Leaving) (arrival : Arrival) (old_input new_input old_out new_out : Trace) : Type 0 where
@@ -163,7 +177,7 @@ pub record IsPagedGrowing (frame : Frame) (left : Leaving) (arrival : Arrival) (
   pub last : GrowingMoment
   pub turns : AreGrowingTurns frame blocks first last
   pub ends : EndsGrowing blocks last left.end new_input new_out
-  pub leads : IsLedFrom frame last.read left
+  pub leads : IsLedFrom (in_grammar last.grammar frame) last.read left
 
 -- What a fault leaves after a turn: the text or its mark failed, or there was no memory, and all that was drawn stands.
 pub record IsFaultBehind (last : GrowingMoment) (e : Error) (new_input new_out : Trace) : Type 0 where

@@ -13,14 +13,14 @@ use Rattle.markdown_reader.specs.LinkMarks.{markdown_link_marks}
 use Rattle.markdown_reader.specs.Markdown.{markdown_sections, markdown_links}
 use Rattle.mad_outline.specs.LinkLists.{TextLinks}
 use Rattle.mad_pager.specs.Pagers.{View, begun, IsOpened, IsOrderlyView, IsViewShown, IsViewUnshown, view_of}
-use Rattle.mad_outline.specs.Sources.{TextSaid, plain_said, rows_said}
+use Rattle.mad_outline.specs.Sources.{TextSaid, laid_at, plain_said, rows_said}
 use Rattle.mad_plain_page.specs.PlainTexts.{lines_shown}
 use Rattle.mad_input.specs.Hearing.{awaiting, quiet_input}
 use Rattle.mad_input.specs.declared.input.TerminalInput.{TerminalInput}
 use Rattle.mad_pager.specs.declared.pager.Pager.{Pager}
 use Rattle.mad_pager.specs.declared.session.End.{End}
 use Rattle.mad_pager.specs.declared.session.End.TheVariants.{Quits}
-use Rattle.termimad_page_run.specs.Leavings.{led_to}
+use Rattle.termimad_page_run.specs.Leavings.{cut_told, led_to}
 use Rattle.termimad_page_run.specs.declared.leaving.Leaving.{Leaving}
 use Rattle.termimad_page_run.specs.Blocks.{IsBlockDone, IsEndedIn}
 use Rattle.termimad_page_run.specs.declared.program.Grammar.{Grammar}
@@ -54,12 +54,12 @@ abbrev pub markdown_says_links : List ℕ → TextLinks
 markdown_says_links text = record { links = markdown_links text; marks = markdown_link_marks text; names = markdown_anchors text }
 
 -- what a text says: the parts of it as it is shown, or the sections of Markdown as people write it, with the rules and signs of headings, and its links;
--- or the rows of no Markdown, in their styles or without
+-- or the rows of no Markdown, in their styles or without, wrapped or cut
 abbrev pub said_in : Grammar → PageMarks → List ℕ → TextSaid
 said_in Lines marks text = plain_said (shown_text text)
 said_in Markdown marks text =
-    record { page = markdown_sections text; shown = λ width. map (dressed marks) (markdown_sections text); drawn = None; links = Some (markdown_says_links text) }
-said_in (Plain is_styled) marks text = rows_said is_styled (lines_shown text)
+    record { page = markdown_sections text; shown = λ width. laid_at width (map (dressed marks) (markdown_sections text)); drawn = None; links = Some (markdown_says_links text) }
+said_in (Plain is_styled cut) marks text = rows_said cut is_styled (lines_shown text)
 
 -- what a sheet's text says
 abbrev pub sheet_said : Sheet → TextSaid
@@ -151,10 +151,11 @@ pub record IsPaged (sheet : Sheet) (end : End) (old_input new_input old_out new_
   pub is : IsOpened sheet.skin.now (name_row sheet.name.now) (sheet_said sheet) sheet.columns sheet.rows sheet.files start
   pub turned : IsTurned (begun sheet.start start) end old_input new_input old_out new_out
 
--- The text is paged so, and the address is told of the link that is to be followed then, if one is.
+-- The text is paged so, and the address is told of the link that is to be followed then, if one is, and how lines were shown.
 pub record IsPagedTo (sheet : Sheet) (left : Leaving) (old_input new_input old_out new_out : Trace) : Type 0 where
   pub paged : IsPaged sheet left.end old_input new_input old_out new_out
   pub address : option_map string_bytes left.address ≡ led_to (sheet_said sheet) left.end
+  pub cut : left.cut ≡ cut_told left.end sheet.grammar
 
 -- The same up to a fault.
 pub record IsPagedSoFar (sheet : Sheet) (e : Error) (old_input new_input old_out new_out : Trace) : Type 0 where

@@ -13,10 +13,11 @@ use Rattle.mad_term.specs.declared.errors.Error.{Error}
 use Rattle.mad_term.specs.declared.errors.Error.TheVariants.{Memory}
 use Rattle.mad_term.specs.declared.keys.KeyEvent.{KeyEvent}
 use Rattle.termimad_page_run.specs.Comings.{Arrival, AreShown, IsFrontShown, IsMore, text_come}
-use Rattle.termimad_page_run.specs.Growing.{GrowingMoment, AreGrowingTurns, IsDoneAgain, IsFaultBehind, IsGrowingTurn, IsRegrown, IsResumed, IsLedFrom, IsStartGrowing, SaysRead, grows, most_of, name_then, wish_of}
+use Rattle.termimad_page_run.specs.Growing.{GrowingMoment, AreGrowingTurns, IsDoneAgain, IsFaultBehind, IsGrowingTurn, IsRegrown, IsResumed, IsLedFrom, IsStartGrowing, SaysRead, goes_anew, grows, most_of, name_then, wish_of}
 use Rattle.termimad_page_run.specs.Runs.{moment, IsFaultyTurn, IsLastTurn, IsTurn}
-use Rattle.termimad_page_run.specs.Wishes.{follows_after, key_again}
+use Rattle.termimad_page_run.specs.Wishes.{follows_after, grammar_after, key_again}
 use Rattle.termimad_page_run.specs.declared.growing.Frame.{Frame}
+use Rattle.termimad_page_run.specs.declared.program.Grammar.{Grammar}
 use Rattle.termimad_page_run.specs.declared.wishes.Wish.{Wish}
 use Rattle.termimad_page_run.specs.declared.stretches.Course.{Course}
 use Rattle.termimad_page_run.specs.declared.stretches.Going.{Going}
@@ -83,23 +84,26 @@ pub record IsStretchFront (frame : Frame) (course : Course) (a : Arrival) (read 
   pub read_is : first.read ≡ read
   pub fresh : first.fresh ≡ []
   pub follows : first.follows ≡ course.follows
+  pub grammar : first.grammar ≡ frame.grammar
 
 -- ---- its turns
 
 -- what there is before a drawing of this pager
-abbrev pub growing : Pager → Going → Arrival → List ℕ → Trace → Trace → GrowingMoment
-growing p g a read input out = record { now = moment p g.terminal g.asks input out; arrival = a; read = read; fresh = g.fresh.items; follows = g.follows }
+abbrev pub growing : Grammar → Pager → Going → Arrival → List ℕ → Trace → Trace → GrowingMoment
+growing grammar p g a read input out =
+    record { now = moment p g.terminal g.asks input out; arrival = a; grammar = grammar; read = read; fresh = g.fresh.items; follows = g.follows }
 
--- The text grows behind a turn, by what is fresh then. This key is to be done once more.
+-- The text grows behind a turn, by what is fresh then, or is to be shown in another way. This key is to be done once more.
 pub record IsGrowthFound (again : Option KeyEvent) (old new : GrowingMoment) : Type 0 where
   pub block : List ℕ
   pub turn : IsTurn block old.now new.now
   pub over : new.now.view.over ≡ None
   pub follows : new.follows ≡ follows_after (wish_of block old.now.view new.now.view) old.follows
+  pub grammar : new.grammar ≡ grammar_after (wish_of block old.now.view new.now.view) old.grammar
   pub more : IsMore (most_of (wish_of block old.now.view new.now.view) new.follows new.now.view old.arrival.is_whole (length old.read + length old.fresh)) old.arrival old.fresh new.arrival new.fresh
   pub count : ℕ
   pub shown : AreShown new.arrival.is_whole new.fresh count
-  pub grown : grows count old.arrival new.arrival ≡ true
+  pub grown : goes_anew (wish_of block old.now.view new.now.view) old.grammar count old.arrival new.arrival ≡ true
   pub again_is : again ≡ key_again (wish_of block old.now.view new.now.view) new.follows
 
 -- a turn whose text doesn't grow; it is one of any frame
@@ -110,7 +114,7 @@ IsTurnMade old new = IsOrderlyView new.now.view × (block : List ℕ) × ((frame
 abbrev pub IsStepped : Step → GrowingMoment → GrowingMoment → Type 0
 IsStepped Goes old new = IsTurnMade old new
 IsStepped (step.Ends end) old new = IsLastTurn old.now end new.now.input new.now.out
-IsStepped (step.Grows again) old new = IsGrowthFound again old new
+IsStepped (step.Grows again grammar) old new = IsGrowthFound again old (record new { grammar = grammar })
 
 -- what a fault leaves of it
 abbrev pub IsStepBroken : GrowingMoment → Error → Trace → Trace → Type 0
@@ -118,20 +122,20 @@ IsStepBroken last e new_input new_out = IsFaultyTurn last.now e new_input new_ou
 
 -- ---- its end
 
--- what goes on of a pager whose text grows, and what is fresh
-abbrev pub IsCourseOf : Pager → Going → Option KeyEvent → ℕ → Stretch → Type 0
-IsCourseOf p g again left stretch =
+-- what goes on of a pager whose text grows, or is shown in another way, and what is fresh
+abbrev pub IsCourseOf : Pager → Going → Option KeyEvent → Grammar → ℕ → Stretch → Type 0
+IsCourseOf p g again grammar left stretch =
     (kept : Kept) × (kept_state kept ≡ kept_from (state_of p.text))
-    × (stretch ≡ Grows (record { kept = Some kept; again = again; terminal = g.terminal; asks = g.asks; follows = g.follows; left = left }) g.fresh)
+    × (stretch ≡ Grows (record { kept = Some kept; again = again; terminal = g.terminal; asks = g.asks; follows = g.follows; grammar = grammar; left = left }) g.fresh)
 
--- The text grows behind a turn: this goes on, and these bytes are fresh.
+-- The text grows behind a turn, or is shown in another way: this goes on, and these bytes are fresh.
 pub record IsLeftOff (last : GrowingMoment) (course : Course) (fresh : List ℕ) (a : Arrival) (new_input new_out : Trace) : Type 0 where
   pub found : GrowingMoment
   pub growth : IsGrowthFound course.again last found
   pub orderly : IsOrderlyView found.now.view
   pub kept : Kept
   pub kept_is : kept_state kept ≡ kept_from found.now.view.text.state
-  pub course_is : course ≡ record { kept = Some kept; again = course.again; terminal = found.now.terminal; asks = found.now.asks; follows = found.follows; left = course.left }
+  pub course_is : course ≡ record { kept = Some kept; again = course.again; terminal = found.now.terminal; asks = found.now.asks; follows = found.follows; grammar = found.grammar; left = course.left }
   pub fresh_is : fresh ≡ found.fresh
   pub arrival : a ≡ found.arrival
   pub input : new_input ≡ found.now.input
@@ -155,14 +159,15 @@ abbrev pub LeadsFrom : Frame → List ℕ → Stretch → Type 0
 LeadsFrom frame read (Ends leaving) = IsLedFrom frame read leaving
 LeadsFrom frame read (Grows course fresh) = Unit {0}
 
--- Turns are made from the front of a stretch on, and then it ends.
+-- Turns are made from the front of a stretch on, as of any frame, and then it ends.
 pub record IsStretched (frame : Frame) (course : Course) (read : List ℕ) (stretch : Stretch) (old new : Arrival) (old_input new_input old_out new_out : Trace) : Type 0 where
   pub first : GrowingMoment
   pub front : IsStretchFront frame course old read old_input old_out first
   pub blocks : List (List ℕ)
   pub last : GrowingMoment
-  pub turns : AreGrowingTurns frame blocks first last
+  pub turns : (any : Frame) → AreGrowingTurns any blocks first last
   pub read_is : last.read ≡ read
+  pub grammar_is : last.grammar ≡ frame.grammar
   pub ends : IsStretchEnd stretch course.left blocks last new new_input new_out
   pub leads : LeadsFrom frame read stretch
 
@@ -172,7 +177,7 @@ pub record IsStretchedSoFar (frame : Frame) (course : Course) (read : List ℕ) 
   pub front : IsStretchFront frame course old read old_input old_out first
   pub blocks : List (List ℕ)
   pub last : GrowingMoment
-  pub turns : AreGrowingTurns frame blocks first last
+  pub turns : (any : Frame) → AreGrowingTurns any blocks first last
   pub fault : IsStepBroken last e new_input new_out
 
 -- there was no memory for the front of a stretch

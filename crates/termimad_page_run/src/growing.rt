@@ -4,7 +4,7 @@ ghost use Rattle.std.specs.Prelude.{◌≡◌, MatchResult};
 ghost use Rattle.mad_outline.specs.Sources.{plain_said, rows_said};
 ghost use Rattle.mad_plain_page.specs.PlainTexts.{lines_kept};
 ghost use Rattle.termimad_page_run.specs.Comings.{arrival};
-ghost use Rattle.termimad_page_run.specs.Growing.{first_part, IsBrokenGrowing, IsPagedGrowing};
+ghost use Rattle.termimad_page_run.specs.Growing.{first_part, in_grammar, IsBrokenGrowing, IsPagedGrowing};
 ghost use Rattle.termimad_page_run.specs.Stretches.{HasCome, IsKeptOrderly, IsStretchBroken, IsStretched, SaysText};
 
 use crate::coming::{Coming, front_shown, name_coming, read_more};
@@ -50,6 +50,9 @@ pub struct Frame<'s> {
 /// least. The key for the end, and a search that finds nothing, read as many again, and 4 MiB at least; `F` goes to the end, and on to it with each answer
 /// of the terminal, up to the next key. The row on top stays there. Behind the name is said that more comes.
 ///
+/// Where the text isn't Markdown, `S` cuts its lines instead of wrapping them, and wraps them again. Left and Right move lines by half of the screen's columns,
+/// or by the number that was typed before, and cut them.
+///
 /// # Errors
 ///
 /// The first fault of a device or a source, or out of memory. What went out by then is whole pictures, unless the output failed.
@@ -68,9 +71,10 @@ pub fn run_growing<T: Source, F: Source, I: Source, O: Out>(
 {
     let mut read = Vec::new(alloc);
     read_more(coming, first_part(frame.start), &mut read)?;
-    let mut course = Course::new();
+    let mut course = Course::new(frame.grammar);
     'stretches: loop {
-        let stretch = show_read(alloc, coming, frame, read.as_slice(), course, input, out)?;
+        let shown = in_grammar(frame, course.grammar);
+        let stretch = show_read(alloc, coming, &shown, read.as_slice(), course, input, out)?;
         match stretch {
             Stretch::Ends(left) => return Ok(left),
             Stretch::Grows(next, fresh) => {
@@ -78,6 +82,21 @@ pub fn run_growing<T: Source, F: Source, I: Source, O: Out>(
                 course = next;
             }
         }
+    }
+}
+
+// The same, read so.
+fn in_grammar<'s>(frame: &Frame<'s>, grammar: Grammar) -> Frame<'s>
+    ensures { result ≡ in_grammar grammar frame.now }
+{
+    Frame {
+        name: frame.name,
+        grammar,
+        skin: frame.skin,
+        columns: frame.columns,
+        rows: frame.rows,
+        start: frame.start,
+        files: frame.files,
     }
 }
 
@@ -146,8 +165,8 @@ fn show_text<T: Source, F: Source, I: Source, O: Out>(
             let paged = PagedText::Markdown(&markdown, &dressings, text);
             page_stretch(alloc, coming, scene, paged, course, input, out)
         }
-        Grammar::Plain(is_styled) => {
-            let plain = PlainText::read(alloc, text, is_styled)?;
+        Grammar::Plain(is_styled, cut) => {
+            let plain = PlainText::read(alloc, text, is_styled, cut)?;
             show_plain(alloc, coming, scene, &plain, course, input, out)
         }
     }
@@ -192,7 +211,7 @@ fn show_plain<T: Source, F: Source, I: Source, O: Out>(
     out: &mut O,
 ) -> Result<Stretch, Error>
     requires orderly { IsKeptOrderly course.kept }
-    requires said { SaysText scene.now.frame.now (arrival (T.seen coming.now.text) (F.seen coming.now.mark) coming.now.ended coming.now.is_whole) scene.now.name.now scene.now.read.now (rows_said text.now.is_styled (lines_kept text.now)) }
+    requires said { SaysText scene.now.frame.now (arrival (T.seen coming.now.text) (F.seen coming.now.mark) coming.now.ended coming.now.is_whole) scene.now.name.now scene.now.read.now (rows_said text.now.cut text.now.is_styled (lines_kept text.now)) }
     ensures { MatchResult result
         (λ ended. IsStretched scene.now.frame.now course scene.now.read.now ended (arrival (T.seen coming.old.text) (F.seen coming.old.mark) coming.old.ended coming.old.is_whole)
         (arrival (T.seen coming.new.text) (F.seen coming.new.mark) coming.new.ended coming.new.is_whole) (I.seen input.old) (I.seen input.new) (O.seen out.old) (O.seen out.new))

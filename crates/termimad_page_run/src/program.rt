@@ -31,8 +31,8 @@ pub enum Grammar {
     Lines,
     /// As Markdown that people write.
     Markdown,
-    /// As no Markdown: no mark is read, but colors and overstrikes are. They are shown, or not.
-    Plain(bool),
+    /// As no Markdown: no mark is read, but colors and overstrikes are. They are shown, or not. Lines are wrapped, or cut and moved by so many columns.
+    Plain(bool, Option<u32>),
 }
 
 /// What is paged, and where.
@@ -93,8 +93,8 @@ pub fn run<I: Source, O: Out>(
             let text = PagedText::Markdown(&markdown, &dressings, sheet.text);
             page(alloc, sheet, name.as_str(), text, input, out)
         }
-        Grammar::Plain(is_styled) => {
-            let plain = PlainText::read(alloc, sheet.text, is_styled)?;
+        Grammar::Plain(is_styled, cut) => {
+            let plain = PlainText::read(alloc, sheet.text, is_styled, cut)?;
             page_plain(alloc, sheet, name.as_str(), &plain, input, out)
         }
     }
@@ -127,7 +127,7 @@ fn page_plain<I: Source, O: Out>(
     out: &mut O,
 ) -> Result<Leaving, Error>
     requires name { name.now ≡ name_row sheet.now.name.now }
-    requires text { rows_said text.now.is_styled (lines_kept text.now) ≡ sheet_said sheet.now }
+    requires text { rows_said text.now.cut text.now.is_styled (lines_kept text.now) ≡ sheet_said sheet.now }
     ensures { MatchResult result (λ left. IsPagedTo sheet.now left (I.seen input.old) (I.seen input.new) (O.seen out.old) (O.seen out.new))
         (λ e. IsBrokenRun sheet.now e (I.seen input.old) (I.seen input.new) (O.seen out.old) (O.seen out.new)) }
 {
@@ -159,7 +159,7 @@ fn page<I: Source, O: Out>(
     )?;
     pager.begin_at(sheet.start);
     let end = turn_pages(alloc, &mut pager, input, out)?;
-    let left = leave(alloc, text, end)?;
+    let left = leave(alloc, text, end, sheet.grammar)?;
     Ok(left)
 }
 

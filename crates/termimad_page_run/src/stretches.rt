@@ -16,7 +16,11 @@ use crate::blocks::apply_block;
 use crate::coming::{Coming, read_more};
 use crate::growing::Frame;
 use crate::leaving::{Leaving, leave};
-use crate::wishes::{Wish, bytes_wanted, follows_after, key_again, wish_in, wish_left};
+use crate::program::Grammar;
+use crate::wishes::{
+    Wish, bytes_wanted, columns_moved, follows_after, grammar_after, key_again, shows_anew,
+    wish_in, wish_left,
+};
 use mad_growth::whole_lines;
 use mad_input::TerminalInput;
 use mad_outline::Source as Shown;
@@ -42,14 +46,16 @@ pub(crate) struct Course {
     pub asks: bool,
     /// Whether the text is followed.
     pub follows: bool,
+    /// How it is read.
+    pub grammar: Grammar,
     /// How many turns may still be made, of as many as 64 bits count.
     pub left: u64,
 }
 
 impl Course {
-    /// The start of a run.
-    pub(crate) fn new() -> Self
-        ensures { result ≡ record { kept = None; again = None; terminal = quiet_input; asks = false; follows = false; left = 2 ^ 64 - 1 } }
+    /// The start of a run over a text that is read so.
+    pub(crate) fn new(grammar: Grammar) -> Self
+        ensures { result ≡ record { kept = None; again = None; terminal = quiet_input; asks = false; follows = false; grammar = grammar; left = 2 ^ 64 - 1 } }
     {
         Course {
             kept: None,
@@ -57,6 +63,7 @@ impl Course {
             terminal: TerminalInput::new(),
             asks: false,
             follows: false,
+            grammar,
             left: u64::MAX,
         }
     }
@@ -67,7 +74,7 @@ impl Course {
 pub(crate) enum Stretch {
     /// The run ends.
     Ends(Leaving),
-    /// The text grows by these bytes.
+    /// The text grows by these bytes, or is shown in another way.
     Grows(Course, Vec<u8>),
 }
 
@@ -90,8 +97,8 @@ pub(crate) enum Step {
     Goes,
     /// The run ends.
     Ends(End),
-    /// The text grows, and then this key is done once more.
-    Grows(Option<KeyEvent>),
+    /// The text grows, and then this key is done once more, or it is shown in another way: it is read so then.
+    Grows(Option<KeyEvent>, Grammar),
 }
 
 /// What is shown in a stretch.
@@ -128,6 +135,7 @@ pub(crate) fn page_stretch<T: Source, F: Source, I: Source, O: Out>(
         terminal,
         asks,
         follows,
+        grammar: _,
         left,
     } = course;
     let mut pager = pager_on(alloc, scene, text, kept)?;
@@ -140,24 +148,30 @@ pub(crate) fn page_stretch<T: Source, F: Source, I: Source, O: Out>(
         fresh,
     };
     for turn in 0..left {
-        let step = make_turn(
-            alloc, &mut pager, &mut going, coming, scene.read, input, out,
-        )?;
+        let step = make_turn(alloc, &mut pager, &mut going, coming, scene, input, out)?;
         match step {
             Step::Goes => {}
             Step::Ends(end) => {
-                let leaving = leave(alloc, text, end)?;
+                let leaving = leave(alloc, text, end, scene.frame.grammar)?;
                 return Ok(Stretch::Ends(leaving));
             }
-            Step::Grows(key) => return Ok(grown(pager, going, key, left - turn - 1)),
+            Step::Grows(key, grammar) => {
+                return Ok(grown(pager, going, key, grammar, left - turn - 1));
+            }
         }
     }
     Ok(Stretch::Ends(Leaving::quits()))
 }
 
-// The end of a stretch where the text grows: what goes on, and what is fresh.
-fn grown(pager: Pager, going: Going, again: Option<KeyEvent>, left: u64) -> Stretch
-    ensures { IsCourseOf pager.entry going again left result }
+// The end of a stretch where the text grows, or is shown in another way: what goes on, and what is fresh.
+fn grown(
+    pager: Pager,
+    going: Going,
+    again: Option<KeyEvent>,
+    grammar: Grammar,
+    left: u64,
+) -> Stretch
+    ensures { IsCourseOf pager.entry going again grammar left result }
 {
     let Pager { text, over: _ } = pager;
     let Going {
@@ -172,28 +186,29 @@ fn grown(pager: Pager, going: Going, again: Option<KeyEvent>, left: u64) -> Stre
         terminal,
         asks,
         follows,
+        grammar,
         left,
     };
     Stretch::Grows(course, fresh)
 }
 
-// A turn, and what is read on behind it. Where the text doesn't grow, a key may be done once more.
+// A turn, and what is read on behind it. Where the text doesn't grow and isn't shown in another way, a key may be done once more.
 fn make_turn<T: Source, F: Source, I: Source, O: Out>(
     alloc: Global,
     pager: &mut Pager,
     going: &mut Going,
     coming: &mut Coming<T, F>,
-    read: &[u8],
+    scene: &Scene,
     input: &mut I,
     out: &mut O,
 ) -> Result<Step, Error>
     requires { IsOrderlyView (view_of pager.now) }
     ensures { MatchResult result
         (λ step. IsStepped step
-        (growing pager.old going.old (arrival (T.seen coming.old.text) (F.seen coming.old.mark) coming.old.ended coming.old.is_whole) read.now (I.seen input.old) (O.seen out.old))
-        (growing pager.new going.new (arrival (T.seen coming.new.text) (F.seen coming.new.mark) coming.new.ended coming.new.is_whole) read.now (I.seen input.new) (O.seen out.new)))
+        (growing scene.now.frame.now.grammar pager.old going.old (arrival (T.seen coming.old.text) (F.seen coming.old.mark) coming.old.ended coming.old.is_whole) scene.now.read.now (I.seen input.old) (O.seen out.old))
+        (growing scene.now.frame.now.grammar pager.new going.new (arrival (T.seen coming.new.text) (F.seen coming.new.mark) coming.new.ended coming.new.is_whole) scene.now.read.now (I.seen input.new) (O.seen out.new)))
         (λ e. IsStepBroken
-        (growing pager.old going.old (arrival (T.seen coming.old.text) (F.seen coming.old.mark) coming.old.ended coming.old.is_whole) read.now (I.seen input.old) (O.seen out.old))
+        (growing scene.now.frame.now.grammar pager.old going.old (arrival (T.seen coming.old.text) (F.seen coming.old.mark) coming.old.ended coming.old.is_whole) scene.now.read.now (I.seen input.old) (O.seen out.old))
         e (I.seen input.new) (O.seen out.new)) }
 {
     let (turn, wish) = turn_page(alloc, pager, &mut going.terminal, going.asks, input, out)?;
@@ -205,9 +220,10 @@ fn make_turn<T: Source, F: Source, I: Source, O: Out>(
     let again = key_again(wish, follows);
     going.asks = asks;
     going.follows = follows;
-    let grows = read_behind(pager, read, coming, wish, follows, &mut going.fresh)?;
-    if grows {
-        return Ok(Step::Grows(again));
+    let grammar = scene.frame.grammar;
+    let grows = read_behind(pager, scene.read, coming, wish, follows, &mut going.fresh)?;
+    if shows_anew(wish, grammar) || grows {
+        return Ok(Step::Grows(again, grammar_after(wish, grammar)));
     }
     do_again(alloc, pager, again)?;
     Ok(Step::Goes)
@@ -281,8 +297,9 @@ fn turn_page<I: Source, O: Out>(
         return Ok((Turn::Ends(End::Quits), Wish::Nothing));
     }
     let was_typing = pager.text.is_typing;
+    let columns = columns_moved(&pager.text.page);
     let turn = apply_block(alloc, pager, terminal, &block[..count], count < BLOCK)?;
-    let wish = wish_in(&block[..count], was_typing);
+    let wish = wish_in(&block[..count], was_typing, columns);
     Ok((turn, wish_of(wish, pager)))
 }
 

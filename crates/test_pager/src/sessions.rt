@@ -113,8 +113,8 @@ fn grammar_in(call: &str) -> (Grammar, &str) {
     let (word, rest) = call.split_once(' ').unwrap_or((call, ""));
     match word {
         "markdown" => (Grammar::Markdown, rest),
-        "colors" => (Grammar::Plain(true), rest),
-        "bare" => (Grammar::Plain(false), rest),
+        "colors" => (Grammar::Plain(true, None), rest),
+        "bare" => (Grammar::Plain(false, None), rest),
         _ => (Grammar::Lines, call),
     }
 }

@@ -30,4 +30,4 @@ pub show_plain-requires-clause-said : goal.show_plain-requires-clause-said
 show_plain-requires-clause-said g c =
     let frame = c.args.scene.now.frame.now in
     text_says frame _ _ _ _ _ c.requires.come
-    (plain_text_said frame.grammar (page_marks frame.skin.now) c.args.text.now _ c.in-Plain.is_styled _ c.in-Plain.is c.in_ok-plain-in-Plain.ensures.styled c.in_ok-plain-in-Plain.ensures.lines)
+    (plain_text_said frame.grammar (page_marks frame.skin.now) c.args.text.now _ c.in-Plain.is_styled _ c.in-Plain.cut _ c.in-Plain.is c.in_ok-plain-in-Plain.ensures.styled c.in_ok-plain-in-Plain.ensures.cut c.in_ok-plain-in-Plain.ensures.lines)

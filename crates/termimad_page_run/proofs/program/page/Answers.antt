@@ -21,4 +21,4 @@ returns-in_err-left g c =
 pub returns : goal.returns
 returns g c =
     sheet_left c.args.sheet.now _ _ c.in_ok-end.end c.in_ok-left.left _ _ _ _ _ (opened_along c.args.sheet.now _ _ _ c.requires.name c.requires.text c.in_ok-pager.ensures) c.begin_at.ensures c.in_ok-end.ensures c.in_ok-left.ensures.end c.requires.text
-    c.in_ok-left.ensures.address
+    c.in_ok-left.ensures.address c.in_ok-left.ensures.cut

@@ -25,11 +25,11 @@ returns-in_err-grows g c =
       out = refl;
     }))
 
-pub returns-then-grows : goal.returns-then-grows
-returns-then-grows g c =
+pub returns-then : goal.returns-then
+returns-then g c =
     let it = c.in_ok-turn.ensures.goes (sym c.end.ensures ∙ c.in_default.is) in
-    growth_found _ _ it.0 c.in_ok-turn.wish _ c.in_ok-grows.grows (asked_turn it.0 _ c.turn_page.new.pager c.turn_page.new.terminal (asks_size c.in_ok-turn.turn) c.asks_size-asks.result (g.I.Source.seen c.turn_page.new.input) (g.O.Out.seen c.turn_page.new.out) c.asks_size-asks.ensures it.2) it.1 c.follows_after-follows.ensures c.in_ok-grows.ensures.done c.if-grows.true
-    c.key_again-again.ensures
+    growth_found _ _ it.0 c.in_ok-turn.wish _ c.in_ok-grows.grows (asked_turn it.0 _ c.turn_page.new.pager c.turn_page.new.terminal (asks_size c.in_ok-turn.turn) c.asks_size-asks.result (g.I.Source.seen c.turn_page.new.input) (g.O.Out.seen c.turn_page.new.out) c.asks_size-asks.ensures it.2) it.1 c.follows_after-follows.ensures c.in_ok-grows.ensures.done (c.if.true)
+    c.key_again-again.ensures c.grammar_after.ensures
 
 pub returns-in_err-do_again : goal.returns-in_err-do_again
 returns-in_err-do_again g c =
@@ -47,5 +47,5 @@ pub returns : goal.returns
 returns g c =
     let it = c.in_ok-turn.ensures.goes (sym c.end.ensures ∙ c.in_default.is) in
     turn_on _ (moment c.turn_page.new.pager c.turn_page.new.terminal c.asks_size-asks.result (g.I.Source.seen c.turn_page.new.input) (g.O.Out.seen c.turn_page.new.out)) it.0 _ c.in_ok-turn.wish c.in_ok-grows.grows
-    (asked_turn it.0 _ c.turn_page.new.pager c.turn_page.new.terminal (asks_size c.in_ok-turn.turn) c.asks_size-asks.result (g.I.Source.seen c.turn_page.new.input) (g.O.Out.seen c.turn_page.new.out) c.asks_size-asks.ensures it.2) it.1 c.follows_after-follows.ensures c.in_ok-grows.ensures.done c.if-grows.false refl
+    (asked_turn it.0 _ c.turn_page.new.pager c.turn_page.new.terminal (asks_size c.in_ok-turn.turn) c.asks_size-asks.result (g.I.Source.seen c.turn_page.new.input) (g.O.Out.seen c.turn_page.new.out) c.asks_size-asks.ensures it.2) it.1 c.follows_after-follows.ensures c.in_ok-grows.ensures.done (c.if.false) refl refl
     (subst (λ (key : Option KeyEvent). IsDoneAgain key (view_of c.turn_page.new.pager) (view_of c.do_again.new.pager)) c.key_again-again.ensures c.in_ok-do_again.ensures) refl

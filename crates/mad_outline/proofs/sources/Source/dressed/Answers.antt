@@ -8,4 +8,4 @@ use Rattle.mad_outline.proofs.sources.Source.dressed.Goals as goal
 pub returns-in_ok-dressed-in-Links : goal.returns-in_ok-dressed-in-Links
 returns-in_ok-dressed-in-Links c =
     c.in_ok-dressed-in-Links.ensures ∙ ap (λ (lines : List LineContent). alone_each (plain_sections lines)) c.in_ok-text-in-Links.ensures
-    ∙ ap (λ (o : Source). source_page o c.args.width) (sym c.in-Links.is)
+    ∙ ap (λ (o : Source). (source_page o c.args.width).groups) (sym c.in-Links.is)

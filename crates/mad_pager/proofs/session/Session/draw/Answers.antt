@@ -12,6 +12,6 @@ returns g c =
     let name = c.args.self.now.name.now in
     let content = content_of c.args.self.now.source in
     took_in_turn (g.O.Out.seen c.args.out.now) (g.O.Out.seen c.draw_over.new.out) (g.O.Out.seen c.draw_link_numbers.new.out) (IsDrawnOver skin name content s) (AreNumbersDrawn skin content s) (IsDrawing skin name content s) (numbers_over skin name content s)
-    (took_in_turn (g.O.Out.seen c.args.out.now) (g.O.Out.seen c.draw_panes.new.out) (g.O.Out.seen c.draw_over.new.out) (ArePanesDrawn skin name s) (AreHitsDrawn skin (own_rows skin content s) s) (IsDrawnOver skin name content s)
+    (took_in_turn (g.O.Out.seen c.args.out.now) (g.O.Out.seen c.draw_panes.new.out) (g.O.Out.seen c.draw_over.new.out) (ArePanesDrawn skin name (own_rows skin content s) s) (AreHitsDrawn skin (own_rows skin content s) s) (IsDrawnOver skin name content s)
     (over_shown skin name content s) c.in_ok-draw_panes.ensures c.in_ok-draw_over.ensures)
     c.in_ok-draw_link_numbers.ensures
